@@ -1,0 +1,47 @@
+// The refusals of every call, with their codes.
+ghost use mathlib.Core.Path.{_≡_};
+ghost use Rattle.refusal.specs.Code.{codeOf};
+
+// One case for each code of the table "When a call says no", in its order.
+pub enum Refusal {
+    Short,
+    LongText,
+    Grammar,
+    ManyAtoms,
+    ManyBonds,
+    DeepBranch,
+    SelfBridge,
+    RepeatedBond,
+    SymbolClash,
+    OpenBridge,
+    NoMatching,
+    NotMatching,
+    Invalid,
+    ManyBridges,
+    DeepWriting,
+    LongWriting,
+}
+
+// The code of a refusal: 1 to 16.
+pub fn code(r: Refusal) -> u8
+    ensures { λ c. ⌜ c ≡ codeOf r ⌝ }
+{
+    match r {
+        Refusal::Short => 1,
+        Refusal::LongText => 2,
+        Refusal::Grammar => 3,
+        Refusal::ManyAtoms => 4,
+        Refusal::ManyBonds => 5,
+        Refusal::DeepBranch => 6,
+        Refusal::SelfBridge => 7,
+        Refusal::RepeatedBond => 8,
+        Refusal::SymbolClash => 9,
+        Refusal::OpenBridge => 10,
+        Refusal::NoMatching => 11,
+        Refusal::NotMatching => 12,
+        Refusal::Invalid => 13,
+        Refusal::ManyBridges => 14,
+        Refusal::DeepWriting => 15,
+        Refusal::LongWriting => 16,
+    }
+}
