@@ -4,9 +4,9 @@ use native.Mathlib.Omega.{arith}
 use native.Mathlib.Numerals.{add-one}
 use mathlib.Core.Path.{_≡_, refl, sym, ap, _∙_}
 use mathlib.Core.Bool.{Bool, true, false, _&&_}
-use mathlib.Core.List.{List, [], _∷_, _++_, append-assoc}
-use lib.ListN.{length, getD, set, take, drop, take-append-drop, length-set}
-use lib.Seq.{take-at, take-suc-set, drop-set-lt}
+use mathlib.Core.List.{List, [], _∷_, _++_, append-assoc, append-nil}
+use lib.ListN.{length, getD, set, take, drop, replicate, take-append-drop, length-set}
+use lib.Seq.{take-at, take-suc-set, drop-set-lt, drop-length}
 use native.Mathlib.Nat.{add-zero, add-suc, suc-add}
 use Rattle.loops.specs.Loop.{each, run, upTo}
 
@@ -131,3 +131,12 @@ module _ {A : Type 0} {f : ℕ → A} {l₀ l : List A} {n i : ℕ} (w : Edited 
 
 pub filled-part : {A : Type 0} (f : ℕ → A) (n : ℕ) (l₀ : List A) {l : List A} → l ≡ upTo f 0 n ++ drop n l₀ → take n l ≡ upTo f 0 n
 filled-part f n l₀ e = ap (take n) e ∙ fills-part f n l₀
+
+-- a list filled with one value whole
+upTo-same : {A : Type 0} (v : A) (k m : ℕ) → upTo (λ j. v) k m ≡ replicate m v
+unfolding upTo
+upTo-same v k zero = refl
+upTo-same {A = A} v k (suc m) = ap {B = List A} (λ r. v ∷ r) (upTo-same v (suc k) m)
+
+pub filled-same : {A : Type 0} (v : A) (l₀ : List A) {l : List A} → l ≡ upTo (λ j. v) 0 (length l₀) ++ drop (length l₀) l₀ → l ≡ replicate (length l₀) v
+filled-same v l₀ e = e ∙ simp (drop-length, append-nil, upTo-same)

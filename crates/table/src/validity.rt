@@ -1,0 +1,143 @@
+// Valid tables (01: sound): a test for each condition, and all of them.
+ghost use mathlib.Core.Path.{_≡_};
+ghost use Prim.Native.Nat.{_<_, _≤_};
+ghost use Rattle.loops.specs.Loop.{each};
+ghost use Rattle.table.specs.Limits.{maxAtoms, maxBonds};
+ghost use Rattle.table.specs.Valid.{selectable, selectedOk, atomOk, bondOk, sameEnds, distinct, valid, enough};
+use crate::ATOM_CELLS;
+use crate::BOND_CELLS;
+use crate::CHARGE;
+use crate::ELEMENT;
+use crate::EXTENSION;
+use crate::FIRST;
+use crate::HYDROGENS;
+use crate::ISOTOPE;
+use crate::KIND;
+use crate::MAX_ATOMS;
+use crate::MAX_BONDS;
+use crate::SECOND;
+use crate::SELECTED;
+use crate::cell;
+use ids::AtomId;
+use ids::BondId;
+
+// An element that a selected atom may have.
+pub fn selectable(e: usize) -> bool
+    ensures { λ r. ⌜ r ≡ selectable e ⌝ }
+{
+    (e == 6) | (e == 7) | (e == 8) | (e == 15) | (e == 16)
+}
+
+// Selected is 0, or 1 with an element that may be selected.
+fn selected_ok(t: &[i32], a: AtomId) -> bool
+    requires { ⌜ a .0 < maxAtoms ⌝ }
+    ensures { λ r. ⌜ r ≡ selectedOk (now (t .entry)) (a .0) ⌝ }
+{
+    let fits = cell::atom_within(t, a, SELECTED, 0, 1);
+    let plain = cell::atom_number(t, a, SELECTED) == 0;
+    fits & (plain | selectable(cell::atom_number(t, a, ELEMENT)))
+}
+
+// The row of an atom is valid.
+fn atom_ok(t: &[i32], a: AtomId) -> bool
+    requires { ⌜ a .0 < maxAtoms ⌝ }
+    ensures { λ r. ⌜ r ≡ atomOk (now (t .entry)) (a .0) ⌝ }
+{
+    cell::atom_within(t, a, ELEMENT, 0, 118)
+        & cell::atom_within(t, a, ISOTOPE, 0, 999)
+        & cell::atom_within(t, a, HYDROGENS, 0, 9)
+        & cell::atom_within(t, a, CHARGE, -9, 9)
+        & cell::atom_within(t, a, EXTENSION, 0, 9999)
+        & selected_ok(t, a)
+}
+
+// The row of a bond is valid, with n atoms.
+fn bond_ok(t: &[i32], n: usize, b: BondId) -> bool
+    requires { ⌜ b .0 < maxBonds ⌝ }
+    ensures { λ r. ⌜ r ≡ bondOk (now (t .entry)) n (b .0) ⌝ }
+{
+    let e = cell::bond_number(t, b, FIRST);
+    let f = cell::bond_number(t, b, SECOND);
+    let natural = cell::cell_natural(t, cell::bond_place(b, FIRST));
+    cell::bond_within(t, b, KIND, 0, 3) & (natural & (e < f)) & (f < n)
+}
+
+// The rows of n atoms are valid.
+fn atoms_ok(t: &[i32], n: usize) -> bool
+    requires { ⌜ n ≤ maxAtoms ⌝ }
+    ensures { λ r. ⌜ r ≡ each (atomOk (now (t .entry))) 0 n ⌝ }
+{
+    let mut i = 0;
+    while i < n {
+        if !atom_ok(t, AtomId(i)) {
+            return false;
+        }
+        i += 1;
+    }
+    true
+}
+
+// The rows of m bonds are valid, with n atoms.
+fn bonds_ok(t: &[i32], n: usize, m: usize) -> bool
+    requires { ⌜ m ≤ maxBonds ⌝ }
+    ensures { λ r. ⌜ r ≡ each (bondOk (now (t .entry)) n) 0 m ⌝ }
+{
+    let mut i = 0;
+    while i < m {
+        if !bond_ok(t, n, BondId(i)) {
+            return false;
+        }
+        i += 1;
+    }
+    true
+}
+
+// Two bonds join the same two atoms.
+fn same_ends(t: &[i32], a: BondId, b: BondId) -> bool
+    requires { ⌜ (a .0 < maxBonds) × (b .0 < maxBonds) ⌝ }
+    ensures { λ r. ⌜ r ≡ sameEnds (now (t .entry)) (a .0) (b .0) ⌝ }
+{
+    let first = cell::bond_number(t, a, FIRST) == cell::bond_number(t, b, FIRST);
+    first & (cell::bond_number(t, a, SECOND) == cell::bond_number(t, b, SECOND))
+}
+
+// No two of the first m bonds join the same two atoms.
+fn distinct(t: &[i32], m: usize) -> bool
+    requires { ⌜ m ≤ maxBonds ⌝ }
+    ensures { λ r. ⌜ r ≡ distinct (now (t .entry)) m ⌝ }
+{
+    let mut fine = true;
+    let mut i = 0;
+    'rows: while i < m {
+        let mut j = 0;
+        while j < i {
+            if same_ends(t, BondId(i), BondId(j)) {
+                fine = false;
+                break 'rows;
+            }
+            j += 1;
+        }
+        i += 1;
+    }
+    fine
+}
+
+// The tables with their counts are valid; a cell past the end counts as 0.
+pub fn valid(atoms: &[i32], bonds: &[i32], n: usize, m: usize) -> bool
+    ensures { λ r. ⌜ r ≡ valid (now (atoms .entry)) (now (bonds .entry)) n m ⌝ }
+{
+    if MAX_ATOMS < n {
+        return false;
+    }
+    if MAX_BONDS < m {
+        return false;
+    }
+    atoms_ok(atoms, n) & bonds_ok(bonds, n, m) & distinct(bonds, m)
+}
+
+// The tables are as long as they have to be.
+pub fn enough(atoms: &[i32], bonds: &[i32]) -> bool
+    ensures { λ r. ⌜ r ≡ enough (now (atoms .entry)) (now (bonds .entry)) ⌝ }
+{
+    (ATOM_CELLS * MAX_ATOMS <= atoms.len()) & (BOND_CELLS * MAX_BONDS <= bonds.len())
+}
