@@ -1,0 +1,4 @@
+pub mod Feed
+pub mod Decimal
+pub mod Bracketed
+pub mod Named
