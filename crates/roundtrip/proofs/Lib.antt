@@ -2,3 +2,5 @@ pub mod Feed
 pub mod Decimal
 pub mod Bracketed
 pub mod Named
+pub mod Cells
+pub mod Letters

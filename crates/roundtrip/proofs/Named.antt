@@ -91,7 +91,7 @@ module _ (a : ℕ) (h : listed (a ∷ []) symbols ≡ true) where
     one = λ D. record { goes = rw (t, h); does = λ i μ. rw t };
   }
 
-five : (P : ℕ → Type 0) → P 6 → P 7 → P 8 → P 15 → P 16 → (e : ℕ) → selectable e ≡ true → P e
+pub five : (P : ℕ → Type 0) → P 6 → P 7 → P 8 → P 15 → P 16 → (e : ℕ) → selectable e ≡ true → P e
 five P p6 p7 p8 p15 p16 e = go (eqb e 6) (eqb e 7) (eqb e 8) (eqb e 15) (eqb e 16) refl refl refl refl refl
   where
     go : (a b c d f : Bool) → eqb e 6 ≡ a → eqb e 7 ≡ b → eqb e 8 ≡ c → eqb e 15 ≡ d → eqb e 16 ≡ f → (a || b || c || d || f) ≡ true → P e
