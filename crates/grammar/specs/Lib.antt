@@ -1,0 +1,4 @@
+pub mod Grammar
+pub mod Machine
+pub mod Place
+pub mod Fold

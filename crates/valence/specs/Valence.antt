@@ -1,0 +1,47 @@
+-- 01, Hydrogens and kept atoms: the rules as functions of numbers
+use mathlib.Core.Bool.{Bool, true, false, _&&_}
+use mathlib.Core.List.{List, [], _∷_}
+use Prim.Native.Nat.{ℕ, zero, suc, _+_, _-_}
+use lib.Dec.{eqb, leb}
+use Rattle.loops.specs.Loop.{pick}
+
+-- what a bond of a kind adds to a bond sum: its kind, an elided bond counting 1
+unfoldable pub order : ℕ → ℕ
+order k = pick (eqb k 0) 1 (pick (leb k 3) k 0)
+
+-- target valences (000, table 1): B 3; C 4; N 3, 5; O 2; F 1; P 3, 5; S 2, 4, 6; Cl, Br, I, At, Ts 1
+unfoldable pub targets : ℕ → List ℕ
+targets e =
+    pick (eqb e 5) (3 ∷ [])
+    (pick (eqb e 6) (4 ∷ [])
+    (pick (eqb e 7) (3 ∷ 5 ∷ [])
+    (pick (eqb e 8) (2 ∷ [])
+    (pick (eqb e 9) (1 ∷ [])
+    (pick (eqb e 15) (3 ∷ 5 ∷ [])
+    (pick (eqb e 16) (2 ∷ 4 ∷ 6 ∷ [])
+    (pick (eqb e 17) (1 ∷ [])
+    (pick (eqb e 35) (1 ∷ [])
+    (pick (eqb e 53) (1 ∷ [])
+    (pick (eqb e 85) (1 ∷ [])
+    (pick (eqb e 117) (1 ∷ []) [])))))))))))
+
+abbrev pub headOr0 : List ℕ → ℕ
+headOr0 [] = 0
+headOr0 (t ∷ ts) = t
+
+-- 0 where an element has no target
+unfoldable pub firstTarget : ℕ → ℕ
+firstTarget e = headOr0 (targets e)
+
+-- "the first target less the bond sum that is not negative, and 0 if there is none" (000, algorithm 1)
+unfoldable pub firstRoom : List ℕ → ℕ → ℕ
+firstRoom [] sum = 0
+firstRoom (t ∷ ts) sum = pick (leb sum t) (t - sum) (firstRoom ts sum)
+
+-- hydrogens of an atom outside brackets. A selected one "starts its sum at 1 and uses its first target only; below zero is 0"; `*` has no target
+unfoldable pub implied : ℕ → ℕ → ℕ → ℕ
+implied e selected sum = pick (eqb selected 1) (firstTarget e - (sum + 1)) (firstRoom (targets e) sum)
+
+-- 01's "kept": a selected atom whose bond sum + hydrogens + 1 is at most its first target
+unfoldable pub delocalized : ℕ → ℕ → ℕ → ℕ → Bool
+delocalized e selected sum hydrogens = eqb selected 1 && leb (sum + hydrogens + 1) (firstTarget e)
