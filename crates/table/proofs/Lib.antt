@@ -1,2 +1,4 @@
 pub mod Cells
 pub mod Rows
+pub mod Valid
+pub mod Edits
