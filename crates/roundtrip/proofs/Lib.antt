@@ -4,3 +4,4 @@ pub mod Bracketed
 pub mod Named
 pub mod Cells
 pub mod Letters
+pub mod Atoms
