@@ -5,3 +5,4 @@ pub mod Named
 pub mod Cells
 pub mod Letters
 pub mod Atoms
+pub mod Held
