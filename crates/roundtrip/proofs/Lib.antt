@@ -7,3 +7,5 @@ pub mod Letters
 pub mod Atoms
 pub mod Held
 pub mod Simulation
+pub mod Signs
+pub mod Tokens
