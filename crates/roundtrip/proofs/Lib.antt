@@ -9,3 +9,4 @@ pub mod Held
 pub mod Simulation
 pub mod Signs
 pub mod Tokens
+pub mod Written

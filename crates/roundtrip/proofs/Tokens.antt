@@ -48,20 +48,20 @@ Good n back = Unit {0}
 abbrev pub nextOf : St → ℕ
 nextOf (st xs bs h n hs stk) = n
 
-abbrev depthOf : St → ℕ
+abbrev pub depthOf : St → ℕ
 depthOf (st xs bs h n hs stk) = length stk
 
 -- what is not refused has room
-room-first : (a : Bool) → _≡_ {A = ℕ} (cond a 0 4) 0 → a ≡ true
+pub room-first : (a : Bool) → _≡_ {A = ℕ} (cond a 0 4) 0 → a ≡ true
 room-first true h = refl
 room-first false h = absurd (omega arith)
 
-room-both : (a b : Bool) → _≡_ {A = ℕ} (cond a (cond b 0 5) 4) 0 → (a ≡ true) × (b ≡ true)
+pub room-both : (a b : Bool) → _≡_ {A = ℕ} (cond a (cond b 0 5) 4) 0 → (a ≡ true) × (b ≡ true)
 room-both true true h = (refl, refl)
 room-both true false h = absurd (omega arith)
 room-both false b h = absurd (omega arith)
 
-room-depth : (a : Bool) → _≡_ {A = ℕ} (cond a 0 6) 0 → a ≡ true
+pub room-depth : (a : Bool) → _≡_ {A = ℕ} (cond a 0 6) 0 → a ≡ true
 room-depth true h = refl
 room-depth false h = absurd (omega arith)
 
@@ -108,7 +108,7 @@ module _ (atoms bonds : List ℤ) (N m p q : ℕ) (fine-atoms : (v : ℕ) → v 
       record { state = at (seq (a .last)) d; memory = _; takes = a .is; stance = after; waits = refl; holds = sim-along (draftRow atoms bonds m) (outsideFlag atoms bonds m) p q proom qroom xs bs h n hs stk ν s k w (a .draft) l c z e t }
 
   -- ---- the five tokens
-  step-apart : (i : ℕ) (σ : State) (μ : Memory) (x : Bool) (d : ℕ) (xs : List ℕ) (bs : List Bond) (h n : ℕ) (hs : List Hook) (stk : List ℕ) (w : ℕ) → w < N → Stance x d σ → Is (st xs bs h n hs stk) μ → n < maxAtoms
+  pub step-apart : (i : ℕ) (σ : State) (μ : Memory) (x : Bool) (d : ℕ) (xs : List ℕ) (bs : List Bond) (h n : ℕ) (hs : List Hook) (stk : List ℕ) (w : ℕ) → w < N → Stance x d σ → Is (st xs bs h n hs stk) μ → n < maxAtoms
       → Stepped i σ μ (46 ∷ f w) (token.step (apart w) (st xs bs h n hs stk)) false d
   step-apart i σ μ x d xs bs h n hs stk w g v s l =
       let j = takes-dot i μ v in
@@ -116,7 +116,7 @@ module _ (atoms bonds : List ℤ) (N m p q : ℕ) (fine-atoms : (v : ℕ) → v 
       let a = atom-apart (i + 1) (j .state) d xs bs h n hs stk ν w g (j .begins) (sim-await (draftRow atoms bonds m) (outsideFlag atoms bonds m) p q proom qroom xs bs h n hs stk μ s dotted) l (and-false (not (eqb (μ .st .atoms) 0))) in
       record { state = a .state; memory = a .memory; takes = joins (46 ∷ []) (f w) (j .takes) (a .takes); stance = a .stance; waits = a .waits; holds = a .holds }
 
-  step-along : (i : ℕ) (σ : State) (μ : Memory) (x : Bool) (d : ℕ) (xs : List ℕ) (bs : List Bond) (h n : ℕ) (hs : List Hook) (stk : List ℕ) (k w : ℕ) → k ≤ 3 → w < N → Stance x d σ → μ .pending ≡ nothing → Is (st xs bs h n hs stk) μ → n < maxAtoms → length bs < maxBonds → 0 < n
+  pub step-along : (i : ℕ) (σ : State) (μ : Memory) (x : Bool) (d : ℕ) (xs : List ℕ) (bs : List Bond) (h n : ℕ) (hs : List Hook) (stk : List ℕ) (k w : ℕ) → k ≤ 3 → w < N → Stance x d σ → μ .pending ≡ nothing → Is (st xs bs h n hs stk) μ → n < maxAtoms → length bs < maxBonds → 0 < n
       → Stepped i σ μ (kindBytes k ++ f w) (token.step (along k w) (st xs bs h n hs stk)) false d
   step-along i σ μ x d xs bs h n hs stk k w kk g v e s l c z =
       let j = takes-kind i μ k kk e v in
@@ -126,7 +126,7 @@ module _ (atoms bonds : List ℤ) (N m p q : ℕ) (fine-atoms : (v : ℕ) → v 
       let a = atom-along (i + length (kindBytes k)) (j .state) d xs bs h n hs stk ν k w g (j .begins) (sim-await (draftRow atoms bonds m) (outsideFlag atoms bonds m) p q proom qroom xs bs h n hs stk μ s (waiting k)) l c z u (waiting-kind k .0) in
       record { state = a .state; memory = a .memory; takes = joins (kindBytes k) (f w) (j .takes) (a .takes); stance = a .stance; waits = a .waits; holds = a .holds }
 
-  step-ring : (i : ℕ) (x : Last) (μ : Memory) (d : ℕ) (xs : List ℕ) (bs : List Bond) (h n : ℕ) (hs : List Hook) (stk : List ℕ) (k r : ℕ) → k ≤ 3 → suc r < bridges → μ .pending ≡ nothing → Is (st xs bs h n hs stk) μ
+  pub step-ring : (i : ℕ) (x : Last) (μ : Memory) (d : ℕ) (xs : List ℕ) (bs : List Bond) (h n : ℕ) (hs : List Hook) (stk : List ℕ) (k r : ℕ) → k ≤ 3 → suc r < bridges → μ .pending ≡ nothing → Is (st xs bs h n hs stk) μ
       → refusedBridge maxAtoms maxBonds maxDepth (hookAt hs r) k bs h ≡ 0 → Stepped i (at (seq x) d) μ (kindBytes k ++ bridgeBytes r) (token.step (ring k r) (st xs bs h n hs stk)) false d
   step-ring i x μ d xs bs h n hs stk k r kk g e s z =
       let R = draftRow atoms bonds m in
@@ -136,7 +136,7 @@ module _ (atoms bonds : List ℤ) (N m p q : ℕ) (fine-atoms : (v : ℕ) → v 
       (λ o t. sim-ring R F p q proom qroom xs bs h n hs stk (counting t (awaiting (waiting k) μ)) (sim-count R F p q proom qroom xs bs h n hs stk (awaiting (waiting k) μ) w t) r k g (waiting-kind k .0) o z) in
       record { state = at (seq plain) d; memory = a .memory; takes = a .takes; stance = after; waits = a .waits; holds = a .holds }
 
-  step-branch : (i : ℕ) (x : Last) (μ : Memory) (d : ℕ) (xs : List ℕ) (bs : List Bond) (h n : ℕ) (hs : List Hook) (stk : List ℕ) → Is (st xs bs h n hs stk) μ → length stk < maxDepth → 0 < n
+  pub step-branch : (i : ℕ) (x : Last) (μ : Memory) (d : ℕ) (xs : List ℕ) (bs : List Bond) (h n : ℕ) (hs : List Hook) (stk : List ℕ) → Is (st xs bs h n hs stk) μ → length stk < maxDepth → 0 < n
       → Stepped i (at (seq x) d) μ (40 ∷ []) (token.step branch (st xs bs h n hs stk)) true (suc d)
   unfolding step next atomOr bridgeOr among letters nonzero bondSymbols act modeAct letterOf selectedOf branchAct
   step-branch i x μ d xs bs h n hs stk s l z =
@@ -150,7 +150,7 @@ module _ (atoms bonds : List ℤ) (N m p q : ℕ) (fine-atoms : (v : ℕ) → v 
         holds = sim-branch (draftRow atoms bonds m) (outsideFlag atoms bonds m) p q proom qroom xs bs h n hs stk μ s l z;
       }
 
-  step-back : (i : ℕ) (x : Last) (μ : Memory) (d : ℕ) (xs : List ℕ) (bs : List Bond) (h n : ℕ) (hs : List Hook) (g : ℕ) (stk : List ℕ) → Is (st xs bs h n hs (g ∷ stk)) μ
+  pub step-back : (i : ℕ) (x : Last) (μ : Memory) (d : ℕ) (xs : List ℕ) (bs : List Bond) (h n : ℕ) (hs : List Hook) (g : ℕ) (stk : List ℕ) → Is (st xs bs h n hs (g ∷ stk)) μ
       → Stepped i (at (seq x) (suc d)) μ (41 ∷ []) (token.step back (st xs bs h n hs (g ∷ stk))) false d
   unfolding step next atomOr bridgeOr among letters nonzero bondSymbols act modeAct letterOf selectedOf
   step-back i x μ d xs bs h n hs g stk s = record {
