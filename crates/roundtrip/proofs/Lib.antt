@@ -10,3 +10,5 @@ pub mod Simulation
 pub mod Signs
 pub mod Tokens
 pub mod Written
+pub mod Bonds
+pub mod Ending
