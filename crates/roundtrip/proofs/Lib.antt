@@ -13,3 +13,4 @@ pub mod Written
 pub mod Bonds
 pub mod Ending
 pub mod Matchable
+pub mod Back
