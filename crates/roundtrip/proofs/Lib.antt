@@ -14,3 +14,4 @@ pub mod Bonds
 pub mod Ending
 pub mod Matchable
 pub mod Back
+pub mod Again
