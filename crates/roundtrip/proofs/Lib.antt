@@ -15,3 +15,5 @@ pub mod Ending
 pub mod Matchable
 pub mod Back
 pub mod Again
+pub mod Limits
+pub mod Claims
