@@ -99,14 +99,14 @@ map-same [] = refl
 map-same (x ∷ l) = ap (λ (k : List ℕ). x ∷ k) (map-same l)
 
 module _ (atoms bonds : List ℤ) (n m : ℕ) (v : Valid atoms bonds n m) {T U : List ℤ} {p q : ℕ} (M : Molecule atoms bonds n m T U p q) where
-  abbrev bs : List Bond
+  abbrev pub bs : List Bond
   bs = bondList bonds m
 
-  abbrev walked : List ℕ
+  abbrev pub walked : List ℕ
   walked = pre (forestOf n bs)
 
   -- the cells of the atom that is read at a place
-  cell-here : (a f : ℕ) → a < n → f < atomCells → atomCell T a f ≡ atomCell atoms (getD walked a 0) f
+  pub cell-here : (a f : ℕ) → a < n → f < atomCells → atomCell T a f ≡ atomCell atoms (getD walked a 0) f
   cell-here a f l k =
       let w = getD walked a 0 in
       let r = ren atoms bonds n m v in
@@ -130,19 +130,30 @@ module _ (atoms bonds : List ℤ) (n m : ℕ) (v : Valid atoms bonds n m) {T U :
       let b = sum-here a l in
       by-cells T U m a ∙ (λ j. bytesBy (e j) (s j) (i j) (h j) (c j) (x j) (b j)) ∙ sym (by-cells atoms bonds m w)
 
+  -- the tokens of what is read are those of what was written, but for the numbers of the atoms
+  abbrev pub walkAtom : ℕ → ℕ
+  walkAtom a = getD (map (λ a. a) walked) a 0
+
+  pub tokens-again : map (onTok walkAtom) (tokens U n m) ≡ tokens bonds n m
+  unfolding tokens
+  tokens-again =
+      ap (λ (l : List Bond). map (onTok walkAtom) (write n (λ a. a) l)) (M .listed)
+      ∙ sym (write-natural n walkAtom (completed n bs)) ∙ write-again n (λ a. a) bs (inside v) (distinct v)
+
+  small : All (Atom< n) (tokens U n m)
+  unfolding tokens
+  small =
+      subst (λ (l : List Bond). All (Atom< n) (write n (λ a. a) l)) (sym (M .listed))
+      (written-made (λ w. w < n) (λ k. Unit {0}) tt n (λ a. a) (completed n bs) (completed-inside n bs (inside v)) (λ w l. l) (all-unit (completed n bs)))
+
   -- THE TEXT AGAIN
   pub text-again : textOf T U n m ≡ textOf atoms bonds n m
-  unfolding textOf tokens
+  unfolding textOf
   text-again =
-      let C = completed n bs in
-      let ts = write n (λ a. a) C in
       let f = atomBytes atoms bonds m in
-      let g : ℕ → ℕ = λ a. getD (map (λ a. a) walked) a 0 in
-      let small : All (Atom< n) ts = written-made (λ w. w < n) (λ k. Unit {0}) tt n (λ a. a) C (completed-inside n bs (inside v)) (λ w l. l) (all-unit C) in
-      ap (λ (l : List Bond). tokensBytes (atomBytes T U m) (write n (λ a. a) l)) (M .listed)
-      ∙ bytes-same n (atomBytes T U m) (λ a. f (g a)) (λ a l. atom-again a l ∙ ap (λ (x : List ℕ). f (getD x a 0)) (sym (map-same walked))) ts small
-      ∙ sym (bytes-map f g ts)
-      ∙ ap (tokensBytes f) (sym (write-natural n g C) ∙ write-again n (λ a. a) bs (inside v) (distinct v))
+      bytes-same n (atomBytes T U m) (λ a. f (walkAtom a)) (λ a l. atom-again a l ∙ ap (λ (x : List ℕ). f (getD x a 0)) (sym (map-same walked))) (tokens U n m) small
+      ∙ sym (bytes-map f walkAtom (tokens U n m))
+      ∙ ap (tokensBytes f) tokens-again
 
   -- THE RENUMBERING AGAIN
   pub identity-again : renumbering U n m ≡ upTo (λ a. a) 0 n

@@ -19,7 +19,7 @@ use Rattle.matching.specs.Graph as graph
 use Rattle.matching.specs.Model.{some?}
 use Rattle.graph.specs.Graph.{bondSum, delocalizedAt, delocalizedFlag, delocalizedFlags, flag, bondOf, graphOf, matchable}
 use Rattle.table.specs.Limits.{maxAtoms, maxBonds, atomCells, bondCells, ELEMENT, SELECTED, ISOTOPE, HYDROGENS, CHARGE, EXTENSION}
-use Rattle.table.specs.Cells.{number, atomPlace, atomCell, element, selected, hydrogens}
+use Rattle.table.specs.Cells.{number, atomPlace, atomCell, bondCell, element, selected, hydrogens}
 use Rattle.table.specs.Valid.{Valid, selectedOk}
 use Rattle.table.proofs.Valid.{AtomFine, atom-row, range-pos, Enough}
 use Rattle.state.specs.Limits.{maxText, maxDepth, bridges}
@@ -41,9 +41,9 @@ use Rattle.walk.proofs.Order.{place-below, atom-place}
 use Rattle.writing.specs.Spell.{unbracketed, atomBytes, tokensBytes}
 use Rattle.writing.specs.Write.{bondAt, bondList, tokens, textOf, fewBridges, shallow}
 use Rattle.roundtrip.proofs.Feed.{Takes}
-use Rattle.roundtrip.proofs.Cells.{atomCellsOf}
+use Rattle.roundtrip.proofs.Cells.{atomCellsOf, bondCellsOf}
 use Rattle.roundtrip.proofs.Atoms.{rowBy, draftRow, outsideFlag, Bare, bare-of}
-use Rattle.roundtrip.proofs.Held.{AtomTable, BondTable}
+use Rattle.roundtrip.proofs.Held.{nobond, rowOfBond, AtomTable, BondTable}
 use Rattle.roundtrip.proofs.Simulation.{Sim}
 use Rattle.roundtrip.proofs.Tokens.{Good}
 use Rattle.roundtrip.proofs.Written.{Held, text-read}
@@ -131,6 +131,7 @@ ended-law μ n m e a b = rw (e, a, b)
 pub record Molecule (atoms bonds : List ℤ) (n m : ℕ) (T U : List ℤ) (p q : ℕ) : Type 0 where
   pub cells : (v f : ℕ) → v < n → f < atomCells → atomCell T (place (pre (forestOf n (bondList bonds m))) v) f ≡ atomCell atoms v f
   pub listed : bondList U m ≡ completed n (bondList bonds m)
+  pub bond-cells : (b f : ℕ) → b < m → f < bondCells → bondCell U b f ≡ getD (bondCellsOf (rowOfBond (getD (completed n (bondList bonds m)) b nobond))) f (pos 0)
   pub atoms-after : (j : ℕ) → atomCells * n ≤ j → getD T j (pos 0) ≡ pos 0
   pub bonds-after : (j : ℕ) → bondCells * m ≤ j → getD U j (pos 0) ≡ pos 0
   pub atoms-long : length T ≡ p
@@ -227,6 +228,7 @@ module _ (atoms bonds : List ℤ) (n m : ℕ) (v : Valid atoms bonds n m) where
     molecule = record {
       cells = λ w f l k. cell-read w f l k (eqb f HYDROGENS) refl;
       listed = read-list;
+      bond-cells = λ b f l k. sim .bonding .cells b f (let e = as-many in omega arith) k;
       atoms-after = λ j l. rest-cell (μ .st .outside) readBonds m n j (μ .atoms) l ∙ sim .table .after j l;
       bonds-after = λ j l. sim .bonding .after j (let e = as-many in omega arith);
       atoms-long = hydrogenated-length (μ .st .outside) readBonds m n (μ .atoms) ∙ sim .table .long;

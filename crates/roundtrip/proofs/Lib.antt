@@ -15,5 +15,6 @@ pub mod Ending
 pub mod Matchable
 pub mod Back
 pub mod Again
+pub mod Rewritten
 pub mod Limits
 pub mod Claims

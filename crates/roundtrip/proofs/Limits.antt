@@ -7,7 +7,8 @@ use native.Mathlib.Omega.{arith}
 use lib.Dec.{eqb, leb, ltb}
 use lib.ListN.{length}
 use lib.IntN.{ℤ}
-use borrow.Author.Tests.{ltb-true, lt-ltb, lt-leb, ltb-false}
+use mathlib.Core.Logic.{_⊎_, inl, inr, ⊎-elim}
+use borrow.Author.Tests.{eqb-true, eqb-false, ltb-true, lt-ltb, lt-leb, ltb-false}
 use Rattle.loops.specs.Loop.{pick}
 use Rattle.loops.proofs.Loops.{and-left, and-right}
 use Rattle.table.specs.Limits.{maxAtoms, maxBonds}
@@ -52,6 +53,20 @@ low-few (back ∷ ts) (more h a) = low-few ts a
 abbrev pub openAt : List ℤ → ℕ → ℕ → ℕ → ℕ
 openAt bonds n m x = count (pending x) (unused n (bondList bonds m))
 
+-- all numbers below a bound are small, or one is not
+over : (f : ℕ → ℕ) (c k : ℕ) → ((x : ℕ) → x < k → f x ≤ c) ⊎ ((x : ℕ) × (c < f x))
+over f c zero = inl (λ x l. absurd (omega arith))
+over f c (suc k) = go (ltb c (f k)) refl (over f c k)
+  where
+    go : (y : Bool) → ltb c (f k) ≡ y → ((x : ℕ) → x < k → f x ≤ c) ⊎ ((x : ℕ) × (c < f x)) → ((x : ℕ) → x < suc k → f x ≤ c) ⊎ ((x : ℕ) × (c < f x))
+    go true e r = inr (k, ltb-true c (f k) e)
+    go false e (inr s) = inr s
+    go false e (inl h) = inl (λ x l. last x l (eqb x k) refl)
+      where
+        last : (x : ℕ) → x < suc k → (y : Bool) → eqb x k ≡ y → f x ≤ c
+        last x l true y = subst (λ (i : ℕ). f i ≤ c) (sym (eqb-true x k y)) (ltb-false c (f k) e)
+        last x l false y = let z = eqb-false x k y in h x (omega arith)
+
 module _ (atoms bonds : List ℤ) (n m : ℕ) (h : valid atoms bonds n m ≡ true) where
   i : Inside n (bondList bonds m)
   i = inside (facts atoms bonds n m h)
@@ -80,6 +95,26 @@ module _ (atoms bonds : List ℤ) (n m : ℕ) (h : valid atoms bonds n m ≡ tru
   pub open-few-bridges : ((x : ℕ) → openAt bonds n m x ≤ mostBridges) → fewBridges (tokens bonds n m) ≡ true
   unfolding tokens
   open-few-bridges g = low-few (tokens bonds n m) (low-places mostBridges n (λ a. a) (bondList bonds m) i g)
+
+  -- told as a point of the walk: 14 exactly if at some atom over 99 bridges are open
+  pub many-bridges-open : fewBridges (tokens bonds n m) ≡ false → (x : ℕ) × (mostBridges < openAt bonds n m x)
+  many-bridges-open g = ⊎-elim
+      (λ all. absurd (let e = open-few-bridges (λ x. below x (all x)) in let z : _≡_ {A = ℕ} 0 1 = cc in omega arith))
+      (λ some. some) (over (openAt bonds n m) mostBridges (suc n))
+    where
+      below : (x : ℕ) → (x < suc n → openAt bonds n m x ≤ mostBridges) → openAt bonds n m x ≤ mostBridges
+      below x k = go (ltb n x) refl
+        where
+          go : (y : Bool) → ltb n x ≡ y → openAt bonds n m x ≤ mostBridges
+          go true e = let z = open-past x (ltb-true n x e) in omega arith
+          go false e = k (let l = ltb-false n x e in omega arith)
+
+  pub open-many-bridges : (x : ℕ) → mostBridges < openAt bonds n m x → fewBridges (tokens bonds n m) ≡ false
+  open-many-bridges x l = go (fewBridges (tokens bonds n m)) refl
+    where
+      go : (y : Bool) → fewBridges (tokens bonds n m) ≡ y → y ≡ false
+      go true e = absurd (let k = few-bridges-open e x in omega arith)
+      go false e = refl
 
 -- ---- 15: how many branches are open after the tokens, d before them
 abbrev pub depthAfter : List Tok → ℕ → ℕ
