@@ -1,7 +1,7 @@
 //! Writing: the rules of the paper one by one, the limits, and reading back.
 
 use balsa_reference::{
-    first, kekulize, read, write, Atom, Bond, Code, Kind, Molecule, Refusal, MAX_TEXT,
+    first, kekulize, read, report_line, write, Atom, Bond, Code, Kind, Molecule, Refusal, MAX_TEXT,
 };
 
 const CARBON: Atom = Atom {
@@ -276,6 +276,29 @@ fn the_written_length_is_limited() {
     assert_eq!(write(&longest(5)), Err(Code::WrittenTooLong));
     assert_eq!(write(&longest(6)).unwrap().text.len(), MAX_TEXT);
     assert_read_back(&longest(6));
+}
+
+/// The text is as long as a text may be, and the kekulized one has a symbol more.
+#[test]
+fn a_kekulized_text_can_be_too_long() {
+    let mut molecule = longest(0);
+    let (inner, outer) = (8 + 24 * 3 + 22, 8 + 24 * 3 + 23);
+    let bonds = molecule.bonds.iter_mut();
+    for bond in bonds.filter(|bond| bond.second == outer) {
+        *bond = Bond::between(inner, outer, Kind::Elided);
+    }
+    for (number, hydrogens) in [(inner, 1), (outer, 2)] {
+        molecule.atoms[number] = Atom {
+            element: 6,
+            selected: true,
+            hydrogens,
+            ..LONG
+        };
+    }
+    assert_read_back(&molecule);
+    let text = write(&molecule).unwrap().text;
+    assert_eq!(text.len(), MAX_TEXT);
+    assert_eq!(report_line(&text), Err(Code::WrittenTooLong.into()));
 }
 
 #[test]
