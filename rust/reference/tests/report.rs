@@ -56,7 +56,7 @@ fn fan(children: usize) -> String {
     let between: String = (1..children - 1)
         .map(|n| ["(C12)", "(C21)"][(n + 1) % 2])
         .collect();
-    let last = if children % 2 == 0 { "1" } else { "2" };
+    let last = if children.is_multiple_of(2) { "1" } else { "2" };
     format!("[*](C1){between}C{last}")
 }
 
