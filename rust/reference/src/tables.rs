@@ -5,7 +5,7 @@
 
 use crate::element::MAX_ELEMENT;
 use crate::matching;
-use crate::molecule::{Atom, Bond, Kind, Molecule, Neighbours};
+use crate::molecule::{Atom, Bond, Kind, Molecule};
 use crate::refusal::{Code, Refusal};
 use crate::valence::is_selectable;
 use crate::{ATOM_CELLS, BOND_CELLS, MAX_ATOMS, MAX_BONDS, MAX_TEXT};
@@ -171,14 +171,18 @@ pub fn molecule(tables: Tables) -> Result<Molecule, Code> {
     if atoms > MAX_ATOMS || bonds > MAX_BONDS {
         return Err(Code::InvalidTables);
     }
-    let atom_rows = tables.atoms.chunks_exact(ATOM_CELLS).take(atoms);
-    let bond_rows = tables.bonds.chunks_exact(BOND_CELLS).take(bonds);
-    let read_atoms: Option<Vec<Atom>> = atom_rows.map(atom_of_cells).collect();
-    let read_bonds: Option<Vec<Bond>> = bond_rows.map(|row| bond_of_cells(row, atoms)).collect();
-    let (Some(atoms), Some(bonds)) = (read_atoms, read_bonds) else {
-        return Err(Code::InvalidTables);
+    let mut molecule = Molecule {
+        atoms: Vec::with_capacity(atoms),
+        bonds: Vec::with_capacity(bonds),
     };
-    let molecule = Molecule { atoms, bonds };
+    for cells in tables.atoms.chunks_exact(ATOM_CELLS).take(atoms) {
+        let atom = atom_of_cells(cells).ok_or(Code::InvalidTables)?;
+        molecule.atoms.push(atom);
+    }
+    for cells in tables.bonds.chunks_exact(BOND_CELLS).take(bonds) {
+        let bond = bond_of_cells(cells, atoms).ok_or(Code::InvalidTables)?;
+        molecule.bonds.push(bond);
+    }
     if has_repeated_bond(&molecule) {
         return Err(Code::InvalidTables);
     }
@@ -224,7 +228,7 @@ fn within(cell: i32, low: i32, high: i32) -> Option<i32> {
 }
 
 fn has_repeated_bond(molecule: &Molecule) -> bool {
-    let neighbours: Neighbours = molecule.neighbours();
+    let neighbours = molecule.neighbours();
     let mut seen_from = vec![usize::MAX; molecule.atoms.len()];
     (0..molecule.atoms.len()).any(|atom| {
         let mut ends = neighbours.of(atom).iter();

@@ -127,7 +127,7 @@ impl<'m> Writer<'m> {
             open: Vec::new(),
             most_open: 0,
             deepest: 0,
-            text: Vec::new(),
+            text: Vec::with_capacity(4 * molecule.atoms.len()),
         }
     }
 
