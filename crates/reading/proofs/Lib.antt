@@ -1,3 +1,4 @@
 pub mod Sane
 pub mod Rows
 pub mod Tables
+pub mod Steering
