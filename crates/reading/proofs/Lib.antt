@@ -5,3 +5,5 @@ pub mod Steering
 pub mod Draft
 pub mod Letters
 pub mod Atoms
+pub mod InBracket
+pub mod Joints

@@ -125,7 +125,7 @@ module _ {i : ℕ} {s : State} (w : Steering i s) where
   closed-hub d = w .stack (s .depth - 1) (omega arith)
 
   -- another opener, symbol and offset of a bridge number
-  bridged-steering : (r a k p m : ℕ) → r < bridges → a ≤ s .atoms → k ≤ 3 → p ≤ i → Steering (suc i) (bridged s r a k p m)
+  pub bridged-steering : (r a k p m : ℕ) → r < bridges → a ≤ s .atoms → k ≤ 3 → p ≤ i → Steering (suc i) (bridged s r a k p m)
   bridged-steering r a k p m h ha hk hp =
       record {
         stack-length = w .stack-length;
