@@ -7,3 +7,4 @@ pub mod Letters
 pub mod Atoms
 pub mod InBracket
 pub mod Joints
+pub mod Step
