@@ -112,9 +112,9 @@ module _ {p q d i : ℕ} {μ : Memory} (h : Held p q d i μ) where
 
       split : (t : Bool) → eqb (getD (μ .st .opener) r 0) 0 ≡ t
           → SaneAct p q (at (seq plain) d) (suc i)
-            (pick t (keeps (moved (pick t (bridged (μ .st) r (μ .st .hub .0 + 1) k o (μ .st .bonds)) (bridged (μ .st) r 0 0 0 (μ .st .bonds + 1))) μ))
-            (orRefuse (closeRefusal (μ .bonds) (μ .st .bonds) u (μ .st .hub .0) (getD (μ .st .symbol) r 0) k) o
-            (moved (pick t (bridged (μ .st) r (μ .st .hub .0 + 1) k o (μ .st .bonds)) (bridged (μ .st) r 0 0 0 (μ .st .bonds + 1))) (bridgeBond r μ))))
+          (pick t (keeps (moved (pick t (bridged (μ .st) r (μ .st .hub .0 + 1) k o (μ .st .bonds)) (bridged (μ .st) r 0 0 0 (μ .st .bonds + 1))) μ))
+          (orRefuse (closeRefusal (μ .bonds) (μ .st .bonds) u (μ .st .hub .0) (getD (μ .st .symbol) r 0) k) o
+          (moved (pick t (bridged (μ .st) r (μ .st .hub .0 + 1) k o (μ .st .bonds)) (bridged (μ .st) r 0 0 0 (μ .st .bonds + 1))) (bridgeBond r μ))))
       split true e =
           record {
             tables = h .tables;
