@@ -1,0 +1,3 @@
+pub mod Sane
+pub mod Rows
+pub mod Tables
