@@ -1,0 +1,60 @@
+-- 01, Hydrogens and kept atoms: the bond sum, the keeping rule, and the graph that the placements see
+use Prim.Native.Nat.{ℕ, zero, suc, _+_, _≤_}
+use mathlib.Core.Path.{_≡_}
+use lib.ListN.{length, take}
+use mathlib.Core.List.{List}
+use mathlib.Core.Bool.{Bool, true, false, _&&_, _||_}
+use lib.IntN.{ℤ}
+use lib.Dec.{eqb, leb}
+use Rattle.loops.specs.Loop.{pick, run, upTo}
+use Rattle.table.specs.Cells.{element, selected, hydrogens, end1, end2, kind}
+use Rattle.valence.specs.Valence.{order, delocalized}
+use Rattle.matching.specs.Enumeration.{Row, matchings}
+use Rattle.matching.specs.Graph.{Bond, isMatching}
+use Rattle.matching.specs.Model.{some?}
+
+unfoldable pub touches : List ℤ → ℕ → ℕ → Bool
+touches bonds a b = eqb (end1 bonds b) a || eqb (end2 bonds b) a
+
+-- what the bond b adds to the bond sum of the atom a
+unfoldable pub share : List ℤ → ℕ → ℕ → ℕ
+share bonds a b = pick (touches bonds a b) (order (kind bonds b)) 0
+
+abbrev pub addShare : List ℤ → ℕ → ℕ → ℕ → ℕ
+addShare bonds a b s = s + share bonds a b
+
+-- the bond sum of the atom a, over m bonds
+unfoldable pub bondSum : List ℤ → ℕ → ℕ → ℕ
+bondSum bonds m a = run (addShare bonds a) 0 m 0
+
+-- 01's "kept"
+abbrev pub delocalizedAt : List ℤ → List ℤ → ℕ → ℕ → Bool
+delocalizedAt atoms bonds m a = delocalized (element atoms a) (selected atoms a) (bondSum bonds m a) (hydrogens atoms a)
+
+abbrev pub flag : Bool → ℕ
+flag true = 1
+flag false = 0
+
+abbrev pub delocalizedFlag : List ℤ → List ℤ → ℕ → ℕ → ℕ
+delocalizedFlag atoms bonds m a = flag (delocalizedAt atoms bonds m a)
+
+abbrev pub elidedFlag : List ℤ → ℕ → ℕ
+elidedFlag bonds b = flag (eqb (kind bonds b) 0)
+
+-- the flags of n atoms, and the bonds, as the placements see them
+abbrev pub delocalizedFlags : List ℤ → List ℤ → ℕ → ℕ → List ℕ
+delocalizedFlags atoms bonds n m = upTo (delocalizedFlag atoms bonds m) 0 n
+
+abbrev pub bondOf : List ℤ → ℕ → Bond
+bondOf bonds b = record { end1 = end1 bonds b; end2 = end2 bonds b; elided = eqb (kind bonds b) 0 }
+
+abbrev pub graphOf : List ℤ → ℕ → List Bond
+graphOf bonds m = upTo (bondOf bonds) 0 m
+
+-- the row is a matching (01's placement) of the molecule
+abbrev pub matchingOf : List ℤ → List ℤ → ℕ → ℕ → Row → Bool
+matchingOf atoms bonds n m = isMatching (delocalizedFlags atoms bonds n m) (graphOf bonds m)
+
+-- a matching exists: the enumeration (01's book) of the molecule has an entry
+unfoldable pub matchable : List ℤ → List ℤ → ℕ → ℕ → Bool
+matchable atoms bonds n m = some? (matchings (matchingOf atoms bonds n m) m)

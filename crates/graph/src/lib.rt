@@ -1,0 +1,1 @@
+// The graph that matchings see, from valid tables.

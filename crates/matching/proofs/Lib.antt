@@ -1,0 +1,4 @@
+pub mod Enumeration
+pub mod Graph
+pub mod Cut
+pub mod Examples

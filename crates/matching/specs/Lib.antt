@@ -1,0 +1,5 @@
+pub mod Limits
+pub mod Enumeration
+pub mod Graph
+pub mod Model
+pub mod Cut

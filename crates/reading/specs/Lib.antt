@@ -1,0 +1,4 @@
+pub mod Memory
+pub mod Bracket
+pub mod Act
+pub mod Read

@@ -1,0 +1,6 @@
+pub mod Limits
+pub mod Cells
+pub mod Rows
+pub mod Valid
+pub mod Edits
+pub mod Keys

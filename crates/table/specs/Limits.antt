@@ -1,0 +1,45 @@
+-- 01, The tables: limits, row widths and fields, each with its `const` in src/lib.rt
+use Prim.Native.Nat.{ℕ}
+
+-- at most 200 atoms and 250 bonds
+abbrev pub maxAtoms : ℕ
+maxAtoms = 200
+
+abbrev pub maxBonds : ℕ
+maxBonds = 250
+
+-- an atom row has six cells, a bond row three
+abbrev pub atomCells : ℕ
+atomCells = 6
+
+abbrev pub bondCells : ℕ
+bondCells = 3
+
+-- the cells of an atom row, in their order
+abbrev pub ELEMENT : ℕ
+ELEMENT = 0
+
+abbrev pub SELECTED : ℕ
+SELECTED = 1
+
+abbrev pub ISOTOPE : ℕ
+ISOTOPE = 2
+
+abbrev pub HYDROGENS : ℕ
+HYDROGENS = 3
+
+abbrev pub CHARGE : ℕ
+CHARGE = 4
+
+abbrev pub EXTENSION : ℕ
+EXTENSION = 5
+
+-- the cells of a bond row, in their order
+abbrev pub FIRST : ℕ
+FIRST = 0
+
+abbrev pub SECOND : ℕ
+SECOND = 1
+
+abbrev pub KIND : ℕ
+KIND = 2

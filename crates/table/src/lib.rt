@@ -1,0 +1,75 @@
+// Atom and bond tables of signed cells: the only crate that knows cells, signs and row widths.
+ghost use mathlib.Core.Path.{_≡_};
+ghost use Rattle.table.specs.Valid.{checkOf};
+use refusal::Refusal;
+
+pub mod cell;
+pub mod edit;
+pub mod row;
+pub mod validity;
+
+// The limits of a molecule.
+pub const MAX_ATOMS: usize = 200;
+
+pub const MAX_BONDS: usize = 250;
+
+// The cells of an atom row and of a bond row.
+pub const ATOM_CELLS: usize = 6;
+
+pub const BOND_CELLS: usize = 3;
+
+// The fields of an atom row, by their place in it.
+pub const ELEMENT: usize = 0;
+
+pub const SELECTED: usize = 1;
+
+pub const ISOTOPE: usize = 2;
+
+pub const HYDROGENS: usize = 3;
+
+pub const CHARGE: usize = 4;
+
+pub const EXTENSION: usize = 5;
+
+// The fields of a bond row, by their place in it.
+pub const FIRST: usize = 0;
+
+pub const SECOND: usize = 1;
+
+pub const KIND: usize = 2;
+
+// An atom row.
+pub struct Atom {
+    pub element: i32,
+    pub selected: i32,
+    pub isotope: i32,
+    pub hydrogens: i32,
+    pub charge: i32,
+    pub extension: i32,
+}
+
+// A bond row.
+pub struct Bond {
+    pub first: i32,
+    pub second: i32,
+    pub kind: i32,
+}
+
+// Whether tables can be worked with.
+pub enum Check {
+    Fine,
+    Refused(Refusal),
+}
+
+// Whether the tables with their counts can be worked with: 1 for a table that is too short, 13 for tables that are not valid.
+pub fn check_tables(atoms: &[i32], bonds: &[i32], n: usize, m: usize) -> Check
+    ensures { λ r. ⌜ r ≡ checkOf (now (atoms .entry)) (now (bonds .entry)) n m ⌝ }
+{
+    if !validity::enough(atoms, bonds) {
+        return Check::Refused(Refusal::Short);
+    }
+    if !validity::valid(atoms, bonds, n, m) {
+        return Check::Refused(Refusal::Invalid);
+    }
+    Check::Fine
+}

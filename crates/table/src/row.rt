@@ -1,0 +1,105 @@
+// Whole rows of a table: read, written, and a table zeroed.
+ghost use mathlib.Core.Path.{_≡_};
+ghost use Prim.Native.Nat.{_<_};
+ghost use lib.ListN.{length, replicate};
+ghost use lib.IntN.{pos};
+ghost use Rattle.table.specs.Limits.{maxAtoms, maxBonds};
+ghost use Rattle.table.specs.Rows.{atomAt, bondAt, atomRow, bondRow, AtomFits, BondFits, putAtom, putBond};
+use crate::Atom;
+use crate::Bond;
+use crate::CHARGE;
+use crate::ELEMENT;
+use crate::EXTENSION;
+use crate::FIRST;
+use crate::HYDROGENS;
+use crate::ISOTOPE;
+use crate::KIND;
+use crate::MAX_ATOMS;
+use crate::MAX_BONDS;
+use crate::SECOND;
+use crate::SELECTED;
+use crate::cell;
+use ids::AtomId;
+use ids::BondId;
+
+// The row of an atom: 0 in every cell past the end of the table, and above the limit.
+pub fn get_atom(t: &[i32], a: AtomId) -> Atom
+    ensures { λ r. ⌜ r ≡ atomAt (now (t .entry)) (a .0) ⌝ }
+    ensures { λ r. ⌜ AtomFits r ⌝ }
+{
+    if MAX_ATOMS <= a.0 {
+        return Atom {
+            element: 0,
+            selected: 0,
+            isotope: 0,
+            hydrogens: 0,
+            charge: 0,
+            extension: 0,
+        };
+    }
+    Atom {
+        element: cell::atom_cell(t, a, ELEMENT),
+        selected: cell::atom_cell(t, a, SELECTED),
+        isotope: cell::atom_cell(t, a, ISOTOPE),
+        hydrogens: cell::atom_cell(t, a, HYDROGENS),
+        charge: cell::atom_cell(t, a, CHARGE),
+        extension: cell::atom_cell(t, a, EXTENSION),
+    }
+}
+
+// The row of a bond: 0 in every cell past the end of the table, and above the limit.
+pub fn get_bond(t: &[i32], b: BondId) -> Bond
+    ensures { λ r. ⌜ r ≡ bondAt (now (t .entry)) (b .0) ⌝ }
+    ensures { λ r. ⌜ BondFits r ⌝ }
+{
+    if MAX_BONDS <= b.0 {
+        return Bond {
+            first: 0,
+            second: 0,
+            kind: 0,
+        };
+    }
+    Bond {
+        first: cell::bond_cell(t, b, FIRST),
+        second: cell::bond_cell(t, b, SECOND),
+        kind: cell::bond_cell(t, b, KIND),
+    }
+}
+
+// Writes the row of an atom: no cell past the end of the table, and nothing above the limit.
+pub fn put_atom(t: &mut [i32], a: AtomId, x: Atom)
+    ensures { λ _. ⌜ now (t .exit) ≡ putAtom (now (t .entry)) (a .0) x ⌝ }
+{
+    if MAX_ATOMS <= a.0 {
+        return;
+    }
+    cell::put_atom_cell(t, a, ELEMENT, x.element);
+    cell::put_atom_cell(t, a, SELECTED, x.selected);
+    cell::put_atom_cell(t, a, ISOTOPE, x.isotope);
+    cell::put_atom_cell(t, a, HYDROGENS, x.hydrogens);
+    cell::put_atom_cell(t, a, CHARGE, x.charge);
+    cell::put_atom_cell(t, a, EXTENSION, x.extension);
+}
+
+// Writes the row of a bond: no cell past the end of the table, and nothing above the limit.
+pub fn put_bond(t: &mut [i32], b: BondId, x: Bond)
+    ensures { λ _. ⌜ now (t .exit) ≡ putBond (now (t .entry)) (b .0) x ⌝ }
+{
+    if MAX_BONDS <= b.0 {
+        return;
+    }
+    cell::put_bond_cell(t, b, FIRST, x.first);
+    cell::put_bond_cell(t, b, SECOND, x.second);
+    cell::put_bond_cell(t, b, KIND, x.kind);
+}
+
+// Zeroes a whole table.
+pub fn clear(t: &mut [i32])
+    ensures { λ _. ⌜ now (t .exit) ≡ replicate (length (now (t .entry))) (pos 0) ⌝ }
+{
+    let mut i = 0;
+    while i < t.len() {
+        t[i] = 0;
+        i += 1;
+    }
+}

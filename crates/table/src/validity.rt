@@ -1,0 +1,180 @@
+// Valid tables (01: sound): a test for each condition, and all of them.
+ghost use mathlib.Core.Path.{_≡_};
+ghost use Prim.Native.Nat.{ℕ, _<_, _≤_};
+ghost use mathlib.Core.List.{_++_};
+ghost use lib.ListN.{length, drop};
+ghost use Rattle.loops.specs.Loop.{each, upTo};
+ghost use Rattle.table.specs.Limits.{maxAtoms, maxBonds};
+ghost use Rattle.table.specs.Valid.{selectable, selectedOk, atomOk, bondOk, distinct, valid, enough};
+ghost use Rattle.table.specs.Keys.{ShortEnds, endsKey, freshKey};
+use crate::ATOM_CELLS;
+use crate::BOND_CELLS;
+use crate::CHARGE;
+use crate::ELEMENT;
+use crate::EXTENSION;
+use crate::FIRST;
+use crate::HYDROGENS;
+use crate::ISOTOPE;
+use crate::KIND;
+use crate::MAX_ATOMS;
+use crate::MAX_BONDS;
+use crate::SECOND;
+use crate::SELECTED;
+use crate::cell;
+use ids::AtomId;
+use ids::BondId;
+
+// An element that a selected atom may have.
+pub fn selectable(e: usize) -> bool
+    ensures { λ r. ⌜ r ≡ selectable e ⌝ }
+{
+    (e == 6) | (e == 7) | (e == 8) | (e == 15) | (e == 16)
+}
+
+// Selected is 0, or 1 with an element that may be selected.
+fn selected_ok(t: &[i32], a: AtomId) -> bool
+    requires { ⌜ a .0 < maxAtoms ⌝ }
+    ensures { λ r. ⌜ r ≡ selectedOk (now (t .entry)) (a .0) ⌝ }
+{
+    let fits = cell::atom_within(t, a, SELECTED, 0, 1);
+    let plain = cell::atom_number(t, a, SELECTED) == 0;
+    fits & (plain | selectable(cell::atom_number(t, a, ELEMENT)))
+}
+
+// The row of an atom is valid.
+fn atom_ok(t: &[i32], a: AtomId) -> bool
+    requires { ⌜ a .0 < maxAtoms ⌝ }
+    ensures { λ r. ⌜ r ≡ atomOk (now (t .entry)) (a .0) ⌝ }
+{
+    cell::atom_within(t, a, ELEMENT, 0, 118)
+        & cell::atom_within(t, a, ISOTOPE, 0, 999)
+        & cell::atom_within(t, a, HYDROGENS, 0, 9)
+        & cell::atom_within(t, a, CHARGE, -9, 9)
+        & cell::atom_within(t, a, EXTENSION, 0, 9999)
+        & selected_ok(t, a)
+}
+
+// The row of a bond is valid, with n atoms.
+fn bond_ok(t: &[i32], n: usize, b: BondId) -> bool
+    requires { ⌜ b .0 < maxBonds ⌝ }
+    ensures { λ r. ⌜ r ≡ bondOk (now (t .entry)) n (b .0) ⌝ }
+{
+    let e = cell::bond_number(t, b, FIRST);
+    let f = cell::bond_number(t, b, SECOND);
+    let natural = cell::cell_natural(t, cell::bond_place(b, FIRST));
+    cell::bond_within(t, b, KIND, 0, 3) & (natural & (e < f)) & (f < n)
+}
+
+// The rows of n atoms are valid.
+fn atoms_ok(t: &[i32], n: usize) -> bool
+    requires { ⌜ n ≤ maxAtoms ⌝ }
+    ensures { λ r. ⌜ r ≡ each (atomOk (now (t .entry))) 0 n ⌝ }
+{
+    let mut i = 0;
+    while i < n {
+        if !atom_ok(t, AtomId(i)) {
+            return false;
+        }
+        i += 1;
+    }
+    true
+}
+
+// The rows of m bonds are valid, with n atoms.
+fn bonds_ok(t: &[i32], n: usize, m: usize) -> bool
+    requires { ⌜ m ≤ maxBonds ⌝ }
+    ensures { λ r. ⌜ r ≡ each (bondOk (now (t .entry)) n) 0 m ⌝ }
+{
+    let mut i = 0;
+    while i < m {
+        if !bond_ok(t, n, BondId(i)) {
+            return false;
+        }
+        i += 1;
+    }
+    true
+}
+
+// The two ends of a bond as one number.
+fn ends_key(t: &[i32], b: BondId) -> u32
+    requires { ⌜ b .0 < maxBonds ⌝ }
+    requires { ⌜ ShortEnds (now t) (b .0) ⌝ }
+    ensures { λ r. ⌜ r ≡ endsKey (now (t .entry)) (b .0) ⌝ }
+{
+    let first = cell::bond_number(t, b, FIRST);
+    let second = cell::bond_number(t, b, SECOND);
+    (first * 65536 + second) as u32
+}
+
+// The ends of the first m bonds, each as one number.
+fn fill_keys(t: &[i32], m: usize, keys: &mut [u32])
+    requires { ⌜ m ≤ maxBonds ⌝ }
+    requires { ⌜ m ≤ length (now keys) ⌝ }
+    requires { ⌜ ((b : ℕ) → b < m → ShortEnds (now t) b) ⌝ }
+    ensures { λ _. ⌜ now (keys .exit) ≡ upTo (endsKey (now (t .entry))) 0 m ++ drop m (now (keys .entry)) ⌝ }
+{
+    let mut i = 0;
+    while i < m {
+        keys[i] = ends_key(t, BondId(i));
+        i += 1;
+    }
+}
+
+// No two of the first m numbers are equal.
+fn all_different(keys: &[u32], m: usize) -> bool
+    requires { ⌜ m ≤ length (now keys) ⌝ }
+    ensures { λ r. ⌜ r ≡ each (freshKey (now (keys .entry))) 0 m ⌝ }
+{
+    let mut fine = true;
+    let mut i = 0;
+    'rows: while i < m {
+        let key = keys[i];
+        let mut j = 0;
+        while j < i {
+            if keys[j] == key {
+                fine = false;
+                break 'rows;
+            }
+            j += 1;
+        }
+        i += 1;
+    }
+    fine
+}
+
+// No two of the first m bonds join the same two atoms.
+fn distinct(t: &[i32], m: usize) -> bool
+    requires { ⌜ m ≤ maxBonds ⌝ }
+    requires { ⌜ ((b : ℕ) → b < m → ShortEnds (now t) b) ⌝ }
+    ensures { λ r. ⌜ r ≡ distinct (now (t .entry)) m ⌝ }
+{
+    let mut keys = [0u32; MAX_BONDS];
+    fill_keys(t, m, &mut keys);
+    all_different(&keys, m)
+}
+
+// The tables with their counts are valid; a cell past the end counts as 0.
+pub fn valid(atoms: &[i32], bonds: &[i32], n: usize, m: usize) -> bool
+    ensures { λ r. ⌜ r ≡ valid (now (atoms .entry)) (now (bonds .entry)) n m ⌝ }
+{
+    if MAX_ATOMS < n {
+        return false;
+    }
+    if MAX_BONDS < m {
+        return false;
+    }
+    if !atoms_ok(atoms, n) {
+        return false;
+    }
+    if !bonds_ok(bonds, n, m) {
+        return false;
+    }
+    distinct(bonds, m)
+}
+
+// The tables are as long as they have to be.
+pub fn enough(atoms: &[i32], bonds: &[i32]) -> bool
+    ensures { λ r. ⌜ r ≡ enough (now (atoms .entry)) (now (bonds .entry)) ⌝ }
+{
+    (ATOM_CELLS * MAX_ATOMS <= atoms.len()) & (BOND_CELLS * MAX_BONDS <= bonds.len())
+}

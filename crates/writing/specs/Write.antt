@@ -1,0 +1,87 @@
+-- 01, Writing: the text and the renumbering of a molecule, the refusals 1, 13, 14, 15, 16, and what every answer leaves behind
+use Prim.Native.Nat.{ℕ, zero, suc, _+_, _-_}
+use mathlib.Core.Bool.{Bool, true, false, _&&_}
+use mathlib.Core.List.{List, [], _∷_, _++_}
+use lib.ListN.{length, replicate}
+use lib.IntN.{ℤ}
+use lib.Dec.{leb, ltb}
+use Rattle.loops.specs.Loop.{pick, upTo}
+use Rattle.table.specs.Limits.{maxAtoms, maxBonds}
+use Rattle.table.specs.Cells.{end1, end2, kind}
+use Rattle.table.specs.Valid.{valid, enough}
+use Rattle.state.specs.Limits.{maxDepth, bridges, maxText}
+use Rattle.walk.specs.Token.{Bond, bond, Tok, apart, along, ring, branch, back}
+use Rattle.walk.specs.Emit.{pre}
+use Rattle.walk.specs.Walk.{forestOf, place, write}
+use Rattle.walk.specs.Check.{nests}
+use Rattle.writing.specs.Spell.{atomBytes, tokensBytes}
+
+abbrev pub bondAt : List ℤ → ℕ → Bond
+bondAt bonds b = bond (end1 bonds b) (end2 bonds b) (kind bonds b)
+
+-- the bonds of a molecule, by ascending number
+abbrev pub bondList : List ℤ → ℕ → List Bond
+bondList bonds m = upTo (bondAt bonds) 0 m
+
+-- the tokens of the walk, with atom numbers
+unfoldable pub tokens : List ℤ → ℕ → ℕ → List Tok
+tokens bonds n m = write n (λ a. a) (bondList bonds m)
+
+-- the bytes of the walk
+unfoldable pub textOf : List ℤ → List ℤ → ℕ → ℕ → List ℕ
+textOf atoms bonds n m = tokensBytes (atomBytes atoms bonds m) (tokens bonds n m)
+
+-- "The renumbering gives each atom's walk number"
+unfoldable pub renumbering : List ℤ → ℕ → ℕ → List ℕ
+renumbering bonds n m = upTo (place (pre (forestOf n (bondList bonds m)))) 0 n
+
+-- 14: "the walk needs over 99 bridges open at once"; the places of bridges are counted from 0
+unfoldable pub fewBridges : List Tok → Bool
+fewBridges [] = true
+fewBridges (apart a ∷ ts) = fewBridges ts
+fewBridges (along k a ∷ ts) = fewBridges ts
+fewBridges (ring k r ∷ ts) = ltb (suc r) bridges && fewBridges ts
+fewBridges (branch ∷ ts) = fewBridges ts
+fewBridges (back ∷ ts) = fewBridges ts
+
+-- 15: "the written branches nest over 64 deep"
+abbrev pub shallow : List Tok → Bool
+shallow ts = nests maxAtoms maxBonds maxDepth ts 0
+
+-- what writing hands back: 0 with the length, or a code with the length 0; the output and the renumbering as they are then
+pub record Told : Type 0 where
+  pub code : ℕ
+  pub size : ℕ
+  pub output : List ℕ
+  pub numbers : List ℕ
+
+abbrev pub refused : ℕ → List ℕ → List ℕ → Told
+refused c out ren = record { code = c; size = 0; output = replicate (length out) 0; numbers = replicate (length ren) 0 }
+
+abbrev pub short : List ℕ → List ℕ → Told
+short out ren = record { code = 1; size = 0; output = out; numbers = ren }
+
+-- "An acceptance zeroes the unused rest"
+abbrev pub filled : List ℕ → ℕ → List ℕ
+filled l n = l ++ replicate (n - length l) 0
+
+abbrev pub accepted : List ℕ → List ℕ → List ℕ → List ℕ → Told
+accepted text order out ren =
+    record { code = 0; size = length text; output = filled text (length out); numbers = filled order (length ren) }
+
+-- "14, 15, 16 over the whole walk"
+unfoldable pub writeValid : List ℤ → List ℤ → ℕ → ℕ → List ℕ → List ℕ → Told
+writeValid atoms bonds n m out ren =
+    pick (fewBridges (tokens bonds n m))
+    (pick (shallow (tokens bonds n m))
+    (pick (leb (length (textOf atoms bonds n m)) maxText) (accepted (textOf atoms bonds n m) (renumbering bonds n m) out ren) (refused 16 out ren))
+    (refused 15 out ren))
+    (refused 14 out ren)
+
+abbrev pub lent : List ℤ → List ℤ → List ℕ → List ℕ → Bool
+lent atoms bonds out ren = enough atoms bonds && leb maxText (length out) && leb maxAtoms (length ren)
+
+-- 1, 13, then 14, 15, 16
+unfoldable pub writeOf : List ℤ → List ℤ → ℕ → ℕ → List ℕ → List ℕ → Told
+writeOf atoms bonds n m out ren =
+    pick (lent atoms bonds out ren) (pick (valid atoms bonds n m) (writeValid atoms bonds n m out ren) (refused 13 out ren)) (short out ren)

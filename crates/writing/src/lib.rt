@@ -1,0 +1,1 @@
+// Writing a molecule: definitions and theorems only.
