@@ -1,2 +1,2 @@
 pub mod Kekule
-pub mod Replay
+pub mod Calls

@@ -7,7 +7,7 @@ ghost use Rattle.matching.specs.Enumeration.{rowCall};
 ghost use Rattle.matching.specs.Model.{reply};
 ghost use Rattle.graph.specs.Graph.{matchingOf};
 ghost use Rattle.kekule.specs.Kekule.{foundOf, foundCode, callOf, out, outOf, roomy, callOn, isMatchingOf, askedOf, tables, kekulized, kekulizedOf, Counted};
-ghost use Rattle.kekule.specs.Replay.{replayed, replayedOf};
+ghost use Rattle.kekule.specs.Calls.{state, ranOf, replayed, replayedOf};
 use ids::BondId;
 use matching::Answer;
 use matching::Call;
@@ -72,14 +72,7 @@ fn roomy(atoms: &[i32], bonds: &[i32], len: usize) -> bool
 }
 
 // The search for one of the two calls, on valid tables.
-fn ask(
-    c: Call,
-    atoms: &[i32],
-    bonds: &[i32],
-    n: usize,
-    m: usize,
-    row: &mut [u8],
-) -> Answer
+fn ask(c: Call, atoms: &[i32], bonds: &[i32], n: usize, m: usize, row: &mut [u8]) -> Answer
     requires { ⌜ Valid (now atoms) (now bonds) n m ⌝ }
     requires { ⌜ m ≤ length (now row) ⌝ }
     ensures { λ r. ⌜ reply r (now (row .exit)) ≡ rowCall (matchingOf (now (atoms .entry)) (now (bonds .entry)) n m) m c (now (row .entry)) ⌝ }
@@ -153,7 +146,14 @@ pub fn is_matching_valid(atoms: &[i32], bonds: &[i32], n: usize, m: usize, row: 
     let mut eb = [0u16; MAX_BONDS];
     let mut el = [0u8; MAX_BONDS];
     graph::build(atoms, bonds, n, m, &mut flags, &mut ea, &mut eb, &mut el);
-    search::is_matching(&ea[..m], &eb[..m], &el[..m], &mut flags[..n], row, BondId(0))
+    search::is_matching(
+        &ea[..m],
+        &eb[..m],
+        &el[..m],
+        &mut flags[..n],
+        row,
+        BondId(0),
+    )
 }
 
 // Whether the row, up to the last bond, is a matching of the molecule; nothing changes. 1: a table or the row is too short,
@@ -197,5 +197,48 @@ pub fn kekulize(atoms: &mut [i32], bonds: &mut [i32], n: usize, m: usize, row: &
         return Check::Refused(Refusal::NotMatching);
     }
     kekulize_valid(atoms, bonds, n, m, row);
+    Check::Fine
+}
+
+// Makes the calls one after the other on a row, and stores the code of each answer.
+fn run_calls(
+    calls: &[u8],
+    atoms: &[i32],
+    bonds: &[i32],
+    n: usize,
+    m: usize,
+    row: &mut [u8],
+    codes: &mut [u8],
+)
+    requires { ⌜ length (now calls) ≤ length (now codes) ⌝ }
+    ensures { λ _. ⌜ state (now (row .exit)) (now (codes .exit)) ≡ ranOf (now (calls .entry)) (now (atoms .entry)) (now (bonds .entry)) n m (now (row .entry)) (now (codes .entry)) ⌝ }
+{
+    let mut i = 0;
+    while i < calls.len() {
+        let c = call_of(calls[i]);
+        codes[i] = found_code(call(c, atoms, bonds, n, m, row));
+        i += 1;
+    }
+}
+
+// Makes a list of calls on a row, 0 for the first matching and any other byte for the next. The codes of the answers, and the
+// row after the last, are those of the molecule's enumeration; so, over the beginnings of the list, is the row after each call.
+// 1: there is no cell for each code, and nothing changes; the cells past the codes are zeroed.
+pub fn replay(
+    calls: &[u8],
+    atoms: &[i32],
+    bonds: &[i32],
+    n: usize,
+    m: usize,
+    row: &mut [u8],
+    codes: &mut [u8],
+) -> Check
+    ensures { λ r. ⌜ replayed r (now (row .exit)) (now (codes .exit)) ≡ replayedOf (now (calls .entry)) (now (atoms .entry)) (now (bonds .entry)) n m (now (row .entry)) (now (codes .entry)) ⌝ }
+{
+    if codes.len() < calls.len() {
+        return Check::Refused(Refusal::Short);
+    }
+    run_calls(calls, atoms, bonds, n, m, row, codes);
+    search::clear(codes, calls.len());
     Check::Fine
 }

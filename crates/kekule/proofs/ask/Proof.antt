@@ -5,131 +5,97 @@ use Rattle.kekule.proofs.Kekule.{first-built, next-built}
 use borrow.Author.Needs.{needs}
 use Rattle.kekule.proofs.ask.Statement.{statement}
 use Rattle.kekule.proofs.ask.Tie as tie
-use Rattle.kekule.proofs.ask.Reads as reads
-use Rattle.kekule.proofs.ask.Lts as lts
-use Rattle.graph.proofs.build.Reads as build-reads
-use Rattle.search.proofs.first.Reads as first-reads
-use Rattle.search.proofs.next.Reads as next-reads
 
--- src/lib.rt:91:38
 slice-aggregate-build : tie.Need-slice-aggregate-build
 slice-aggregate-build c = search needs
 
--- src/lib.rt:91:50
 slice-aggregate-build-2 : tie.Need-slice-aggregate-build-2
 slice-aggregate-build-2 c = search needs
 
--- src/lib.rt:91:59
 slice-aggregate-build-3 : tie.Need-slice-aggregate-build-3
 slice-aggregate-build-3 c = search needs
 
--- src/lib.rt:91:68
 slice-aggregate-build-4 : tie.Need-slice-aggregate-build-4
 slice-aggregate-build-4 c = search needs
 
--- src/lib.rt:91:5
 build-requires : tie.Need-build-requires
 build-requires c κs = search needs
 
--- src/lib.rt:93:38
 enum-told : tie.Need-enum-told
 enum-told c = search needs
 
--- src/lib.rt:93:38
 array-share-prefix-ea : tie.Need-array-share-prefix-ea
 array-share-prefix-ea c = search needs
 
--- src/lib.rt:93:38
 slice-aggregate-first : tie.Need-slice-aggregate-first
 slice-aggregate-first c = sym (length-first (c .before .before .before .before .before .before .before .build .ensures))
 
--- src/lib.rt:93:48
 array-share-prefix-eb : tie.Need-array-share-prefix-eb
 array-share-prefix-eb c = search needs
 
--- src/lib.rt:93:48
 slice-aggregate-first-2 : tie.Need-slice-aggregate-first-2
 slice-aggregate-first-2 c = sym (length-second (c .before .before .before .before .before .before .before .before .build .ensures))
 
--- src/lib.rt:93:58
 array-share-prefix-el : tie.Need-array-share-prefix-el
 array-share-prefix-el c = search needs
 
--- src/lib.rt:93:58
 slice-aggregate-first-3 : tie.Need-slice-aggregate-first-3
 slice-aggregate-first-3 c = sym (length-elided (c .before .before .before .before .before .before .before .before .before .build .ensures))
 
--- src/lib.rt:93:68
 array-borrow-prefix-flags : tie.Need-array-borrow-prefix-flags
 array-borrow-prefix-flags c = search needs
 
--- src/lib.rt:93:68
 slice-aggregate-first-4 : tie.Need-slice-aggregate-first-4
 slice-aggregate-first-4 c = sym (length-flags (c .before .before .before .before .before .before .before .before .before .before .build .ensures))
 
--- src/lib.rt:93:24
 first-requires : tie.Need-first-requires
 first-requires c κs =
     let s = c .before .before .before .before .before .before .before .before .before .before .before .before .before .before .before .before .before in
     built-shape (c .before .before .before .before .before .before .before .before .before .before .before .build .ensures) (s .pre .0) (now (s .args .row)) (s .pre .1)
 
--- src/lib.rt:94:36
 enum-told-2 : tie.Need-enum-told-2
 enum-told-2 c = search needs
 
--- src/lib.rt:94:36
 array-share-prefix-ea-2 : tie.Need-array-share-prefix-ea-2
 array-share-prefix-ea-2 c = search needs
 
--- src/lib.rt:94:36
 slice-aggregate-next : tie.Need-slice-aggregate-next
 slice-aggregate-next c = sym (length-first (c .before .before .before .before .before .before .before .build .ensures))
 
--- src/lib.rt:94:46
 array-share-prefix-eb-2 : tie.Need-array-share-prefix-eb-2
 array-share-prefix-eb-2 c = search needs
 
--- src/lib.rt:94:46
 slice-aggregate-next-2 : tie.Need-slice-aggregate-next-2
 slice-aggregate-next-2 c = sym (length-second (c .before .before .before .before .before .before .before .before .build .ensures))
 
--- src/lib.rt:94:56
 array-share-prefix-el-2 : tie.Need-array-share-prefix-el-2
 array-share-prefix-el-2 c = search needs
 
--- src/lib.rt:94:56
 slice-aggregate-next-3 : tie.Need-slice-aggregate-next-3
 slice-aggregate-next-3 c = sym (length-elided (c .before .before .before .before .before .before .before .before .before .build .ensures))
 
--- src/lib.rt:94:66
 array-borrow-prefix-flags-2 : tie.Need-array-borrow-prefix-flags-2
 array-borrow-prefix-flags-2 c = search needs
 
--- src/lib.rt:94:66
 slice-aggregate-next-4 : tie.Need-slice-aggregate-next-4
 slice-aggregate-next-4 c = sym (length-flags (c .before .before .before .before .before .before .before .before .before .before .build .ensures))
 
--- src/lib.rt:94:23
 next-requires : tie.Need-next-requires
 next-requires c κs =
     let s = c .before .before .before .before .before .before .before .before .before .before .before .before .before .before .before .before .before in
     built-shape (c .before .before .before .before .before .before .before .before .before .before .before .build .ensures) (s .pre .0) (now (s .args .row)) (s .pre .1)
 
--- src/lib.rt:75:1
 same-length : tie.Need-same-length
 same-length c = search needs
 
--- src/lib.rt:75:1
 returns : tie.Need-returns
 returns c =
     let s = c .before .before .before .before .before .before .before .before .before .before .before .before .before .before .before .before .before .before .before .before .before in
     first-built (c .before .before .before .before .before .before .before .before .before .before .before .before .before .before .before .build .ensures) (s .args .c) (now (s .args .row)) (c .before .before .before .before .before .before .before .before .before .enum-told .given .1) (c .before .before .before .first .ensures .1)
 
--- src/lib.rt:75:1
 same-length-2 : tie.Need-same-length-2
 same-length-2 c = search needs
 
--- src/lib.rt:75:1
 returns-2 : tie.Need-returns-2
 returns-2 c =
     let s = c .before .before .before .before .before .before .before .before .before .before .before .before .before .before .before .before .before .before .before .before .before in

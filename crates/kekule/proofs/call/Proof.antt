@@ -4,53 +4,38 @@ use Rattle.kekule.proofs.Kekule.{held, failed, row-room, call-short, ca
 use borrow.Author.Needs.{needs}
 use Rattle.kekule.proofs.call.Statement.{statement}
 use Rattle.kekule.proofs.call.Tie as tie
-use Rattle.kekule.proofs.call.Reads as reads
-use Rattle.kekule.proofs.call.Lts as lts
-use Rattle.kekule.proofs.call_valid.Reads as call-valid-reads
-use Rattle.kekule.proofs.roomy.Reads as roomy-reads
-use Rattle.search.proofs.clear.Reads as clear-reads
-use Rattle.table.proofs.validity.valid.Reads as valid-reads
 
--- src/lib.rt:118:9
 roomy-requires : tie.Need-roomy-requires
 roomy-requires c κs = search needs
 
--- src/lib.rt:119:9
 returns : tie.Need-returns
 returns c =
     let a = c .before .before .before .args in
     call-short (a .c) (now (a .atoms)) (now (a .bonds)) (a .n) (a .m) (now (a .row)) (failed (c .before .roomy .ensures) (c .if1 .taken))
 
--- src/lib.rt:121:9
 valid-requires : tie.Need-valid-requires
 valid-requires c κs = search needs
 
--- src/lib.rt:122:9
 clear-requires : tie.Need-clear-requires
 clear-requires c κs = search needs
 
--- src/lib.rt:123:9
 same-length : tie.Need-same-length
 same-length c = search needs
 
--- src/lib.rt:123:9
 returns-2 : tie.Need-returns-2
 returns-2 c =
     let a = c .before .before .before .before .before .before .before .before .before .args in
     call-invalid (a .c) (now (a .atoms)) (now (a .bonds)) (a .n) (a .m) (now (a .row)) (held (c .before .before .before .before .before .before .before .roomy .ensures) (c .before .before .before .before .before .before .if1 .left)) (failed (c .before .before .before .before .before .valid .ensures) (c .before .before .before .before .if2 .taken)) (c .before .before .clear .ensures)
 
--- src/lib.rt:125:5
 call-valid-requires : tie.Need-call-valid-requires
 call-valid-requires c κs =
     let a = c .before .before .before .before .before .before .args in
     let v = facts (now (a .atoms)) (now (a .bonds)) (a .n) (a .m) (held (c .before .before .valid .ensures) (c .before .if2 .left)) in
     (v, row-room (now (a .atoms)) (now (a .bonds)) (a .n) (a .m) _ (held (c .before .before .before .before .roomy .ensures) (c .before .before .before .if1 .left)) v)
 
--- src/lib.rt:115:1
 same-length-2 : tie.Need-same-length-2
 same-length-2 c = search needs
 
--- src/lib.rt:115:1
 returns-3 : tie.Need-returns-3
 returns-3 c =
     let a = c .before .before .before .before .before .before .before .before .before .args in

@@ -2,14 +2,10 @@ use Rattle.kekule.proofs.Kekule.{call-next}
 use borrow.Author.Needs.{needs}
 use Rattle.kekule.proofs.call_of.Statement.{statement}
 use Rattle.kekule.proofs.call_of.Tie as tie
-use Rattle.kekule.proofs.call_of.Reads as reads
-use Rattle.kekule.proofs.call_of.Lts as lts
 
--- src/lib.rt:61:1
 returns : tie.Need-returns
 returns c = search needs
 
--- src/lib.rt:61:1
 returns-2 : tie.Need-returns-2
 returns-2 c = call-next (c .before .args .b) (c .if1 .left)
 

@@ -1,38 +1,28 @@
 use borrow.Author.Needs.{needs}
 use Rattle.kekule.proofs.found_of.Statement.{statement}
 use Rattle.kekule.proofs.found_of.Tie as tie
-use Rattle.kekule.proofs.found_of.Reads as reads
-use Rattle.kekule.proofs.found_of.Lts as lts
 
--- src/lib.rt:53:26
 enum-told : tie.Need-enum-told
 enum-told c = search needs
 
--- src/lib.rt:54:42
 enum-told-2 : tie.Need-enum-told-2
 enum-told-2 c = search needs
 
--- src/lib.rt:55:43
 enum-told-3 : tie.Need-enum-told-3
 enum-told-3 c = search needs
 
--- src/lib.rt:56:26
 enum-told-4 : tie.Need-enum-told-4
 enum-told-4 c = search needs
 
--- src/lib.rt:49:1
 returns : tie.Need-returns
 returns c = search needs
 
--- src/lib.rt:49:1
 returns-2 : tie.Need-returns-2
 returns-2 c = simp (c .enum-told2 .given .1)
 
--- src/lib.rt:49:1
 returns-3 : tie.Need-returns-3
 returns-3 c = simp (c .enum-told3 .given .1)
 
--- src/lib.rt:49:1
 returns-4 : tie.Need-returns-4
 returns-4 c = search needs
 

@@ -6,43 +6,31 @@ use Rattle.kekule.proofs.Kekule.{held, failed, row-room}
 use borrow.Author.Needs.{needs}
 use Rattle.kekule.proofs.is_matching.Statement.{statement}
 use Rattle.kekule.proofs.is_matching.Tie as tie
-use Rattle.kekule.proofs.is_matching.Reads as reads
-use Rattle.kekule.proofs.is_matching.Lts as lts
-use Rattle.kekule.proofs.is_matching_valid.Reads as is-matching-valid-reads
-use Rattle.kekule.proofs.roomy.Reads as roomy-reads
-use Rattle.table.proofs.validity.valid.Reads as valid-reads
 
--- src/lib.rt:164:9
 roomy-requires : tie.Need-roomy-requires
 roomy-requires c κs = search needs
 
--- src/lib.rt:165:9
 returns : tie.Need-returns
 unfolding askedOf
 returns c = simp (failed (c .before .roomy .ensures) (c .if1 .taken))
 
--- src/lib.rt:167:9
 valid-requires : tie.Need-valid-requires
 valid-requires c κs = search needs
 
--- src/lib.rt:168:9
 returns-2 : tie.Need-returns-2
 unfolding askedOf
 returns-2 c = simp (held (c .before .before .before .roomy .ensures) (c .before .before .if1 .left), failed (c .before .valid .ensures) (c .if2 .taken))
 
--- src/lib.rt:170:8
 is-matching-valid-requires : tie.Need-is-matching-valid-requires
 is-matching-valid-requires c κs =
     let a = c .before .before .before .before .before .args in
     let v = facts (now (a .atoms)) (now (a .bonds)) (a .n) (a .m) (held (c .before .valid .ensures) (c .if2 .left)) in
     (v, row-room (now (a .atoms)) (now (a .bonds)) (a .n) (a .m) _ (held (c .before .before .before .roomy .ensures) (c .before .before .if1 .left)) v)
 
--- src/lib.rt:171:9
 returns-3 : tie.Need-returns-3
 unfolding askedOf
 returns-3 c = simp (held (c .before .before .before .before .before .roomy .ensures) (c .before .before .before .before .if1 .left), held (c .before .before .before .valid .ensures) (c .before .before .if2 .left), sym (c .before .is-matching-valid .ensures) ∙ c .if3 .taken)
 
--- src/lib.rt:161:1
 returns-4 : tie.Need-returns-4
 unfolding askedOf
 returns-4 c = simp (held (c .before .before .before .before .before .roomy .ensures) (c .before .before .before .before .if1 .left), held (c .before .before .before .valid .ensures) (c .before .before .if2 .left), sym (c .before .is-matching-valid .ensures) ∙ c .if3 .left)

@@ -5,70 +5,51 @@ use Rattle.kekule.proofs.Kekule.{matching-built}
 use borrow.Author.Needs.{needs}
 use Rattle.kekule.proofs.is_matching_valid.Statement.{statement}
 use Rattle.kekule.proofs.is_matching_valid.Tie as tie
-use Rattle.kekule.proofs.is_matching_valid.Reads as reads
-use Rattle.kekule.proofs.is_matching_valid.Lts as lts
-use Rattle.graph.proofs.build.Reads as build-reads
-use Rattle.search.proofs.is_matching.Reads as is-matching-reads
 
--- src/lib.rt:155:38
 slice-aggregate-build : tie.Need-slice-aggregate-build
 slice-aggregate-build c = search needs
 
--- src/lib.rt:155:50
 slice-aggregate-build-2 : tie.Need-slice-aggregate-build-2
 slice-aggregate-build-2 c = search needs
 
--- src/lib.rt:155:59
 slice-aggregate-build-3 : tie.Need-slice-aggregate-build-3
 slice-aggregate-build-3 c = search needs
 
--- src/lib.rt:155:68
 slice-aggregate-build-4 : tie.Need-slice-aggregate-build-4
 slice-aggregate-build-4 c = search needs
 
--- src/lib.rt:155:5
 build-requires : tie.Need-build-requires
 build-requires c κs = search needs
 
--- src/lib.rt:156:25
 array-share-prefix-ea : tie.Need-array-share-prefix-ea
 array-share-prefix-ea c = search needs
 
--- src/lib.rt:156:25
 slice-aggregate-is-matching : tie.Need-slice-aggregate-is-matching
 slice-aggregate-is-matching c = sym (length-first (c .before .before .before .before .before .build .ensures))
 
--- src/lib.rt:156:35
 array-share-prefix-eb : tie.Need-array-share-prefix-eb
 array-share-prefix-eb c = search needs
 
--- src/lib.rt:156:35
 slice-aggregate-is-matching-2 : tie.Need-slice-aggregate-is-matching-2
 slice-aggregate-is-matching-2 c = sym (length-second (c .before .before .before .before .before .before .build .ensures))
 
--- src/lib.rt:156:45
 array-share-prefix-el : tie.Need-array-share-prefix-el
 array-share-prefix-el c = search needs
 
--- src/lib.rt:156:45
 slice-aggregate-is-matching-3 : tie.Need-slice-aggregate-is-matching-3
 slice-aggregate-is-matching-3 c = sym (length-elided (c .before .before .before .before .before .before .before .build .ensures))
 
--- src/lib.rt:156:55
 array-borrow-prefix-flags : tie.Need-array-borrow-prefix-flags
 array-borrow-prefix-flags c = search needs
 
--- src/lib.rt:156:55
 slice-aggregate-is-matching-4 : tie.Need-slice-aggregate-is-matching-4
 slice-aggregate-is-matching-4 c = sym (length-flags (c .before .before .before .before .before .before .before .before .build .ensures))
 
--- src/lib.rt:156:5
 is-matching-requires : tie.Need-is-matching-requires
 is-matching-requires c κs =
     let s = c .before .before .before .before .before .before .before .before .before .before .before .before .before .before in
     built-shape (c .before .before .before .before .before .before .before .before .build .ensures) (s .pre .0) (now (s .args .row)) (s .pre .1)
 
--- src/lib.rt:146:1
 returns : tie.Need-returns
 returns c = c .before .is-matching .ensures .0 ∙ matching-built (c .before .before .before .before .before .before .before .before .before .before .build .ensures) (now (c .before .before .before .before .before .before .before .before .before .before .before .before .before .before .before .before .args .row))
 

@@ -4,86 +4,64 @@ use Rattle.kekule.proofs.Kekule.{held, failed, row-room, kekulize-short
 use borrow.Author.Needs.{needs}
 use Rattle.kekule.proofs.kekulize.Statement.{statement}
 use Rattle.kekule.proofs.kekulize.Tie as tie
-use Rattle.kekule.proofs.kekulize.Reads as reads
-use Rattle.kekule.proofs.kekulize.Lts as lts
-use Rattle.kekule.proofs.is_matching_valid.Reads as is-matching-valid-reads
-use Rattle.kekule.proofs.kekulize_valid.Reads as kekulize-valid-reads
-use Rattle.kekule.proofs.roomy.Reads as roomy-reads
-use Rattle.table.proofs.validity.valid.Reads as valid-reads
 
--- src/lib.rt:190:9
 roomy-requires : tie.Need-roomy-requires
 roomy-requires c κs = search needs
 
--- src/lib.rt:191:9
 same-length : tie.Need-same-length
 same-length c = search needs
 
--- src/lib.rt:191:9
 same-length-2 : tie.Need-same-length-2
 same-length-2 c = search needs
 
--- src/lib.rt:191:9
 returns : tie.Need-returns
 returns c =
     let a = c .before .before .before .before .before .args in
     kekulize-short (now (a .atoms)) (now (a .bonds)) (a .n) (a .m) (now (a .row)) (failed (c .before .roomy .ensures) (c .if1 .taken))
 
--- src/lib.rt:193:9
 valid-requires : tie.Need-valid-requires
 valid-requires c κs = search needs
 
--- src/lib.rt:194:9
 same-length-3 : tie.Need-same-length-3
 same-length-3 c = search needs
 
--- src/lib.rt:194:9
 same-length-4 : tie.Need-same-length-4
 same-length-4 c = search needs
 
--- src/lib.rt:194:9
 returns-2 : tie.Need-returns-2
 returns-2 c =
     let a = c .before .before .before .before .before .before .before .before .before .args in
     kekulize-invalid (now (a .atoms)) (now (a .bonds)) (a .n) (a .m) (now (a .row)) (held (c .before .before .before .before .before .roomy .ensures) (c .before .before .before .before .if1 .left)) (failed (c .before .valid .ensures) (c .if2 .taken))
 
--- src/lib.rt:196:9
 is-matching-valid-requires : tie.Need-is-matching-valid-requires
 is-matching-valid-requires c κs =
     let a = c .before .before .before .before .before .before .before .before .before .before .before .args in
     let v = facts (now (a .atoms)) (now (a .bonds)) (a .n) (a .m) (held (c .before .before .before .valid .ensures) (c .before .before .if2 .left)) in
     (v, row-room (now (a .atoms)) (now (a .bonds)) (a .n) (a .m) _ (held (c .before .before .before .before .before .before .before .roomy .ensures) (c .before .before .before .before .before .before .if1 .left)) v)
 
--- src/lib.rt:197:9
 same-length-5 : tie.Need-same-length-5
 same-length-5 c = search needs
 
--- src/lib.rt:197:9
 same-length-6 : tie.Need-same-length-6
 same-length-6 c = search needs
 
--- src/lib.rt:197:9
 returns-3 : tie.Need-returns-3
 returns-3 c =
     let a = c .before .before .before .before .before .before .before .before .before .before .before .before .before .args in
     kekulize-wrong (now (a .atoms)) (now (a .bonds)) (a .n) (a .m) (now (a .row)) (held (c .before .before .before .before .before .before .before .before .before .roomy .ensures) (c .before .before .before .before .before .before .before .before .if1 .left)) (held (c .before .before .before .before .before .valid .ensures) (c .before .before .before .before .if2 .left)) (failed (c .before .is-matching-valid .ensures) (c .if3 .taken))
 
--- src/lib.rt:199:5
 kekulize-valid-requires : tie.Need-kekulize-valid-requires
 kekulize-valid-requires c κs =
     let a = c .before .before .before .before .before .before .before .before .before .before .before .before .before .before .before .args in
     let v = facts (now (a .atoms)) (now (a .bonds)) (a .n) (a .m) (held (c .before .before .before .before .before .before .before .valid .ensures) (c .before .before .before .before .before .before .if2 .left)) in
     record { few-atoms = v .few-atoms; few-bonds = v .few-bonds; room = row-room (now (a .atoms)) (now (a .bonds)) (a .n) (a .m) _ (held (c .before .before .before .before .before .before .before .before .before .before .before .roomy .ensures) (c .before .before .before .before .before .before .before .before .before .before .if1 .left)) v }
 
--- src/lib.rt:187:1
 same-length-7 : tie.Need-same-length-7
 same-length-7 c = search needs
 
--- src/lib.rt:187:1
 same-length-8 : tie.Need-same-length-8
 same-length-8 c = search needs
 
--- src/lib.rt:187:1
 returns-4 : tie.Need-returns-4
 returns-4 c =
     let a = c .before .before .before .before .before .before .before .before .before .before .before .before .before .before .before .before .before .before .args in

@@ -1,10 +1,10 @@
 -- 01, The book: what a list of calls on tables and a row gives, from the enumeration of the molecule
 use Prim.Native.Nat.{ℕ, _-_}
 use mathlib.Core.List.{List, [], _∷_, _++_, map}
-use lib.ListN.{length, replicate}
+use lib.ListN.{length, getD, set, replicate}
 use lib.IntN.{ℤ}
 use lib.Dec.{leb}
-use Rattle.loops.specs.Loop.{pick}
+use Rattle.loops.specs.Loop.{pick, run}
 use Rattle.refusal.specs.declared.Refusal.the-variants.{Short, Invalid}
 use Rattle.table.specs.Valid.{valid}
 use Rattle.table.specs.declared.Check.{Check}
@@ -13,7 +13,7 @@ use Rattle.matching.specs.Graph.{enumeration}
 use Rattle.matching.specs.declared.Call.{Call}
 use Rattle.graph.specs.Graph.{delocalizedFlags, graphOf}
 use Rattle.kekule.specs.declared.Found.the-variants.{Refused}
-use Rattle.kekule.specs.Kekule.{Out, out, outOf, foundCode, callOf, roomy}
+use Rattle.kekule.specs.Kekule.{Out, out, outOf, foundCode, callOf, roomy, callOn}
 
 -- what the enumeration of the molecule gives to the calls; each call gives 1 where a buffer is too short, 13 on tables that are not valid
 unfoldable pub repliesOf : List Call → List ℤ → List ℤ → ℕ → ℕ → List ℕ → List Out
@@ -48,3 +48,21 @@ replayedOf calls atoms bonds n m row codes =
     pick (leb (length calls) (length codes))
     (replayed Fine (lastRow row os) (codesOf os ++ replicate (length codes - length calls) 0))
     (replayed (checkRefused Short) row codes)
+
+-- The calls one after the other, each seeing its row alone: what the loop over the calls computes
+
+pub record State : Type 0 where
+  pub row : List ℕ
+  pub codes : List ℕ
+
+abbrev pub state : List ℕ → List ℕ → State
+state row codes = record { row = row; codes = codes }
+
+-- the call i: f answers it, its code is stored, and its row is handed on
+abbrev pub callStep : (Call → List ℕ → Out) → List ℕ → ℕ → State → State
+callStep f calls i s =
+    let o = f (callOf (getD calls i 0)) (s .row) in
+    state (o .row) (set (s .codes) i (foundCode (o .found)))
+
+unfoldable pub ranOf : List ℕ → List ℤ → List ℤ → ℕ → ℕ → List ℕ → List ℕ → State
+ranOf calls atoms bonds n m row codes = run (callStep (λ c r. callOn c atoms bonds n m r) calls) 0 (length calls) (state row codes)
