@@ -45,7 +45,7 @@ one : (n : ℕ) → ltb n 10 ≡ true → decimal n ≡ digitByte n ∷ []
 unfolding decimal
 one n e = rw e
 
-two : (n : ℕ) → ltb n 10 ≡ false → ltb n 100 ≡ true → decimal n ≡ digitByte (n / 10) ∷ digitByte (n % 10) ∷ []
+pub two : (n : ℕ) → ltb n 10 ≡ false → ltb n 100 ≡ true → decimal n ≡ digitByte (n / 10) ∷ digitByte (n % 10) ∷ []
 unfolding decimal
 two n e f = rw (e, f)
 

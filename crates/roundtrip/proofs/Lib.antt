@@ -6,3 +6,4 @@ pub mod Cells
 pub mod Letters
 pub mod Atoms
 pub mod Held
+pub mod Simulation
