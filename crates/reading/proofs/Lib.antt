@@ -8,3 +8,5 @@ pub mod Atoms
 pub mod InBracket
 pub mod Joints
 pub mod Step
+pub mod Hydrogens
+pub mod Valid
