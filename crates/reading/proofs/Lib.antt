@@ -10,3 +10,4 @@ pub mod Joints
 pub mod Step
 pub mod Hydrogens
 pub mod Valid
+pub mod Refusals
