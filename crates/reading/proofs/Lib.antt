@@ -11,3 +11,4 @@ pub mod Step
 pub mod Hydrogens
 pub mod Valid
 pub mod Refusals
+pub mod Outcome
