@@ -12,3 +12,4 @@ pub mod Hydrogens
 pub mod Valid
 pub mod Refusals
 pub mod Outcome
+pub mod Leftmost
