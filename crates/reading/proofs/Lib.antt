@@ -13,3 +13,4 @@ pub mod Valid
 pub mod Refusals
 pub mod Outcome
 pub mod Leftmost
+pub mod Claims
