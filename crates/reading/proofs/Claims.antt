@@ -4,10 +4,10 @@ use native.Mathlib.Omega.{arith}
 use native.Mathlib.Decide.{ℕ-discrete}
 use mathlib.Core.Path.{_≡_, refl, sym, ap, subst, _∙_}
 use mathlib.Core.Bool.{Bool, true, false}
-use mathlib.Core.Logic.{_⊎_, inl, inr}
+use mathlib.Core.Logic.{_⊎_, inl, inr, _↔_}
 use mathlib.Core.List.{List, _++_}
 use lib.ListN.{length, getD, take, drop, take-append-drop}
-use lib.Seq.{take-take}
+use lib.Seq.{take-take, take-length}
 use lib.IntN.{ℤ, pos}
 use lib.Dec.{eqb, leb, ltb}
 use borrow.Author.Tests.{le-leb, le-ltb}
@@ -35,7 +35,7 @@ use Rattle.reading.proofs.Step.{sane-text}
 use Rattle.reading.proofs.Hydrogens.{withHydrogens, hydrogenated-other, row-given, row-kept}
 use Rattle.reading.proofs.Valid.{sane-valid}
 use Rattle.reading.proofs.Refusals.{Why, Code, why, act-code, code-of, never-3, in-time}
-use Rattle.reading.proofs.Leftmost.{LeftmostOpening, leftmost-open, none-open}
+use Rattle.reading.proofs.Leftmost.{LeftmostOpening, closed-none, leftmost-open, none-open}
 use Rattle.reading.proofs.Outcome.{bytesRead, Fits, atomsOf, accepted, Outcome, outcome}
 
 -- the row of the atom a of an accepted text, given what stood in the table after its last byte
@@ -201,3 +201,117 @@ module _ (s : List ℕ) (atoms bonds : List ℤ) where
       go t (Outcome.unclosed g e a l) f = of-text t (is-text e a) (λ z. omega arith)
       go t (Outcome.unmatched g e a l m) f = of-text t (is-text e a) (λ z. omega arith)
       go t (Outcome.accepts g e a l m) f = of-text t (is-text e a) (λ z. omega arith)
+
+  -- ---- the first refusal
+  shorter-goes : (p k : ℕ) {σ : State} {μ : Memory} → p ≤ k → bytesRead (take k s) atoms bonds ≡ going σ μ → Goes (bytesRead (take p s) atoms bonds)
+  shorter-goes p k {σ} {μ} h e =
+      let f : take p (take k s) ++ drop p (take k s) ≡ take k s = take-append-drop p (take k s) in
+      let g : take p (take k s) ≡ take p s = take-take p k s h in
+      let i : bytesRead (take p (take k s) ++ drop p (take k s)) atoms bonds ≡ going σ μ = rw f e in
+      rw g at (prefix-goes act (take p (take k s)) (drop p (take k s)) 0 (going start (beginning (zeros atoms) (zeros bonds))) i)
+
+  -- 3 to 9: the bytes before are read without a refusal, and there the checks are asked in 01's order
+  pub data FirstRefusal : ℕ → ℕ → Type 0 where
+    grammar : {p : ℕ} {σ : State} {μ : Memory} → p < length s → bytesRead (take p s) atoms bonds ≡ going σ μ → alive (step σ (getD s p 0)) ≡ false → FirstRefusal 3 p
+    ending : {σ : State} {μ : Memory} → bytesRead s atoms bonds ≡ going σ μ → accepting σ ≡ false → FirstRefusal 3 (length s)
+    limit : {c p : ℕ} {σ : State} {μ : Memory} (k : ℕ) → k < length s → p ≤ k → bytesRead (take k s) atoms bonds ≡ going σ μ → alive (step σ (getD s k 0)) ≡ true → Why σ (getD s k 0) k μ c p → FirstRefusal c p
+
+  halted-first : (c p : ℕ) → bytesRead s atoms bonds ≡ halted c p → FirstRefusal c p
+  halted-first c p e = split (read-halts act s 0 start (beginning (zeros atoms) (zeros bonds)) c p e)
+    where
+      split : Halts act 0 (going start (beginning (zeros atoms) (zeros bonds))) s c p → FirstRefusal c p
+      split (Halts.by-grammar k τ ν l g a q h) =
+          let f : k ≡ p = omega arith in
+          subst (λ x. FirstRefusal x p) (sym q) (subst (FirstRefusal 3) f (FirstRefusal.grammar l g a))
+      split (Halts.by-action k τ ν l g a x) =
+          let z : 0 + k ≡ k = omega arith in
+          let w : Why τ (getD s k 0) k ν c p = rw z at (why τ (getD s k 0) (0 + k) ν c p x) in
+          FirstRefusal.limit k l (code-of w .early) g a w
+
+  pub first-refusal : 3 ≤ readOf s atoms bonds .code → readOf s atoms bonds .code ≤ 9 → FirstRefusal (readOf s atoms bonds .code) (readOf s atoms bonds .offset)
+  first-refusal = go (readOf s atoms bonds) (outcome s atoms bonds)
+    where
+      go : (t : Told) → Outcome s atoms bonds t → 3 ≤ t .code → t .code ≤ 9 → FirstRefusal (t .code) (t .offset)
+      go t (Outcome.too-short e) l h = absurd (omega arith)
+      go t (Outcome.too-long e n) l h = absurd (omega arith)
+      go t (Outcome.halts {c} {p} f e) l h = halted-first c p e
+      go t (Outcome.unfinished f e a) l h = FirstRefusal.ending e a
+      go t (Outcome.unclosed f e a n) l h = absurd (omega arith)
+      go t (Outcome.unmatched f e a n m) l h = absurd (omega arith)
+      go t (Outcome.accepts f e a n m) l h = absurd (omega arith)
+
+  -- so no refusal has a smaller offset
+  pub nothing-before : {c p : ℕ} → FirstRefusal c p → Goes (bytesRead (take p s) atoms bonds)
+  nothing-before (FirstRefusal.grammar {p} l e a) = shorter-goes p p (omega arith) e
+  nothing-before (FirstRefusal.ending {σ} {μ} e a) = shorter-goes (length s) (length s) {σ = σ} {μ = μ} (omega arith) (rw (take-length s) e)
+  nothing-before (FirstRefusal.limit {p = p} k l h e a w) = shorter-goes p k h e
+
+  -- ---- 10 and 11
+
+  -- the text was read to its end
+  pub record Read (σ : State) (μ : Memory) : Type 0 where
+    pub fits : Fits s atoms bonds
+    pub reached : bytesRead s atoms bonds ≡ going σ μ
+    pub ends : accepting σ ≡ true
+
+  -- 10: the offset is the leftmost opening of a bridge that is still open
+  pub record Unclosed (p : ℕ) : Type 0 where
+    pub state : State
+    pub memory : Memory
+    pub reads : Read state memory
+    pub leftmost : LeftmostOpening (memory .st .opener) (memory .st .offset) p
+
+  pub read-unclosed : readOf s atoms bonds .code ≡ 10 → Unclosed (readOf s atoms bonds .offset)
+  read-unclosed = go (readOf s atoms bonds) (outcome s atoms bonds)
+    where
+      go : (t : Told) → Outcome s atoms bonds t → t .code ≡ 10 → Unclosed (t .offset)
+      go t (Outcome.too-short e) z = absurd (omega arith)
+      go t (Outcome.too-long e l) z = absurd (omega arith)
+      go t (Outcome.halts f e) z = let h = halt-code e in absurd (omega arith)
+      go t (Outcome.unfinished f e a) z = absurd (omega arith)
+      go t (Outcome.unclosed {σ} {μ} f e a l) z =
+          record { state = σ; memory = μ; reads = record { fits = f; reached = e; ends = a }; leftmost = leftmost-open (μ .st .opener) (μ .st .offset) (read-sane f e .steering .opener-length) l }
+      go t (Outcome.unmatched f e a l m) z = absurd (omega arith)
+      go t (Outcome.accepts f e a l m) z = absurd (omega arith)
+
+  -- 11: no bridge is open, and the molecule read has no matching
+  pub record Unmatched : Type 0 where
+    pub state : State
+    pub memory : Memory
+    pub reads : Read state memory
+    pub no-open-bridge : (r : ℕ) → getD (memory .st .opener) r 0 ≡ 0
+    pub none : matchable (atomsOf memory) (memory .bonds) (memory .st .atoms) (memory .st .bonds) ≡ false
+
+  read-unmatched : readOf s atoms bonds .code ≡ 11 → Unmatched
+  read-unmatched = go (readOf s atoms bonds) (outcome s atoms bonds)
+    where
+      go : (t : Told) → Outcome s atoms bonds t → t .code ≡ 11 → Unmatched
+      go t (Outcome.too-short e) z = absurd (omega arith)
+      go t (Outcome.too-long e l) z = absurd (omega arith)
+      go t (Outcome.halts f e) z = let h = halt-code e in absurd (omega arith)
+      go t (Outcome.unfinished f e a) z = absurd (omega arith)
+      go t (Outcome.unclosed f e a l) z = absurd (omega arith)
+      go t (Outcome.unmatched {σ} {μ} f e a l m) z =
+          let w = read-sane f e in
+          record {
+            state = σ;
+            memory = μ;
+            reads = record { fits = f; reached = e; ends = a };
+            no-open-bridge = none-open (μ .st .opener) (μ .st .offset) (w .steering .opener-length) (early f w) l;
+            none = m;
+          }
+      go t (Outcome.accepts f e a l m) z = absurd (omega arith)
+
+  unmatched-read : Unmatched → readOf s atoms bonds .code ≡ 11
+  unfolding readOf readFrom ended
+  unmatched-read u =
+      let μ = u .memory in
+      let room = u .reads .fits .room in
+      let size = le-leb (length s) maxText (u .reads .fits .short) in
+      let last = u .reads .reached in
+      let ends = u .reads .ends in
+      let none = le-ltb (leftmost (μ .st .opener) (μ .st .offset)) maxText (closed-none (μ .st .opener) (μ .st .offset) (u .no-open-bridge)) in
+      rw (room, size, last, ends, none, u .none)
+
+  pub unmatched-iff : (readOf s atoms bonds .code ≡ 11) ↔ Unmatched
+  unmatched-iff = (read-unmatched, unmatched-read)

@@ -68,6 +68,15 @@ module _ (opener offset : List ℕ) where
     pub opening : getD offset number 0 ≡ p
     pub least : (r : ℕ) → Open opener r → p ≤ getD offset r 0
 
+  -- where every bridge is closed there is none
+  pub closed-none : ((r : ℕ) → getD opener r 0 ≡ 0) → maxText ≤ leftmost opener offset
+  unfolding leftmost
+  closed-none f = split (lowest bridges 0 maxText .told)
+    where
+      split : (leftmost opener offset ≡ maxText) ⊎ ((r : ℕ) × (Open opener r) × (getD offset r 0 ≡ leftmost opener offset)) → maxText ≤ leftmost opener offset
+      split (inl e) = omega arith
+      split (inr w) = absurd (omega (arith, f (w .0), w .1))
+
   module _ (size : length opener ≡ bridges) where
     in-range : (r : ℕ) → Open opener r → r < bridges
     in-range r o = split (decLt r bridges)
