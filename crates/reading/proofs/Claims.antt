@@ -1,26 +1,24 @@
 -- What reading promises, beside its definition: valid tables, hydrogens, the grammar, the first refusal, 10 and 11. Assumes nothing.
-use Prim.Native.Nat.{ℕ, zero, suc, _+_, _*_, _≤_, _<_}
+use Prim.Native.Nat.{ℕ, _+_, _*_, _≤_, _<_}
 use native.Mathlib.Omega.{arith}
 use native.Mathlib.Decide.{ℕ-discrete}
 use mathlib.Core.Path.{_≡_, refl, sym, ap, subst, _∙_}
-use mathlib.Core.Bool.{Bool, true, false}
+use mathlib.Core.Bool.{true, false}
 use mathlib.Core.Logic.{_⊎_, inl, inr, _↔_}
 use mathlib.Core.List.{List, _++_}
 use lib.ListN.{length, getD, take, drop, take-append-drop}
 use lib.Seq.{take-take, take-length}
 use lib.IntN.{ℤ, pos}
-use lib.Dec.{eqb, leb, ltb}
 use borrow.Author.Tests.{le-leb, le-ltb}
-use Rattle.loops.specs.Loop.{pick}
 use Rattle.valence.specs.Valence.{implied}
 use Rattle.grammar.specs.Grammar.{Text}
 use Rattle.grammar.specs.Place.{Place}
 use Rattle.grammar.specs.declared.State.{State}
 use Rattle.grammar.specs.declared.State.the-variants.{Start as start}
 use Rattle.grammar.specs.Machine.{step, alive, accepting}
-use Rattle.grammar.specs.Fold.{Reading, going, halted, refuses, read, Answer, good, bad, finish, answer}
+use Rattle.grammar.specs.Fold.{Reading, going, halted, bad, finish, answer}
 use Rattle.grammar.proofs.Viable.{place-unique, text-no-place}
-use Rattle.grammar.proofs.Fold.{Goes, goes, prefix-goes, Halts, read-halts, good-text, bad-3, other-first}
+use Rattle.grammar.proofs.Fold.{Goes, prefix-goes, Halts, read-halts, good-text, bad-3, other-first}
 use Rattle.table.specs.Limits.{atomCells, ELEMENT, SELECTED, HYDROGENS}
 use Rattle.table.specs.Cells.{atomPlace, element, selected}
 use Rattle.table.specs.Rows.{atomRow}
@@ -34,7 +32,7 @@ use Rattle.reading.proofs.Sane.{Sane, SaneReading}
 use Rattle.reading.proofs.Step.{sane-text}
 use Rattle.reading.proofs.Hydrogens.{withHydrogens, hydrogenated-other, row-given, row-kept}
 use Rattle.reading.proofs.Valid.{sane-valid}
-use Rattle.reading.proofs.Refusals.{Why, Code, why, act-code, code-of, never-3, in-time}
+use Rattle.reading.proofs.Refusals.{Why, why, act-code, code-of, never-3, in-time}
 use Rattle.reading.proofs.Leftmost.{LeftmostOpening, closed-none, leftmost-open, none-open}
 use Rattle.reading.proofs.Outcome.{bytesRead, Fits, atomsOf, accepted, Outcome, outcome}
 
