@@ -3,20 +3,19 @@ use mathlib.Core.Path.{_≡_, refl, sym, ap, subst, _∙_}
 use mathlib.Core.Bool.{Bool, true, false}
 use mathlib.Core.List.{List, [], _∷_, _++_, append-assoc}
 use mathlib.Core.Logic.{_≢_}
-use Prim.Native.Nat.{ℕ, zero, suc, _+_, _≤_, _<_}
+use Prim.Native.Nat.{ℕ, suc, _+_, _≤_, _<_}
 use native.Mathlib.Omega.{arith}
 use native.Mathlib.Decide.{decLt}
 use native.Mathlib.Nat.{add-zero}
 use lib.ListN.{length, getD, take, drop, take-append-drop}
 use lib.Seq.{take-take}
 use Rattle.grammar.specs.Grammar.{pick, Text}
-use Rattle.grammar.specs.Machine.{State, dead, start, at, step, run, alive, accepting, reach, Verdict, fine, refused, verdict}
+use Rattle.grammar.specs.Machine.{State, start, step, run, alive, accepting, reach}
 use Rattle.grammar.specs.Place.{Viable, Place}
 use Rattle.grammar.proofs.Sound.{sound}
 use Rattle.grammar.proofs.Complete.{complete}
-use Rattle.grammar.proofs.Ends.{never}
-use Rattle.grammar.proofs.Viable.{viable, live, reach-from, apart, reach-place, place-unique, text-no-place, refused-iff, fine-iff}
-use Rattle.grammar.specs.Fold.{Act, keeps, refuses, Action, Reading, going, halted, after, feed, read, Answer, good, bad, finish, answer}
+use Rattle.grammar.proofs.Viable.{viable, live, reach-from, apart, reach-place}
+use Rattle.grammar.specs.Fold.{Act, keeps, refuses, Action, Reading, going, halted, after, feed, read, good, bad, finish, answer}
 
 prefix-viable : (i : ℕ) (s : List ℕ) → Viable s → Viable (take i s)
 prefix-viable i s v = (drop i s ++ v .0, subst Text (ap (λ (l : List ℕ). l ++ v .0) (sym (take-append-drop i s)) ∙ append-assoc (take i s) (drop i s) (v .0)) (v .1))

@@ -2,7 +2,7 @@
 use Prim.Native.Nat.{ℕ, zero, suc, _+_, _≤_, _<_}
 use native.Mathlib.Omega.{arith}
 use native.Mathlib.Decide.{ℕ-discrete, decLt}
-use mathlib.Core.Path.{_≡_, refl, sym, ap, subst, _∙_}
+use mathlib.Core.Path.{_≡_, refl, sym, _∙_}
 use mathlib.Core.Bool.{Bool, true, false}
 use mathlib.Core.Logic.{_⊎_, inl, inr}
 use mathlib.Core.List.{List}
@@ -67,6 +67,15 @@ module _ (opener offset : List ℕ) where
     pub still-open : Open opener number
     pub opening : getD offset number 0 ≡ p
     pub least : (r : ℕ) → Open opener r → p ≤ getD offset r 0
+
+  -- where every bridge is closed there is none
+  pub closed-none : ((r : ℕ) → getD opener r 0 ≡ 0) → maxText ≤ leftmost opener offset
+  unfolding leftmost
+  closed-none f = split (lowest bridges 0 maxText .told)
+    where
+      split : (leftmost opener offset ≡ maxText) ⊎ ((r : ℕ) × (Open opener r) × (getD offset r 0 ≡ leftmost opener offset)) → maxText ≤ leftmost opener offset
+      split (inl e) = omega arith
+      split (inr w) = absurd (omega (arith, f (w .0), w .1))
 
   module _ (size : length opener ≡ bridges) where
     in-range : (r : ℕ) → Open opener r → r < bridges

@@ -1,7 +1,6 @@
 -- The seven ways in which reading ends, each with all the checks that it passed. Assumes nothing.
-use Prim.Native.Nat.{ℕ, zero, suc, _≤_, _<_}
-use native.Mathlib.Omega.{arith}
-use mathlib.Core.Path.{_≡_, refl, sym, ap, subst, _∙_}
+use Prim.Native.Nat.{ℕ, _≤_, _<_}
+use mathlib.Core.Path.{_≡_, refl}
 use mathlib.Core.Bool.{Bool, true, false}
 use mathlib.Core.List.{List}
 use lib.ListN.{length}
@@ -18,7 +17,7 @@ use Rattle.graph.specs.Graph.{matchable}
 use Rattle.state.specs.Limits.{maxText}
 use Rattle.reading.specs.Memory.{Memory}
 use Rattle.reading.specs.Act.{act}
-use Rattle.reading.specs.Read.{Told, zeros, refused, short, beginning, hydrogenated, leftmost, placed, ended, finished, readFrom, readOf}
+use Rattle.reading.specs.Read.{Told, zeros, refused, short, beginning, hydrogenated, leftmost, ended, finished, readFrom, readOf}
 
 -- the reading of a text's bytes into zeroed tables
 abbrev pub bytesRead : List ℕ → List ℤ → List ℤ → Reading Memory
