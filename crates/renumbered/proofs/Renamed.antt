@@ -2,7 +2,7 @@
 use mathlib.Core.Path.{_≡_, refl, sym, ap, _∙_}
 use mathlib.Core.Bool.{Bool, true, false, _&&_, _||_, not, cond}
 use mathlib.Core.List.{List, [], _∷_, map}
-use Prim.Native.Nat.{ℕ, zero, suc, _+_, _≤_, _<_}
+use Prim.Native.Nat.{ℕ, zero, suc, _+_, _<_}
 use native.Mathlib.Omega.{arith}
 use native.Mathlib.Nat.{zero-add}
 use lib.Dec.{eqb, ltb}
@@ -11,7 +11,7 @@ use lib.Seq.{split-at, length-take-le}
 use borrow.Author.Tests.{ne-eqb, eq-eqb, eqb-true, ltb-true, ltb-false}
 use Rattle.loops.specs.Loop.{pick}
 use Rattle.loops.proofs.Loops.{and-left, and-right}
-use Rattle.matching.specs.Enumeration.{Row, isRow}
+use Rattle.matching.specs.Enumeration.{Row}
 use Rattle.matching.specs.Graph.{flagged, induced, chosenInduced, countIf, degree, eachOnce, isMatching}
 use Rattle.matching.specs.Graph.{Bond as Edge}
 use Rattle.matching.proofs.Graph.{and-intro, once-at, at-once}
@@ -20,9 +20,8 @@ use Rattle.walk.specs.Walk.{place, renumber}
 use Rattle.walk.proofs.Count.{All, none, more}
 use Rattle.walk.proofs.Walk.{Inside}
 use Rattle.walk.proofs.Trip.{Renumbering, placed}
-use Rattle.walk.proofs.Perm.{Perm}
 use Rattle.walk.proofs.Sums.{weightAt, weight-place}
-use Rattle.renumbered.proofs.Chosen.{chosenSum, Carried, carried, perm-sym, sum-renamed}
+use Rattle.renumbered.proofs.Chosen.{chosenSum, Carried, sum-renamed}
 
 -- a bond of the walk as matchings see it
 abbrev pub edge : Bond → Edge
