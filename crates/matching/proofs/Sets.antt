@@ -2,16 +2,16 @@
 use mathlib.Core.Path.{_≡_, refl, sym, ap, _∙_, fun-ext, subst}
 use mathlib.Core.Bool.{Bool, true, false, _&&_, _||_, not}
 use mathlib.Core.List.{List, [], _∷_}
-use Prim.Native.Nat.{ℕ, zero, suc, _+_, _≤_, _<_}
+use Prim.Native.Nat.{ℕ, zero, suc, _≤_, _<_}
 use native.Mathlib.Nat.{zero-add}
 use native.Mathlib.Omega.{arith}
 use lib.Dec.{eqb, leb, ltb}
-use lib.ListN.{length, getD, List·getD-eq-default}
+use lib.ListN.{length, List·getD-eq-default}
 use borrow.Author.Tests.{leb-true, ltb-true, ltb-false}
 use Rattle.loops.specs.Loop.{pick, upTo}
 use Rattle.loops.proofs.Loops.{and-left, and-right, length-upTo, upTo-at}
 use Rattle.matching.specs.Enumeration.{Row, isRow}
-use Rattle.matching.specs.Graph.{Bond, flagged, induced, chosenInduced, countIf, touches, degree, eachOnce, isMatching, nthBond, ExactlyOne, Pairs, setOf}
+use Rattle.matching.specs.Graph.{Bond, induced, chosenInduced, countIf, touches, degree, eachOnce, isMatching, nthBond, ExactlyOne, Pairs, setOf}
 use Rattle.matching.proofs.Enumeration.{row-length}
 use Rattle.matching.proofs.Graph.{and-intro, not-true, never, once-at, at-once}
 
