@@ -1,18 +1,18 @@
 -- The fields of a bracket stay in range byte by byte, and make a valid row; so do the letters outside brackets. Assumes nothing.
 use Prim.Native.Nat.{ℕ, zero, suc, _+_, _-_, _*_, _≤_, _<_}
 use native.Mathlib.Omega.{arith}
-use mathlib.Core.Path.{_≡_, refl, sym, ap, subst, _∙_}
-use mathlib.Core.Bool.{Bool, true, false, _&&_, _||_}
+use mathlib.Core.Path.{_≡_, refl}
+use mathlib.Core.Bool.{Bool, true, false, _||_}
 use mathlib.Core.List.{List, [], _∷_}
 use lib.ListN.{length}
-use lib.IntN.{ℤ, pos, negsuc}
-use lib.Dec.{eqb, leb}
-use borrow.Author.Tests.{le-leb, eqb-true}
+use lib.IntN.{pos, negsuc}
+use lib.Dec.{eqb}
+use borrow.Author.Tests.{le-leb}
 use Rattle.loops.specs.Loop.{pick}
 use Rattle.element.specs.Symbols.{among, sameBytes, symbols}
 use Rattle.element.specs.Lookup.{indexFrom, numberOf, selectedOf}
 use Rattle.grammar.specs.Grammar.{nonzero, digits, several}
-use Rattle.grammar.proofs.Ends.{All, each}
+use Rattle.grammar.proofs.Ends.{each}
 use Rattle.table.specs.Cells.{number, inRange}
 use Rattle.table.specs.Valid.{selectable}
 use Rattle.state.specs.declared.Fields.{Fields}

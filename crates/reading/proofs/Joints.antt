@@ -1,47 +1,31 @@
 -- The memory stays sane at a bridge, a branch, a bond symbol and a dot. Assumes nothing.
-use Prim.Native.Nat.{ℕ, zero, suc, _+_, _-_, _*_, _≤_, _<_}
+use Prim.Native.Nat.{ℕ, zero, suc, _+_, _-_, _≤_, _<_}
 use native.Mathlib.Omega.{arith}
-use mathlib.Core.Path.{_≡_, refl, sym, ap, subst, _∙_}
+use mathlib.Core.Path.{_≡_, refl, sym, _∙_}
 use mathlib.Core.Bool.{Bool, true, false, _&&_, _||_, not}
-use mathlib.Core.List.{List, [], _∷_}
+use mathlib.Core.List.{List}
 use lib.IntN.{ℤ}
 use lib.Dec.{eqb, leb, ltb}
-use borrow.Author.Tests.{eqb-true, eqb-false, eq-eqb, leb-false, ltb-true, ltb-false, not-true}
+use borrow.Author.Tests.{eqb-false, eq-eqb, leb-false, ltb-true, ltb-false, not-true}
 use Rattle.loops.specs.Loop.{pick, each}
 use Rattle.loops.proofs.Loops.{each-at}
-use Rattle.element.specs.declared.Letter.{Letter}
-use Rattle.element.specs.declared.Letter.the-variants.{Plain, Selected, Half, Bracket, Nothing}
-use Rattle.element.specs.Symbols.{among, listed, symbols, starts, marks}
-use Rattle.element.specs.Lookup.{letterOf, numberOf}
-use Rattle.grammar.specs.Grammar.{nonzero, digits, several, signs}
-use Rattle.grammar.specs.declared.Last.{Last}
-use Rattle.grammar.specs.declared.Last.the-variants.{Plain as plain, AfterC as afterC, AfterB as afterB}
-use Rattle.grammar.specs.declared.Mode.{Mode}
-use Rattle.grammar.specs.declared.Mode.the-variants.{Seq as seq, Inside as inside, LetterA as letterA, LetterT as letterT, Bracket as bracket, Isotope as isotope, Symbol1 as symbol1, Symbolled as symbolled, Hydrogen as hydrogen, Hydrogens as hydrogens, Sign as sign, Charged as charged, Colon as colon, Extension as extension}
-use Rattle.grammar.specs.declared.Out.{Out}
-use Rattle.grammar.specs.declared.Out.the-variants.{Stop as stop, To as to, Up as up, Down as down}
-use Rattle.grammar.specs.declared.State.{State}
-use Rattle.grammar.specs.declared.State.the-variants.{Dead as dead, Start as start, At as at}
-use Rattle.grammar.specs.Machine.{alive, turn, symbolOr, next}
-use Rattle.grammar.specs.Machine as machine
-use Rattle.grammar.specs.Fold.{Act, keeps, refuses}
+use Rattle.grammar.specs.declared.Last.the-variants.{Plain as plain}
+use Rattle.grammar.specs.declared.Mode.the-variants.{Seq as seq, Inside as inside}
+use Rattle.grammar.specs.declared.State.the-variants.{At as at}
+use Rattle.grammar.specs.Fold.{keeps, refuses}
 use Rattle.grammar.proofs.Ends.{never}
-use Rattle.table.specs.declared.Atom.{Atom}
-use Rattle.table.specs.Limits.{maxAtoms, maxBonds}
+use Rattle.table.specs.Limits.{maxBonds}
 use Rattle.table.specs.Cells.{end1, end2}
-use Rattle.state.specs.declared.Fields.{Fields}
 use Rattle.reading.specs.Memory.{Memory, dotted, symbol, symbolKind, kindOf, bondRow, between, awaiting, moved, counting, meet, clash, joins, joinedAlready, closeRefusal}
-use Rattle.reading.specs.Bracket.{digit, isotoped, elemented, hydrogened, signed, positive}
-use Rattle.reading.specs.Bracket as fields
 use Rattle.reading.specs.Act.{bridgeBond, orRefuse, bridgeAct, branchAct}
-use Rattle.reading.proofs.Sane.{BondRow, Tables, Steering, InRange, HalfRead, Unread, Standing, Stands, Sane, SaneAct, isotopeMost, extensionMost}
+use Rattle.reading.proofs.Sane.{Tables, Sane, SaneAct}
 use lib.ListN.{getD}
 use Rattle.table.specs.Rows.{withBond}
 use Rattle.state.specs.Limits.{maxDepth, bridges}
 use Rattle.state.specs.State.{opened, closed, bridged, joined}
 use Rattle.reading.proofs.Tables.{bond-added}
 use Rattle.reading.proofs.Steering.{later, opened-steering, closed-steering, closed-hub, bridged-steering}
-use Rattle.reading.proofs.Atoms.{Held, sane-of, held-later}
+use Rattle.reading.proofs.Atoms.{Held}
 
 -- ---- a bridge
 

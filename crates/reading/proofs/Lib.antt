@@ -8,3 +8,9 @@ pub mod Atoms
 pub mod InBracket
 pub mod Joints
 pub mod Step
+pub mod Hydrogens
+pub mod Valid
+pub mod Refusals
+pub mod Outcome
+pub mod Leftmost
+pub mod Claims

@@ -7,3 +7,8 @@ pub mod Letters
 pub mod Atoms
 pub mod Held
 pub mod Simulation
+pub mod Signs
+pub mod Tokens
+pub mod Written
+pub mod Bonds
+pub mod Ending
