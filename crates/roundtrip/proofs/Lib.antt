@@ -12,3 +12,5 @@ pub mod Tokens
 pub mod Written
 pub mod Bonds
 pub mod Ending
+pub mod Matchable
+pub mod Back
