@@ -5,7 +5,7 @@ use native.Mathlib.Numerals.{add-one}
 use mathlib.Core.Path.{_≡_, refl, sym, ap, _∙_}
 use mathlib.Core.Bool.{Bool, true, false, _&&_}
 use mathlib.Core.List.{List, [], _∷_, _++_, append-assoc, append-nil}
-use lib.ListN.{length, getD, set, take, drop, replicate, take-append-drop, length-set}
+use lib.ListN.{List·getD-append, length, getD, set, take, drop, replicate, take-append-drop, length-set}
 use lib.Seq.{take-at, take-suc-set, drop-set-lt, drop-length}
 use native.Mathlib.Nat.{add-zero, add-suc, suc-add}
 use Rattle.loops.specs.Loop.{each, run, upTo}
@@ -140,3 +140,18 @@ upTo-same {A = A} v k (suc m) = ap {B = List A} (λ r. v ∷ r) (upTo-same v (su
 
 pub filled-same : {A : Type 0} (v : A) (l₀ : List A) {l : List A} → l ≡ upTo (λ j. v) 0 (length l₀) ++ drop (length l₀) l₀ → l ≡ replicate (length l₀) v
 filled-same v l₀ e = e ∙ simp (drop-length, append-nil, upTo-same)
+
+-- tests that agree on the numbers tried say the same
+each-same-from : (p q : ℕ → Bool) (k m : ℕ) → ((j : ℕ) → k ≤ j → j < k + m → p j ≡ q j) → each p k m ≡ each q k m
+unfolding each
+each-same-from p q k zero h = refl
+each-same-from p q k (suc m) h =
+    let e : p k ≡ q k = h k (omega arith) (omega arith) in
+    rw e (ap (λ (b : Bool). q k && b) (each-same-from p q (suc k) m (λ j l u. h j (omega arith) (omega arith))))
+
+pub each-same : (p q : ℕ → Bool) (m : ℕ) → ((j : ℕ) → j < m → p j ≡ q j) → each p 0 m ≡ each q 0 m
+each-same p q m h = each-same-from p q 0 m (λ j l u. h j (omega arith))
+
+-- what stands at an index of a list that was filled
+pub filled-at : {A : Type 0} (f : ℕ → A) (n j : ℕ) (d : A) (l r : List A) → l ≡ upTo f 0 n ++ r → j < n → getD l j d ≡ f j
+filled-at f n j d l r e h = ap (λ x. getD x j d) e ∙ List·getD-append (upTo f 0 n) r d j (rw length-upTo h) ∙ upTo-at f n j d h

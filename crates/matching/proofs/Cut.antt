@@ -1,9 +1,9 @@
 -- Where more labels are odd than atoms stand in the cut, no matching is left: the easy half of Tutte's theorem. Assumes nothing.
-use mathlib.Core.Path.{_≡_, refl, sym, ap, subst, _∙_}
+use mathlib.Core.Path.{_≡_, refl, sym, ap, _∙_}
 use mathlib.Core.Bool.{Bool, true, false, _&&_, _||_, not}
 use mathlib.Core.List.{List, [], _∷_}
 use mathlib.Core.Logic.{_≢_}
-use Prim.Native.Nat.{ℕ, zero, suc, _+_, _≤_, _<_}
+use Prim.Native.Nat.{ℕ, zero, suc, _≤_, _<_}
 use native.Mathlib.Omega.{arith}
 use native.Mathlib.Decide.{ℕ-discrete}
 use lib.Dec.{eqb}
@@ -12,12 +12,12 @@ use lib.Seq.{getD-set-other, set-set}
 use borrow.Author.Tests.{eq-eqb, ne-eqb, eqb-true, eqb-false, not-true as not-true′}
 use Rattle.loops.specs.Loop.{pick}
 use Rattle.loops.proofs.Loops.{and-left, and-right}
-use Rattle.matching.specs.Enumeration.{Row, rows, passing, matchings}
+use Rattle.matching.specs.Enumeration.{Row, rows, matchings}
 use Rattle.matching.specs.Graph.{Bond, flagged, countIf, noneFlagged}
 use Rattle.matching.specs.Model.{free, pair, pairsUp}
 use Rattle.matching.specs.Cut.{cnt, odd?, odds, fine, allFine}
 use Rattle.matching.proofs.Enumeration.{passing-none, passing-same}
-use Rattle.matching.proofs.Graph.{and-intro, never, not-true, all-none, or-cases, Within, within-pair, within-self}
+use Rattle.matching.proofs.Graph.{and-intro, never, not-true, or-cases, within-pair, within-self}
 
 -- an atom is taken out
 cnt-out : (need labs : List ℕ) (a i : ℕ) → a < length labs → getD need a 0 ≡ 1 → cnt need labs i ≡ countIf (eqb (getD labs a 0) i) (cnt (set need a 0) labs i)

@@ -1,18 +1,18 @@
 -- The row machine and the enumeration give the same replies to every list of calls. Assumes nothing.
-use mathlib.Core.Path.{_≡_, refl, sym, ap, _∙_, fun-ext, subst}
+use mathlib.Core.Path.{_≡_, refl, sym, ap, _∙_, fun-ext}
 use mathlib.Core.Bool.{Bool, true, false, _&&_}
-use mathlib.Core.List.{List, [], _∷_, _++_, map, append-nil, append-assoc}
+use mathlib.Core.List.{List, [], _∷_, _++_, map, append-nil}
 use Prim.Native.Nat.{ℕ, zero, suc, _-_, _+_, _≤_, _<_}
 use native.Mathlib.Omega.{arith}
-use lib.Dec.{eqb, leb, ltb, eqb·suc-suc, eqb·suc-zero, eqb·zero-suc, leb·suc-suc, leb·suc-zero}
+use lib.Dec.{eqb, leb, ltb, eqb·suc-suc, eqb·suc-zero, leb·suc-suc, leb·suc-zero}
 use lib.ListN.{length, take, replicate, length-append, length-replicate}
 use lib.Seq.{take-at}
-use borrow.Author.Tests.{eq-eqb, ne-eqb, eqb-true, eqb-false, lt-ltb, ltb-true}
+use borrow.Author.Tests.{eq-eqb, ne-eqb, eqb-true, lt-ltb, ltb-true}
 use Rattle.loops.specs.Loop.{pick}
 use Rattle.loops.proofs.Loops.{and-left, and-right}
-use Rattle.matching.specs.Enumeration.{Row, rows, consIf, passing, matchings, eqRow, cursorAt, Reply, fill, zeroed, given, Turn, enumFirst, enumNext, enumTurn, enumReplies, isRow, before, orZeroed, rowFirst, rowNext, rowCall, rowReplies}
+use Rattle.matching.specs.Enumeration.{Row, rows, consIf, passing, matchings, eqRow, cursorAt, Reply, zeroed, given, Turn, enumFirst, enumNext, enumTurn, enumReplies, isRow, before, orZeroed, rowCall, rowReplies}
 use Rattle.matching.specs.declared.Answer.{Answer}
-use Rattle.matching.specs.declared.Answer.the-variants.{Given, Absent, Refused, Ended}
+use Rattle.matching.specs.declared.Answer.the-variants.{Absent, Refused, Ended}
 use Rattle.matching.specs.declared.Call.{Call}
 use Rattle.matching.specs.declared.Call.the-variants.{First, Next}
 

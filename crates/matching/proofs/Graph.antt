@@ -1,19 +1,17 @@
 -- Matchings as a search meets them are the matchings, and the calls on rows give what the enumeration of the molecule gives. Assumes nothing.
-use mathlib.Core.Path.{_≡_, refl, sym, ap, subst, _∙_, fun-ext}
+use mathlib.Core.Path.{_≡_, refl, sym, ap, _∙_, fun-ext}
 use mathlib.Core.Bool.{Bool, true, false, _&&_, _||_, not}
 use mathlib.Core.List.{List, [], _∷_, _++_, map}
-use mathlib.Core.Logic.{_≢_}
-use Prim.Native.Nat.{ℕ, zero, suc, _-_, _+_, _≤_, _<_}
+use Prim.Native.Nat.{ℕ, zero, suc, _-_, _+_, _≤_}
 use native.Mathlib.Nat.{zero-add, add-zero, add-suc, suc-add}
 use native.Mathlib.Omega.{arith}
-use native.Mathlib.Decide.{ℕ-discrete}
 use lib.Dec.{eqb}
-use lib.ListN.{length, take, replicate, getD, set}
+use lib.ListN.{length, replicate, getD, set}
 use lib.Seq.{getD-set-other}
-use borrow.Author.Tests.{eq-eqb, ne-eqb, eqb-true, eqb-false}
+use borrow.Author.Tests.{eq-eqb, eqb-true, eqb-false}
 use Rattle.loops.specs.Loop.{pick}
 use Rattle.loops.proofs.Loops.{and-left, and-right}
-use Rattle.matching.specs.Enumeration.{Row, rows, consIf, passing, matchings, cursorAt, isRow, before, Reply, enumReplies, rowReplies}
+use Rattle.matching.specs.Enumeration.{Row, rows, consIf, passing, matchings, cursorAt, isRow, before, rowReplies}
 use Rattle.matching.specs.Graph.{Bond, flagged, induced, chosenInduced, countIf, touches, degree, eachOnce, isMatching, noneFlagged, afterZero, enumeration}
 use Rattle.matching.specs.Model.{free, pair, pairsUp}
 use Rattle.matching.specs.declared.Call.{Call}

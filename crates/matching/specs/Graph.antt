@@ -1,5 +1,4 @@
 -- A molecule as its matchings see it: the bonds, each with its ends and whether it is elided, and a flag for each atom: 1 if it is delocalized
-use mathlib.Core.Path.{_≡_}
 use mathlib.Core.Bool.{Bool, true, false, _&&_, _||_, not}
 use mathlib.Core.List.{List, [], _∷_}
 use Prim.Native.Nat.{ℕ, suc}

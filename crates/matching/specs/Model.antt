@@ -9,7 +9,7 @@ use lib.ListN.{length, take, drop, replicate, getD, set}
 use Rattle.loops.specs.Loop.{pick}
 use Rattle.matching.specs.Enumeration.{Row, matchings, before, isRow, Reply}
 use Rattle.matching.specs.declared.Answer.{Answer}
-use Rattle.matching.specs.Graph.{Bond, flagged, induced, noneFlagged}
+use Rattle.matching.specs.Graph.{Bond, induced, noneFlagged}
 
 -- the bond can be chosen: it is elided and neither end has a partner
 abbrev pub free : Bond → List ℕ → Bool

@@ -1,2 +1,5 @@
 pub mod Cells
 pub mod Rows
+pub mod Valid
+pub mod Edits
+pub mod Keys

@@ -1,0 +1,5 @@
+pub mod Flags
+pub mod Choice
+pub mod Check
+pub mod After
+pub mod Reply
