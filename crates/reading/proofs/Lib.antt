@@ -1,3 +1,4 @@
+pub mod Cases
 pub mod Sane
 pub mod Rows
 pub mod Tables
