@@ -140,3 +140,21 @@ upTo-same {A = A} v k (suc m) = ap {B = List A} (λ r. v ∷ r) (upTo-same v (su
 
 pub filled-same : {A : Type 0} (v : A) (l₀ : List A) {l : List A} → l ≡ upTo (λ j. v) 0 (length l₀) ++ drop (length l₀) l₀ → l ≡ replicate (length l₀) v
 filled-same v l₀ e = e ∙ simp (drop-length, append-nil, upTo-same)
+
+-- what passes at each number passes everywhere
+each-all-from : (p : ℕ → Bool) (k m : ℕ) → ((j : ℕ) → j < m → p (k + j) ≡ true) → each p k m ≡ true
+unfolding each
+each-all-from p k zero h = refl
+each-all-from p k (suc m) h =
+    let q : p k ≡ true = rw (add-zero k) at (h 0 (omega arith)) in
+    let r : each p (suc k) m ≡ true = each-all-from p (suc k) m (λ j l. let e : suc k + j ≡ k + suc j = omega arith in rw e (h (suc j) (omega arith))) in
+    simp (q, r)
+
+pub each-all : (p : ℕ → Bool) (m : ℕ) → ((j : ℕ) → j < m → p j ≡ true) → each p 0 m ≡ true
+each-all p m h = each-all-from p 0 m (λ j l. let e : 0 + j ≡ j = omega arith in rw e (h j l))
+
+-- tests that agree
+pub each-same : (p q : ℕ → Bool) (k m : ℕ) → ((j : ℕ) → p j ≡ q j) → each p k m ≡ each q k m
+unfolding each
+each-same p q k zero h = refl
+each-same p q k (suc m) h = rw (h k, each-same p q (suc k) m h)
