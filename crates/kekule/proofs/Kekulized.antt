@@ -93,7 +93,7 @@ module _ {atoms bonds : List ℤ} {n m : ℕ} (v : Valid atoms bonds n m) (r : E
 
   same-distinct : distinct bonds′ m ≡ distinct bonds m
   unfolding distinct fresh
-  same-distinct = each-same (fresh bonds′) (fresh bonds) 0 m (λ i. each-same (λ j. not (sameEnds bonds′ i j)) (λ j. not (sameEnds bonds i j)) 0 i (λ j. ap not (same-ends i j)))
+  same-distinct = each-same (fresh bonds′) (fresh bonds) m (λ i l. each-same (λ j. not (sameEnds bonds′ i j)) (λ j. not (sameEnds bonds i j)) i (λ j k. ap not (same-ends i j)))
 
   -- the kekulized tables are valid
   pub kekulized-valid : Valid atoms′ bonds′ n m

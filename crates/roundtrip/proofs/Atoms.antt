@@ -1,0 +1,125 @@
+-- Reading the bytes of an atom of valid tables: with or without brackets, its row before its hydrogens. Assumes nothing.
+use mathlib.Core.Path.{_≡_, refl, sym, ap, _∙_, subst}
+use mathlib.Core.Bool.{Bool, true, false, _&&_, _||_, not}
+use mathlib.Core.List.{List, [], _∷_, _++_}
+use mathlib.Core.Logic.{_⊎_, inl, inr}
+use Prim.Native.Nat.{ℕ, zero, suc, _+_, _-_, _*_, _<_, _≤_}
+use native.Mathlib.Omega.{arith}
+use lib.Dec.{eqb, leb, ltb}
+use lib.ListN.{length, getD}
+use lib.IntN.{ℤ, pos, negsuc}
+use lib.Signed.{leZ}
+use borrow.Author.Tests.{eqb-true, leb-true}
+use Rattle.loops.specs.Loop.{pick}
+use Rattle.loops.proofs.Loops.{and-left, and-right}
+use Rattle.element.specs.Symbols.{among, letters}
+use Rattle.element.specs.Lookup.{selectedOf, letterOf, bare}
+use Rattle.grammar.specs.declared.Last.the-variants.{Plain as plain}
+use Rattle.grammar.specs.declared.Mode.the-variants.{Seq as seq, Bracket as bracket}
+use Rattle.grammar.specs.declared.Out.{Out}
+use Rattle.grammar.specs.declared.Out.the-variants.{To as to}
+use Rattle.grammar.specs.declared.State.{State}
+use Rattle.grammar.specs.declared.State.the-variants.{At as at}
+use Rattle.grammar.specs.Machine.{turn, atomOr}
+use Rattle.valence.specs.Valence.{implied}
+use Rattle.graph.specs.Graph.{bondSum}
+use Rattle.table.specs.declared.Atom.{Atom}
+use Rattle.table.specs.Limits.{ELEMENT, SELECTED, ISOTOPE, HYDROGENS, CHARGE, EXTENSION}
+use Rattle.table.specs.Cells.{number, inRange, atomCell, element, selected, hydrogens}
+use Rattle.table.specs.Valid.{selectable, selectedOk, chargeOk}
+use Rattle.table.proofs.Valid.{AtomFine, range-high, range-pos}
+use Rattle.reading.specs.Memory.{Memory, bareRow, rowOf, blank, begun, drafted}
+use Rattle.writing.specs.Spell.{isotopeBytes, symbolBytes, hydrogenBytes, chargeBytes, extensionBytes, bracketBytes, unbracketed, atomBytes}
+use Rattle.roundtrip.proofs.Feed.{Takes, byte}
+use Rattle.roundtrip.proofs.Bracketed.{fields, Slight, Ends}
+use Rattle.roundtrip.proofs.Named.{Symbolic, takes-bracket}
+use Rattle.roundtrip.proofs.Letters.{Begins, Room, Atomed, first, takes-letters}
+
+slight-of : (c : ℤ) → inRange c (negsuc 8) (pos 9) ≡ true → Slight c
+unfolding inRange
+slight-of (pos n) h = let q = leb-true n 9 (and-right (leZ (negsuc 8) (pos n)) (leb n 9) h) in omega arith
+slight-of (negsuc n) h = let q = leb-true n 8 (and-left (leb n 8) (leZ (negsuc n) (pos 9)) h) in omega arith
+
+symbolic-of : (t : List ℤ) (v : ℕ) → AtomFine t v → Symbolic (element t v) (selected t v)
+unfolding selectedOk
+symbolic-of t v f =
+    let r = inRange (atomCell t v SELECTED) (pos 0) (pos 1) in
+    let l = range-high (atomCell t v ELEMENT) 118 (f .element) in
+    record { known = omega arith; either = go (selected t v) (range-high (atomCell t v SELECTED) 1 (and-left r _ (f .selected))) (and-right r _ (f .selected)) }
+  where
+    go : (s : ℕ) → s ≤ 1 → (eqb s 0 || selectable (element t v)) ≡ true → (s ≡ 0) ⊎ ((s ≡ 1) × (selectable (element t v) ≡ true))
+    go zero l h = inl refl
+    go (suc zero) l h = inr (refl, h)
+    go (suc (suc s)) l h = absurd (omega arith)
+
+module _ (atoms bonds : List ℤ) (m v : ℕ) where
+  -- the row that the bytes of the atom v leave, and whether it stands outside brackets
+  unfoldable pub draftRow : Atom
+  draftRow = pick (unbracketed atoms bonds m v) (bareRow (element atoms v) (selected atoms v))
+      (rowOf (fields (element atoms v) (selected atoms v) (number (atomCell atoms v ISOTOPE)) (hydrogens atoms v) (atomCell atoms v CHARGE) (number (atomCell atoms v EXTENSION))))
+
+  unfoldable pub outsideFlag : ℕ
+  outsideFlag = pick (unbracketed atoms bonds m v) 1 0
+
+  -- what stands outside brackets
+  pub record Bare : Type 0 where
+    pub isotope : number (atomCell atoms v ISOTOPE) ≡ 0
+    pub charge : atomCell atoms v CHARGE ≡ pos 0
+    pub extension : number (atomCell atoms v EXTENSION) ≡ 0
+    pub letter : bare (element atoms v) ≡ true
+    pub implied : implied (element atoms v) (selected atoms v) (bondSum bonds m v) ≡ hydrogens atoms v
+
+  pub bare-of : unbracketed atoms bonds m v ≡ true → Bare
+  unfolding unbracketed
+  bare-of h = go (atomCell atoms v CHARGE) refl
+    where
+      i : Bool
+      i = eqb (number (atomCell atoms v ISOTOPE)) 0
+
+      x : Bool
+      x = eqb (number (atomCell atoms v EXTENSION)) 0
+
+      b : Bool
+      b = bare (element atoms v)
+
+      y : Bool
+      y = eqb (implied (element atoms v) (selected atoms v) (bondSum bonds m v)) (hydrogens atoms v)
+
+      go : (c : ℤ) → atomCell atoms v CHARGE ≡ c → Bare
+      go (pos k) e =
+          let g : (i && eqb k 0 && x && b && y) ≡ true = rw e at h in
+          let h3 = and-left (i && eqb k 0 && x && b) y g in
+          let h2 = and-left (i && eqb k 0 && x) b h3 in
+          let h1 = and-left (i && eqb k 0) x h2 in
+          record {
+            isotope = eqb-true (number (atomCell atoms v ISOTOPE)) 0 (and-left i (eqb k 0) h1);
+            charge = e ∙ ap pos (eqb-true k 0 (and-right i (eqb k 0) h1));
+            extension = eqb-true (number (atomCell atoms v EXTENSION)) 0 (and-right (i && eqb k 0) x h2);
+            letter = and-right (i && eqb k 0 && x) b h3;
+            implied = eqb-true (implied (element atoms v) (selected atoms v) (bondSum bonds m v)) (hydrogens atoms v) (and-right (i && eqb k 0 && x && b) y g);
+          }
+      go (negsuc k) e =
+          let g : (i && false && x && b && y) ≡ true = rw e at h in
+          let w : _≡_ {A = Bool} false true = and-right i false (and-left (i && false) x (and-left (i && false && x) b (and-left (i && false && x && b) y g))) in
+          absurd (let z : _≡_ {A = ℕ} 0 1 = cc in omega arith)
+
+  takes-brackets : AtomFine atoms v → (i : ℕ) (σ : State) (d : ℕ) (μ : Memory) → Begins σ d → Room μ
+      → Atomed i σ d μ (bracketBytes atoms v) (rowOf (fields (element atoms v) (selected atoms v) (number (atomCell atoms v ISOTOPE)) (hydrogens atoms v) (atomCell atoms v CHARGE) (number (atomCell atoms v EXTENSION)))) 0
+  unfolding bracketBytes begun atomOr among letters letterOf selectedOf
+  takes-brackets f i σ d μ g r =
+      let E = fields (element atoms v) (selected atoms v) (number (atomCell atoms v ISOTOPE)) (hydrogens atoms v) (atomCell atoms v CHARGE) (number (atomCell atoms v EXTENSION)) in
+      let li = range-high (atomCell atoms v ISOTOPE) 999 (f .isotope) in
+      let lh = range-high (atomCell atoms v HYDROGENS) 9 (f .hydrogens) in
+      let lx = range-high (atomCell atoms v EXTENSION) 9999 (f .extension) in
+      let w = takes-bracket (element atoms v) (selected atoms v) (number (atomCell atoms v ISOTOPE)) (hydrogens atoms v) (atomCell atoms v CHARGE) (number (atomCell atoms v EXTENSION)) (symbolic-of atoms v f) (omega arith) (omega arith) (slight-of (atomCell atoms v CHARGE) (f .charge)) (omega arith) in
+      record { last = plain; draft = E; is = byte 91 _ (g .goes 91 .1) refl (g .does 91 i μ refl ∙ first 91 i μ r) (w .is (suc i) d (begun 0 μ)) }
+
+  -- THE ATOM
+  pub takes-atom : AtomFine atoms v → (i : ℕ) (σ : State) (d : ℕ) (μ : Memory) → Begins σ d → Room μ → Atomed i σ d μ (atomBytes atoms bonds m v) draftRow outsideFlag
+  unfolding atomBytes draftRow outsideFlag
+  takes-atom f i σ d μ g r = go (unbracketed atoms bonds m v) refl
+    where
+      go : (x : Bool) → unbracketed atoms bonds m v ≡ x
+          → Atomed i σ d μ (pick x (symbolBytes (element atoms v) (selected atoms v)) (bracketBytes atoms v)) (pick x (bareRow (element atoms v) (selected atoms v)) (rowOf (fields (element atoms v) (selected atoms v) (number (atomCell atoms v ISOTOPE)) (hydrogens atoms v) (atomCell atoms v CHARGE) (number (atomCell atoms v EXTENSION))))) (pick x 1 0)
+      go true e = takes-letters (element atoms v) (selected atoms v) (symbolic-of atoms v f) (bare-of e .letter) i σ d μ g r
+      go false e = takes-brackets f i σ d μ g r

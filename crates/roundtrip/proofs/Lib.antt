@@ -1,0 +1,14 @@
+pub mod Feed
+pub mod Decimal
+pub mod Bracketed
+pub mod Named
+pub mod Cells
+pub mod Letters
+pub mod Atoms
+pub mod Held
+pub mod Simulation
+pub mod Signs
+pub mod Tokens
+pub mod Written
+pub mod Bonds
+pub mod Ending

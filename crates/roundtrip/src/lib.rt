@@ -1,0 +1,1 @@
+// Theorems only: reading what was written. See proofs/Claims.antt.
