@@ -32,7 +32,7 @@ sum-suc bonds b a = let e : 0 + b ≡ b = omega arith in run-last (addShare bond
 pub sum-more : (bonds : List ℤ) (b a : ℕ) → bondSum bonds (b + 1) a ≡ bondSum bonds b a + share bonds a b
 sum-more bonds b a = rw (add-one b) (sum-suc bonds b a)
 
-order-small : (k : ℕ) → order k ≤ 3
+pub order-small : (k : ℕ) → order k ≤ 3
 unfolding order
 order-small k = go (eqb k 0) (leb k 3) refl
   where
