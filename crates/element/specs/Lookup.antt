@@ -1,11 +1,11 @@
 -- 01, The text: what symbol stands at two bytes, in brackets and outside, and how an element is spelled
-use mathlib.Core.Bool.{Bool, true, false, _||_}
+use mathlib.Core.Bool.{Bool, _||_}
 use mathlib.Core.List.{List, [], _∷_}
 use Prim.Native.Nat.{ℕ, zero, suc}
 use lib.Dec.{eqb}
 use lib.ListN.{getD}
 use Rattle.loops.specs.Loop.{pick}
-use Rattle.element.specs.Symbols.{among, sameBytes, listed, starts, letters, marks, symbols}
+use Rattle.element.specs.Symbols.{among, sameBytes, listed, starts, letters, symbols}
 use Rattle.element.specs.declared.Symbol.{Symbol}
 use Rattle.element.specs.declared.Symbol.the-variants.{Long, Brief, Half, Nothing}
 use Rattle.element.specs.declared.Letter.{Letter}
@@ -19,6 +19,10 @@ indexFrom k s (t ∷ l) = pick (sameBytes s t) k (indexFrom (suc k) s l)
 -- the atomic number of a symbol; 0 for no symbol
 unfoldable pub numberOf : List ℕ → ℕ
 numberOf s = indexFrom 1 s symbols
+
+-- the atomic number of a symbol of one letter; 255 where only longer ones begin with it, 0 where none does
+unfoldable pub singleOf : ℕ → ℕ
+singleOf a = pick (listed (a ∷ []) symbols) (numberOf (a ∷ [])) (pick (starts a symbols) 255 0)
 
 -- c n o p s: the atomic number of a selected letter; 0 for another byte
 unfoldable pub selectedOf : ℕ → ℕ

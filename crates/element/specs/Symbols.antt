@@ -1,7 +1,7 @@
 -- 01, The text: the 118 IUPAC symbols, and the letters inside and outside brackets, as lists of bytes
 use mathlib.Core.Bool.{Bool, true, false}
 use mathlib.Core.List.{List, [], _∷_}
-use Prim.Native.Nat.{ℕ, zero, suc}
+use Prim.Native.Nat.{ℕ}
 use lib.Dec.{eqb}
 use Rattle.loops.specs.Loop.{pick}
 

@@ -1,1 +1,141 @@
-// The graph that matchings see, from valid tables.
+// The graph that matchings see, from valid tables: bond sums, delocalized flags, ends and elided flags.
+ghost use mathlib.Core.Path.{_≡_};
+ghost use mathlib.Core.List.{_++_};
+ghost use Prim.Native.Nat.{ℕ, _+_, _*_, _≤_, _<_, _^_};
+ghost use lib.ListN.{length, drop, getD, replicate};
+ghost use Rattle.loops.specs.Loop.{upTo};
+ghost use Rattle.table.specs.Limits.{maxAtoms, maxBonds};
+ghost use Rattle.table.specs.Cells.{element, selected, hydrogens};
+ghost use Rattle.table.specs.Valid.{Valid};
+ghost use Rattle.valence.specs.Valence.{delocalized};
+ghost use Rattle.graph.specs.Graph.{bondSum, flag};
+ghost use Rattle.graph.specs.Built.{bump, withBond, sumFlag, Summed, Wide, Wired, Built, Room};
+use ids::AtomId;
+use ids::BondId;
+use table::ELEMENT;
+use table::FIRST;
+use table::HYDROGENS;
+use table::KIND;
+use table::MAX_ATOMS;
+use table::SECOND;
+use table::SELECTED;
+use table::cell;
+
+// Adds to one bond sum; nothing past the end.
+fn add(sums: &mut [u16], i: usize, x: usize)
+    requires { ⌜ getD (now sums) i 0 + x < 2 ^ 16 ⌝ }
+    ensures { λ _. ⌜ now (sums .exit) ≡ bump (now (sums .entry)) i x ⌝ }
+{
+    if sums.len() <= i {
+        return;
+    }
+    let s = sums[i] as usize;
+    sums[i] = (s + x) as u16;
+}
+
+// Adds a bond's order to the bond sums of its ends.
+fn add_bond(bonds: &[i32], b: BondId, sums: &mut [u16])
+    requires { ⌜ b .0 < maxBonds ⌝ }
+    requires { ⌜ ((a : ℕ) → getD (now sums) a 0 ≤ 3 * b .0) ⌝ }
+    ensures { λ _. ⌜ now (sums .exit) ≡ withBond (now (bonds .entry)) (b .0) (now (sums .entry)) ⌝ }
+{
+    let e = cell::bond_number(bonds, b, FIRST);
+    let f = cell::bond_number(bonds, b, SECOND);
+    let x = valence::order(cell::bond_number(bonds, b, KIND));
+    add(sums, e, x);
+    if e != f {
+        add(sums, f, x);
+    }
+}
+
+// Zeroes bond sums.
+fn clear(sums: &mut [u16])
+    ensures { λ _. ⌜ now (sums .exit) ≡ replicate (length (now (sums .entry))) 0 ⌝ }
+{
+    let mut i = 0;
+    while i < sums.len() {
+        sums[i] = 0;
+        i += 1;
+    }
+}
+
+// internal: the bond sum of every atom that the buffer has a cell for, in one pass over m bonds.
+pub fn fill_sums(bonds: &[i32], m: usize, sums: &mut [u16])
+    requires { ⌜ m ≤ maxBonds ⌝ }
+    ensures { λ _. ⌜ now (sums .exit) ≡ upTo (bondSum (now (bonds .entry)) m) 0 (length (now (sums .entry))) ⌝ }
+{
+    clear(sums);
+    let mut i = 0;
+    while i < m {
+        add_bond(bonds, BondId(i), sums);
+        i += 1;
+    }
+}
+
+// Whether an atom is delocalized, by its bond sum.
+fn is_delocalized(atoms: &[i32], a: AtomId, sum: u16) -> bool
+    requires { ⌜ a .0 < maxAtoms ⌝ }
+    ensures { λ r. ⌜ r ≡ delocalized (element (now (atoms .entry)) (a .0)) (selected (now (atoms .entry)) (a .0)) sum (hydrogens (now (atoms .entry)) (a .0)) ⌝ }
+{
+    let e = cell::atom_number(atoms, a, ELEMENT);
+    let s = cell::atom_number(atoms, a, SELECTED);
+    let h = cell::atom_number(atoms, a, HYDROGENS);
+    valence::delocalized(e, s, sum as usize, h)
+}
+
+// 0 or 1.
+fn flag(b: bool) -> u8
+    ensures { λ r. ⌜ r ≡ flag b ⌝ }
+{
+    if b { 1 } else { 0 }
+}
+
+// 1 for each delocalized atom, from the bond sums.
+fn fill_flags(atoms: &[i32], sums: &[u16], n: usize, flags: &mut [u8])
+    requires { ⌜ Summed (now sums) n (now flags) ⌝ }
+    ensures { λ _. ⌜ now (flags .exit) ≡ upTo (sumFlag (now (atoms .entry)) (now (sums .entry))) 0 n ++ drop n (now (flags .entry)) ⌝ }
+{
+    let mut i = 0;
+    while i < n {
+        flags[i] = flag(is_delocalized(atoms, AtomId(i), sums[i]));
+        i += 1;
+    }
+}
+
+// The ends of each bond, and 1 for each elided bond.
+fn fill_bonds(bonds: &[i32], m: usize, ea: &mut [u16], eb: &mut [u16], el: &mut [u8])
+    requires { ⌜ Wide (now bonds) m (now ea) (now eb) (now el) ⌝ }
+    ensures { λ _. ⌜ Wired (now (bonds .entry)) m (now (ea .exit)) (now (eb .exit)) (now (el .exit)) ⌝ }
+{
+    let mut i = 0;
+    while i < m {
+        let b = BondId(i);
+        let first = cell::bond_number(bonds, b, FIRST);
+        let second = cell::bond_number(bonds, b, SECOND);
+        ea[i] = first as u16;
+        eb[i] = second as u16;
+        el[i] = flag(cell::bond_number(bonds, b, KIND) == 0);
+        i += 1;
+    }
+}
+
+// internal: the graph of a molecule, into four buffers.
+pub fn build(
+    atoms: &[i32],
+    bonds: &[i32],
+    n: usize,
+    m: usize,
+    flags: &mut [u8],
+    ea: &mut [u16],
+    eb: &mut [u16],
+    el: &mut [u8],
+)
+    requires { ⌜ Valid (now atoms) (now bonds) n m ⌝ }
+    requires { ⌜ Room n m (now flags) (now ea) (now eb) (now el) ⌝ }
+    ensures { λ _. ⌜ Built (now (atoms .entry)) (now (bonds .entry)) n m (now (flags .exit)) (now (ea .exit)) (now (eb .exit)) (now (el .exit)) ⌝ }
+{
+    let mut sums = [0u16; MAX_ATOMS];
+    fill_sums(bonds, m, &mut sums);
+    fill_flags(atoms, &sums, n, flags);
+    fill_bonds(bonds, m, ea, eb, el);
+}

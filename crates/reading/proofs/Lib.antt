@@ -1,3 +1,17 @@
+pub mod Cases
 pub mod Sane
 pub mod Rows
 pub mod Tables
+pub mod Steering
+pub mod Draft
+pub mod Letters
+pub mod Atoms
+pub mod InBracket
+pub mod Joints
+pub mod Step
+pub mod Hydrogens
+pub mod Valid
+pub mod Refusals
+pub mod Outcome
+pub mod Leftmost
+pub mod Claims

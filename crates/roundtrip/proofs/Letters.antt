@@ -119,11 +119,40 @@ two e e0 b c m h g f n a i σ d μ v r = record {
 
 plain-letters : (e : ℕ) → bare e ≡ true → Outside e 0 (bytesOf e)
 unfolding bare among bytesOf symbols letterOf selectedOf numberOf indexFrom sameBytes letters atomOr next modeAct bridgeOr nonzero bondSymbols
-plain-letters = bytes.each (λ e. Outside e 0 (bytesOf e)) (0 ∷ 5 ∷ 6 ∷ 7 ∷ 8 ∷ 9 ∷ 15 ∷ 16 ∷ 17 ∷ 35 ∷ 53 ∷ 85 ∷ 117 ∷ [])
-    (one 0 0 42 plain refl (λ k. refl) (λ μ. refl), (one 5 0 66 afterB refl (λ k. refl) (λ μ. refl), (one 6 0 67 afterC refl (λ k. refl) (λ μ. refl), (one 7 0 78 plain refl (λ k. refl) (λ μ. refl),
-    (one 8 0 79 plain refl (λ k. refl) (λ μ. refl), (one 9 0 70 plain refl (λ k. refl) (λ μ. refl), (one 15 0 80 plain refl (λ k. refl) (λ μ. refl), (one 16 0 83 plain refl (λ k. refl) (λ μ. refl),
-    (two 17 6 67 108 (seq afterC) refl (λ k. refl) (λ μ. refl) refl (λ i μ. refl), (two 35 5 66 114 (seq afterB) refl (λ k. refl) (λ μ. refl) refl (λ i μ. refl), (one 53 0 73 plain refl (λ k. refl) (λ μ. refl),
-    (two 85 0 65 116 letterA refl (λ k. refl) (λ μ. refl) refl (λ i μ. refl), (two 117 0 84 115 letterT refl (λ k. refl) (λ μ. refl) refl (λ i μ. refl), tt)))))))))))))
+plain-letters = bytes.each (λ e. Outside e 0 (bytesOf e)) (0 ∷ 5 ∷ 6 ∷ 7 ∷ 8 ∷ 9 ∷ 15 ∷ 16 ∷ 17 ∷ 35 ∷ 53 ∷ 85 ∷ 117 ∷ []) (
+  one 0 0 42 plain refl (λ k. refl) (λ μ. refl),
+  (
+    one 5 0 66 afterB refl (λ k. refl) (λ μ. refl),
+    (
+      one 6 0 67 afterC refl (λ k. refl) (λ μ. refl),
+      (
+        one 7 0 78 plain refl (λ k. refl) (λ μ. refl),
+        (
+          one 8 0 79 plain refl (λ k. refl) (λ μ. refl),
+          (
+            one 9 0 70 plain refl (λ k. refl) (λ μ. refl),
+            (
+              one 15 0 80 plain refl (λ k. refl) (λ μ. refl),
+              (
+                one 16 0 83 plain refl (λ k. refl) (λ μ. refl),
+                (
+                  two 17 6 67 108 (seq afterC) refl (λ k. refl) (λ μ. refl) refl (λ i μ. refl),
+                  (
+                    two 35 5 66 114 (seq afterB) refl (λ k. refl) (λ μ. refl) refl (λ i μ. refl),
+                    (
+                      one 53 0 73 plain refl (λ k. refl) (λ μ. refl),
+                      (two 85 0 65 116 letterA refl (λ k. refl) (λ μ. refl) refl (λ i μ. refl), (two 117 0 84 115 letterT refl (λ k. refl) (λ μ. refl) refl (λ i μ. refl), tt)),
+                    ),
+                  ),
+                ),
+              ),
+            ),
+          ),
+        ),
+      ),
+    ),
+  ),
+)
 
 selected-letters : (e : ℕ) → selectable e ≡ true → Outside e 1 (selectedBytes e)
 unfolding among selectedBytes letterOf selectedOf letters atomOr

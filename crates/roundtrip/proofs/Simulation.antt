@@ -217,7 +217,6 @@ pub record Bridged (row : ℕ → Atom) (flag : ℕ → ℕ) (p q : ℕ) (s : St
 
 module _ (row : ℕ → Atom) (flag : ℕ → ℕ) (p q : ℕ) (proom : atomCells * maxAtoms ≤ p) (qroom : bondCells * maxBonds ≤ q)
     (xs : List ℕ) (bs : List Bond) (h n : ℕ) (hs : List Hook) (stk : List ℕ) (μ : Memory) (s : Sim row flag p q xs bs h n hs stk μ) (r k : ℕ) (l : suc r < bridges) (c : kindOf (μ .pending) ≡ k) where
-
   first-end : (i : ℕ) → i < length bs → end1 (μ .bonds) i ≡ getD bs i nobond .lo
   unfolding number
   first-end i g = ap number (s .bonding .cells i FIRST g (omega arith))

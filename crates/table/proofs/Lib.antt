@@ -2,3 +2,4 @@ pub mod Cells
 pub mod Rows
 pub mod Valid
 pub mod Edits
+pub mod Keys

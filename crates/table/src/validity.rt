@@ -1,9 +1,12 @@
 // Valid tables (01: sound): a test for each condition, and all of them.
 ghost use mathlib.Core.Path.{_≡_};
-ghost use Prim.Native.Nat.{_<_, _≤_};
-ghost use Rattle.loops.specs.Loop.{each};
+ghost use Prim.Native.Nat.{ℕ, _<_, _≤_};
+ghost use mathlib.Core.List.{_++_};
+ghost use lib.ListN.{length, drop};
+ghost use Rattle.loops.specs.Loop.{each, upTo};
 ghost use Rattle.table.specs.Limits.{maxAtoms, maxBonds};
-ghost use Rattle.table.specs.Valid.{selectable, selectedOk, atomOk, bondOk, sameEnds, distinct, valid, enough};
+ghost use Rattle.table.specs.Valid.{selectable, selectedOk, atomOk, bondOk, distinct, valid, enough};
+ghost use Rattle.table.specs.Keys.{ShortEnds, endsKey, freshKey};
 use crate::ATOM_CELLS;
 use crate::BOND_CELLS;
 use crate::CHARGE;
@@ -92,26 +95,43 @@ fn bonds_ok(t: &[i32], n: usize, m: usize) -> bool
     true
 }
 
-// Two bonds join the same two atoms.
-fn same_ends(t: &[i32], a: BondId, b: BondId) -> bool
-    requires { ⌜ (a .0 < maxBonds) × (b .0 < maxBonds) ⌝ }
-    ensures { λ r. ⌜ r ≡ sameEnds (now (t .entry)) (a .0) (b .0) ⌝ }
+// The two ends of a bond as one number.
+fn ends_key(t: &[i32], b: BondId) -> u32
+    requires { ⌜ b .0 < maxBonds ⌝ }
+    requires { ⌜ ShortEnds (now t) (b .0) ⌝ }
+    ensures { λ r. ⌜ r ≡ endsKey (now (t .entry)) (b .0) ⌝ }
 {
-    let first = cell::bond_number(t, a, FIRST) == cell::bond_number(t, b, FIRST);
-    first & (cell::bond_number(t, a, SECOND) == cell::bond_number(t, b, SECOND))
+    let first = cell::bond_number(t, b, FIRST);
+    let second = cell::bond_number(t, b, SECOND);
+    (first * 65536 + second) as u32
 }
 
-// No two of the first m bonds join the same two atoms.
-fn distinct(t: &[i32], m: usize) -> bool
+// The ends of the first m bonds, each as one number.
+fn fill_keys(t: &[i32], m: usize, keys: &mut [u32])
     requires { ⌜ m ≤ maxBonds ⌝ }
-    ensures { λ r. ⌜ r ≡ distinct (now (t .entry)) m ⌝ }
+    requires { ⌜ m ≤ length (now keys) ⌝ }
+    requires { ⌜ ((b : ℕ) → b < m → ShortEnds (now t) b) ⌝ }
+    ensures { λ _. ⌜ now (keys .exit) ≡ upTo (endsKey (now (t .entry))) 0 m ++ drop m (now (keys .entry)) ⌝ }
+{
+    let mut i = 0;
+    while i < m {
+        keys[i] = ends_key(t, BondId(i));
+        i += 1;
+    }
+}
+
+// No two of the first m numbers are equal.
+fn all_different(keys: &[u32], m: usize) -> bool
+    requires { ⌜ m ≤ length (now keys) ⌝ }
+    ensures { λ r. ⌜ r ≡ each (freshKey (now (keys .entry))) 0 m ⌝ }
 {
     let mut fine = true;
     let mut i = 0;
     'rows: while i < m {
+        let key = keys[i];
         let mut j = 0;
         while j < i {
-            if same_ends(t, BondId(i), BondId(j)) {
+            if keys[j] == key {
                 fine = false;
                 break 'rows;
             }
@@ -120,6 +140,17 @@ fn distinct(t: &[i32], m: usize) -> bool
         i += 1;
     }
     fine
+}
+
+// No two of the first m bonds join the same two atoms.
+fn distinct(t: &[i32], m: usize) -> bool
+    requires { ⌜ m ≤ maxBonds ⌝ }
+    requires { ⌜ ((b : ℕ) → b < m → ShortEnds (now t) b) ⌝ }
+    ensures { λ r. ⌜ r ≡ distinct (now (t .entry)) m ⌝ }
+{
+    let mut keys = [0u32; MAX_BONDS];
+    fill_keys(t, m, &mut keys);
+    all_different(&keys, m)
 }
 
 // The tables with their counts are valid; a cell past the end counts as 0.
@@ -132,7 +163,13 @@ pub fn valid(atoms: &[i32], bonds: &[i32], n: usize, m: usize) -> bool
     if MAX_BONDS < m {
         return false;
     }
-    atoms_ok(atoms, n) & bonds_ok(bonds, n, m) & distinct(bonds, m)
+    if !atoms_ok(atoms, n) {
+        return false;
+    }
+    if !bonds_ok(bonds, n, m) {
+        return false;
+    }
+    distinct(bonds, m)
 }
 
 // The tables are as long as they have to be.

@@ -1,9 +1,11 @@
 -- 01, Hydrogens and kept atoms: the rules as functions of numbers
-use mathlib.Core.Bool.{Bool, true, false, _&&_}
+use mathlib.Core.Bool.{Bool, _&&_}
 use mathlib.Core.List.{List, [], _∷_}
-use Prim.Native.Nat.{ℕ, zero, suc, _+_, _-_}
+use Prim.Native.Nat.{ℕ, _+_, _-_}
 use lib.Dec.{eqb, leb}
+use lib.ListN.{getD}
 use Rattle.loops.specs.Loop.{pick}
+use Rattle.valence.specs.declared.Targets.{Targets}
 
 -- what a bond of a kind adds to a bond sum: its kind, an elided bond counting 1
 unfoldable pub order : ℕ → ℕ
@@ -24,6 +26,10 @@ targets e =
     (pick (eqb e 53) (1 ∷ [])
     (pick (eqb e 85) (1 ∷ [])
     (pick (eqb e 117) (1 ∷ []) [])))))))))))
+
+-- the same as a row of three, with 0 for each that is not there
+abbrev pub targetRow : ℕ → Targets
+targetRow e = record { 0 = getD (targets e) 0 0; 1 = getD (targets e) 1 0; 2 = getD (targets e) 2 0 }
 
 abbrev pub headOr0 : List ℕ → ℕ
 headOr0 [] = 0

@@ -1,1 +1,92 @@
 // Valence: what a bond adds to a bond sum, target valences, implied hydrogens, and the delocalization rule.
+ghost use mathlib.Core.Path.{_≡_};
+ghost use Rattle.valence.specs.Valence.{order, targets, targetRow, firstTarget, firstRoom, implied, delocalized};
+
+// The target valences of an element in their order; 0 for each that it lacks.
+struct Targets(usize, usize, usize);
+
+// What a bond of a kind adds to a bond sum; 0 where there is no such kind.
+pub fn order(kind: usize) -> usize
+    ensures { λ r. ⌜ r ≡ order kind ⌝ }
+{
+    if kind == 0 {
+        return 1;
+    }
+    if kind <= 3 {
+        return kind;
+    }
+    0
+}
+
+// The target valences of an element.
+fn target_row(e: usize) -> Targets
+    ensures { λ r. ⌜ r ≡ targetRow e ⌝ }
+{
+    match e {
+        5 => Targets(3, 0, 0),
+        6 => Targets(4, 0, 0),
+        7 => Targets(3, 5, 0),
+        8 => Targets(2, 0, 0),
+        9 => Targets(1, 0, 0),
+        15 => Targets(3, 5, 0),
+        16 => Targets(2, 4, 6),
+        17 => Targets(1, 0, 0),
+        35 => Targets(1, 0, 0),
+        53 => Targets(1, 0, 0),
+        85 => Targets(1, 0, 0),
+        117 => Targets(1, 0, 0),
+        _ => Targets(0, 0, 0),
+    }
+}
+
+// The first target valence of an element; 0 where it has none.
+pub fn first_target(e: usize) -> usize
+    ensures { λ r. ⌜ r ≡ firstTarget e ⌝ }
+{
+    target_row(e).0
+}
+
+// The first target less the sum that is not negative; 0 where there is none. A target of 0 never counts: a sum of 0 meets the first one.
+fn room(e: usize, sum: usize) -> usize
+    ensures { λ r. ⌜ r ≡ firstRoom (targets e) sum ⌝ }
+{
+    let t = target_row(e);
+    if sum <= t.0 {
+        return t.0 - sum;
+    }
+    if sum <= t.1 {
+        return t.1 - sum;
+    }
+    if sum <= t.2 {
+        return t.2 - sum;
+    }
+    0
+}
+
+// The hydrogens of an atom outside brackets, from its element, its selected cell and its bond sum.
+pub fn implied(e: usize, selected: usize, sum: usize) -> usize
+    ensures { λ r. ⌜ r ≡ implied e selected sum ⌝ }
+{
+    if selected == 1 {
+        let first = first_target(e);
+        if sum < first {
+            return first - sum - 1;
+        }
+        return 0;
+    }
+    room(e, sum)
+}
+
+// Whether an atom is delocalized ("kept"), from its element, its selected cell, its bond sum and its hydrogens.
+pub fn delocalized(e: usize, selected: usize, sum: usize, hydrogens: usize) -> bool
+    ensures { λ r. ⌜ r ≡ delocalized e selected sum hydrogens ⌝ }
+{
+    if selected != 1 {
+        return false;
+    }
+    let first = first_target(e);
+    if first <= sum {
+        return false;
+    }
+    hydrogens < first - sum
+}

@@ -1,5 +1,8 @@
+use native.Mathlib.Omega.{arith}
 use borrow.Author.Tests.{le-leb, lt-leb}
+use Rattle.loops.proofs.Loops.{each-at}
 use Rattle.table.specs.Valid.{valid}
+use Rattle.table.proofs.Keys.{short-ends, held, failed}
 use borrow.Author.Needs.{needs}
 use Rattle.table.proofs.validity.valid.Statement.{statement}
 use Rattle.table.proofs.validity.valid.Tie as tie
@@ -15,18 +18,33 @@ returns-2 c = simp (le-leb _ _ (c .before .if1 .left), lt-leb _ _ (c .if2 .taken
 atoms-ok-requires : tie.Need-atoms-ok-requires
 atoms-ok-requires c κs = search needs
 
+returns-3 : tie.Need-returns-3
+unfolding valid
+returns-3 c = simp (le-leb _ _ (c .before .before .before .if1 .left), le-leb _ _ (c .before .before .if2 .left), failed (c .before .atoms-ok .ensures) (c .if3 .taken))
+
 bonds-ok-requires : tie.Need-bonds-ok-requires
 bonds-ok-requires c κs = search needs
 
-distinct-requires : tie.Need-distinct-requires
-distinct-requires c κs = search needs
-
-returns-3 : tie.Need-returns-3
+returns-4 : tie.Need-returns-4
 unfolding valid
-returns-3 c =
-    simp (le-leb _ _ (c .before .before .before .before .if1 .left), le-leb _ _ (c .before .before .before .if2 .left), c .before .before .atoms-ok .ensures, c .before .bonds-ok .ensures, c .distinct .ensures)
+returns-4 c = simp (le-leb _ _ (c .before .before .before .before .before .if1 .left), le-leb _ _ (c .before .before .before .before .if2 .left), held (c .before .before .before .atoms-ok .ensures) (c .before .before .if3 .left), failed (c .before .bonds-ok .ensures) (c .if4 .taken))
+
+distinct-requires : tie.Need-distinct-requires
+distinct-requires c κs = (omega arith, λ b h. short-ends _ _ b (omega arith) (each-at _ _ b (held (c .before .bonds-ok .ensures) (c .if4 .left)) h))
+
+returns-5 : tie.Need-returns-5
+unfolding valid
+returns-5 c = simp (le-leb _ _ (c .before .before .before .before .before .before .if1 .left), le-leb _ _ (c .before .before .before .before .before .if2 .left), held (c .before .before .before .before .atoms-ok .ensures) (c .before .before .before .if3 .left), held (c .before .before .bonds-ok .ensures) (c .before .if4 .left), c .distinct .ensures)
 
 pub valid-spec : {M : Type 1} → statement M
 valid-spec =
     tie.close
-    (tie.spec returns returns-2 atoms-ok-requires bonds-ok-requires distinct-requires returns-3)
+    (tie.spec
+    returns
+    returns-2
+    atoms-ok-requires
+    returns-3
+    bonds-ok-requires
+    returns-4
+    distinct-requires
+    returns-5)

@@ -1,0 +1,5 @@
+pub mod Table
+pub mod Symbols
+pub mod Answers
+pub mod Laws
+pub mod Claims

@@ -1,0 +1,7 @@
+pub mod Rest
+pub mod Bytes
+pub mod Fields
+pub mod Element
+pub mod Chain
+pub mod Again
+pub mod Letters

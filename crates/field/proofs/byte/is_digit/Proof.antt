@@ -1,0 +1,13 @@
+use Rattle.grammar.specs.Grammar.{digits}
+use Rattle.field.proofs.Bytes.{range}
+use Rattle.field.proofs.byte.is_digit.Statement.{statement}
+use Rattle.field.proofs.byte.is_digit.Tie as tie
+use Rattle.field.proofs.byte.is_digit.Reads as reads
+use Rattle.field.proofs.byte.is_digit.Lts as lts
+
+returns : tie.Need-returns
+unfolding digits
+returns c = range (c .args .b) 48 9
+
+pub is-digit-spec : {M : Type 1} → statement M
+is-digit-spec = tie.close (tie.spec returns)

@@ -1,0 +1,13 @@
+use Rattle.grammar.specs.Grammar.{nonzero}
+use Rattle.field.proofs.Bytes.{range}
+use Rattle.field.proofs.byte.is_nonzero.Statement.{statement}
+use Rattle.field.proofs.byte.is_nonzero.Tie as tie
+use Rattle.field.proofs.byte.is_nonzero.Reads as reads
+use Rattle.field.proofs.byte.is_nonzero.Lts as lts
+
+returns : tie.Need-returns
+unfolding nonzero
+returns c = range (c .args .b) 49 8
+
+pub is-nonzero-spec : {M : Type 1} → statement M
+is-nonzero-spec = tie.close (tie.spec returns)

@@ -1,0 +1,13 @@
+use Rattle.grammar.specs.Grammar.{several}
+use Rattle.field.proofs.Bytes.{range}
+use Rattle.field.proofs.byte.is_several.Statement.{statement}
+use Rattle.field.proofs.byte.is_several.Tie as tie
+use Rattle.field.proofs.byte.is_several.Reads as reads
+use Rattle.field.proofs.byte.is_several.Lts as lts
+
+returns : tie.Need-returns
+unfolding several
+returns c = range (c .args .b) 50 7
+
+pub is-several-spec : {M : Type 1} → statement M
+is-several-spec = tie.close (tie.spec returns)

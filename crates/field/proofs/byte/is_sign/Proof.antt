@@ -1,0 +1,14 @@
+use Rattle.grammar.specs.Grammar.{signs}
+use Rattle.element.specs.Symbols.{among}
+use Rattle.field.proofs.Bytes.{either}
+use Rattle.field.proofs.byte.is_sign.Statement.{statement}
+use Rattle.field.proofs.byte.is_sign.Tie as tie
+use Rattle.field.proofs.byte.is_sign.Reads as reads
+use Rattle.field.proofs.byte.is_sign.Lts as lts
+
+returns : tie.Need-returns
+unfolding signs among
+returns c = either (c .args .b) 43 45
+
+pub is-sign-spec : {M : Type 1} → statement M
+is-sign-spec = tie.close (tie.spec returns)

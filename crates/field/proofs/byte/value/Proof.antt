@@ -1,0 +1,20 @@
+use mathlib.Core.Path.{refl}
+use native.Mathlib.Omega.{arith}
+use Rattle.field.proofs.Bytes.{digit-low, digit-high}
+use borrow.Author.Needs.{needs}
+use Rattle.field.proofs.byte.value.Statement.{statement}
+use Rattle.field.proofs.byte.value.Tie as tie
+use Rattle.field.proofs.byte.value.Reads as reads
+use Rattle.field.proofs.byte.value.Lts as lts
+
+sub-result : tie.Need-sub-result
+sub-result c = digit-low _ (c .pre)
+
+cast-result : tie.Need-cast-result
+cast-result c = search needs
+
+returns : tie.Need-returns
+returns c = (refl, omega (arith, digit-low _ (c .pre), digit-high _ (c .pre)))
+
+pub value-spec : {M : Type 1} → statement M
+value-spec = tie.close (tie.spec sub-result cast-result returns)

@@ -1,0 +1,3 @@
+pub mod Rest
+pub mod Field
+pub mod Spelled

@@ -1,0 +1,2 @@
+pub mod Kekule
+pub mod Calls

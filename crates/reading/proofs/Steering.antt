@@ -1,0 +1,158 @@
+-- The reading state keeps naming atoms that were read. Assumes nothing.
+use Prim.Native.Nat.{ℕ, zero, suc, _+_, _-_, _≤_, _<_}
+use native.Mathlib.Omega.{arith}
+use native.Mathlib.Decide.{ℕ-discrete}
+use mathlib.Core.Path.{_≡_, refl, _∙_}
+use mathlib.Core.Bool.{Bool, true, false}
+use mathlib.Core.List.{List}
+use lib.ListN.{length, getD, set, replicate, length-set, length-replicate}
+use lib.Seq.{getD-set-same, getD-set-other}
+use lib.Dec.{eqb}
+use Rattle.loops.specs.Loop.{pick}
+use Rattle.table.specs.Limits.{maxAtoms}
+use Rattle.state.specs.Limits.{maxDepth, bridges}
+use Rattle.state.specs.declared.State.{State}
+use Rattle.state.specs.State.{started, opened, closed, bridged, joined}
+use Rattle.reading.specs.Memory.{extended}
+use Rattle.reading.proofs.Sane.{Steering}
+
+-- what holds of a value, and of every cell, holds of every cell after the value is written
+set-each : (P : ℕ → Type 0) (l : List ℕ) (i v : ℕ) → i < length l → P v → ((k : ℕ) → P (getD l k 0)) → (k : ℕ) → P (getD (set l i v) k 0)
+set-each P l i v h pv pl k = split (ℕ-discrete k i)
+  where
+    split : Dec (k ≡ i) → P (getD (set l i v) k 0)
+    split (yes e) = rw (e, getD-set-same l i v 0 h) pv
+    split (no n) = rw (getD-set-other l i k v 0 n) (pl k)
+
+pub replicate-0 : (n k : ℕ) → _≡_ {A = ℕ} (getD (replicate n 0) k 0) 0
+replicate-0 zero k = refl
+replicate-0 (suc n) zero = refl
+replicate-0 (suc n) (suc k) = replicate-0 n k
+
+pub started-steering : Steering 0 started
+unfolding started
+started-steering =
+    record {
+      stack-length = length-replicate {A = ℕ} maxDepth 0;
+      opener-length = length-replicate {A = ℕ} bridges 0;
+      symbol-length = length-replicate {A = ℕ} bridges 0;
+      offset-length = length-replicate {A = ℕ} bridges 0;
+      outside-length = length-replicate {A = ℕ} maxAtoms 0;
+      depth = omega arith;
+      stack = λ k l. absurd (omega arith);
+      opener = λ r. omega (arith, replicate-0 bridges r);
+      symbol = λ r. omega (arith, replicate-0 bridges r);
+      offset = λ r l. absurd (omega (arith, replicate-0 bridges r));
+    }
+
+module _ {i : ℕ} {s : State} (w : Steering i s) where
+  -- a byte later
+  pub later : Steering (suc i) s
+  later =
+      record {
+        stack-length = w .stack-length;
+        opener-length = w .opener-length;
+        symbol-length = w .symbol-length;
+        offset-length = w .offset-length;
+        outside-length = w .outside-length;
+        depth = w .depth;
+        stack = w .stack;
+        opener = w .opener;
+        symbol = w .symbol;
+        offset = λ r l. omega (arith, w .offset r l);
+      }
+
+  -- one atom more
+  pub extended-steering : (x m : ℕ) → Steering (suc i) (extended s x m)
+  extended-steering x m =
+      record {
+        stack-length = w .stack-length;
+        opener-length = w .opener-length;
+        symbol-length = w .symbol-length;
+        offset-length = w .offset-length;
+        outside-length = length-set (s .outside) (s .atoms) x ∙ w .outside-length;
+        depth = w .depth;
+        stack = λ k l. omega (arith, w .stack k l);
+        opener = λ r. omega (arith, w .opener r);
+        symbol = w .symbol;
+        offset = λ r l. omega (arith, w .offset r l);
+      }
+
+  -- a branch more
+  pub opened-steering : s .depth < maxDepth → s .hub .0 < s .atoms → Steering (suc i) (opened s)
+  unfolding opened
+  opened-steering d h =
+      record {
+        stack-length = length-set (s .stack) (s .depth) (s .hub .0) ∙ w .stack-length;
+        opener-length = w .opener-length;
+        symbol-length = w .symbol-length;
+        offset-length = w .offset-length;
+        outside-length = w .outside-length;
+        depth = omega arith;
+        stack = stack;
+        opener = w .opener;
+        symbol = w .symbol;
+        offset = λ r l. omega (arith, w .offset r l);
+      }
+    where
+      stack : (k : ℕ) → k < s .depth + 1 → getD (set (s .stack) (s .depth) (s .hub .0)) k 0 < s .atoms
+      stack k l = split (ℕ-discrete k (s .depth))
+        where
+          split : Dec (k ≡ s .depth) → getD (set (s .stack) (s .depth) (s .hub .0)) k 0 < s .atoms
+          split (yes e) = rw (e, getD-set-same (s .stack) (s .depth) (s .hub .0) 0 (omega (arith, w .stack-length))) h
+          split (no n) = rw (getD-set-other (s .stack) (s .depth) k (s .hub .0) 0 n) (w .stack k (omega arith))
+
+  -- a branch less
+  pub closed-steering : 0 < s .depth → Steering (suc i) (closed s)
+  unfolding closed
+  closed-steering d =
+      record {
+        stack-length = length-set (s .stack) (s .depth - 1) 0 ∙ w .stack-length;
+        opener-length = w .opener-length;
+        symbol-length = w .symbol-length;
+        offset-length = w .offset-length;
+        outside-length = w .outside-length;
+        depth = omega (arith, w .depth);
+        stack = λ k l. rw (getD-set-other (s .stack) (s .depth - 1) k 0 0 (λ e. omega arith)) (w .stack k (omega arith));
+        opener = w .opener;
+        symbol = w .symbol;
+        offset = λ r l. omega (arith, w .offset r l);
+      }
+
+  -- the hub after a branch is an atom
+  pub closed-hub : 0 < s .depth → closed s .hub .0 < closed s .atoms
+  unfolding closed
+  closed-hub d = w .stack (s .depth - 1) (omega arith)
+
+  -- another opener, symbol and offset of a bridge number
+  pub bridged-steering : (r a k p m : ℕ) → r < bridges → a ≤ s .atoms → k ≤ 3 → p ≤ i → Steering (suc i) (bridged s r a k p m)
+  bridged-steering r a k p m h ha hk hp =
+      record {
+        stack-length = w .stack-length;
+        opener-length = length-set (s .opener) r a ∙ w .opener-length;
+        symbol-length = length-set (s .symbol) r k ∙ w .symbol-length;
+        offset-length = length-set (s .offset) r p ∙ w .offset-length;
+        outside-length = w .outside-length;
+        depth = w .depth;
+        stack = w .stack;
+        opener = set-each (λ v. v ≤ s .atoms) (s .opener) r a (omega (arith, w .opener-length)) ha (w .opener);
+        symbol = set-each (λ v. v ≤ 3) (s .symbol) r k (omega (arith, w .symbol-length)) hk (w .symbol);
+        offset = offset;
+      }
+    where
+      offset : (c : ℕ) → 0 < getD (set (s .opener) r a) c 0 → getD (set (s .offset) r p) c 0 < suc i
+      offset c = split (ℕ-discrete c r)
+        where
+          split : Dec (c ≡ r) → 0 < getD (set (s .opener) r a) c 0 → getD (set (s .offset) r p) c 0 < suc i
+          split (yes e) l = rw (e, getD-set-same (s .offset) r p 0 (omega (arith, w .offset-length))) (omega arith)
+          split (no n) l =
+              let o : getD (set (s .opener) r a) c 0 ≡ getD (s .opener) c 0 = getD-set-other (s .opener) r c a 0 n in
+              rw (getD-set-other (s .offset) r c p 0 n) (omega (arith, w .offset c (omega arith)))
+
+  pub joined-steering : (r k p : ℕ) → r < bridges → s .hub .0 < s .atoms → k ≤ 3 → p ≤ i → Steering (suc i) (joined s r k p)
+  unfolding joined
+  joined-steering r k p hr hh hk hp = split (eqb (getD (s .opener) r 0) 0)
+    where
+      split : (t : Bool) → Steering (suc i) (pick t (bridged s r (s .hub .0 + 1) k p (s .bonds)) (bridged s r 0 0 0 (s .bonds + 1)))
+      split true = bridged-steering r (s .hub .0 + 1) k p (s .bonds) hr (omega arith) hk hp
+      split false = bridged-steering r 0 0 0 (s .bonds + 1) hr (omega arith) (omega arith) (omega arith)

@@ -1,0 +1,16 @@
+use Rattle.spell.proofs.Laws.{as-is, hydrogens-size}
+use borrow.Author.Needs.{needs}
+use Rattle.spell.proofs.field.hydrogens.Statement.{statement}
+use Rattle.spell.proofs.field.hydrogens.Tie as tie
+
+sized-requires : tie.Need-sized-requires
+sized-requires c κs = search needs
+
+same-length : tie.Need-same-length
+same-length c = search needs
+
+returns : tie.Need-returns
+returns c = as-is (hydrogens-size _) (c .before .before .sized .ensures)
+
+pub hydrogens-spec : {M : Type 1} → statement M
+hydrogens-spec = tie.close (tie.spec sized-requires same-length returns)

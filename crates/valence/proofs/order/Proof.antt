@@ -1,0 +1,19 @@
+use borrow.Author.Tests.{eq-eqb, ne-eqb, le-leb, lt-leb}
+use Rattle.valence.specs.Valence.{order}
+use Rattle.valence.proofs.order.Statement.{statement}
+use Rattle.valence.proofs.order.Tie as tie
+
+returns : tie.Need-returns
+unfolding order
+returns c = simp (eq-eqb _ _ (c .if1 .taken))
+
+returns-2 : tie.Need-returns-2
+unfolding order
+returns-2 c = simp (ne-eqb _ _ (c .before .if1 .left), le-leb _ _ (c .if2 .taken))
+
+returns-3 : tie.Need-returns-3
+unfolding order
+returns-3 c = simp (ne-eqb _ _ (c .before .if1 .left), lt-leb _ _ (c .if2 .left))
+
+pub order-spec : {M : Type 1} → statement M
+order-spec = tie.close (tie.spec returns returns-2 returns-3)

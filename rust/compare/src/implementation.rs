@@ -1,0 +1,128 @@
+//! What is compared: implementations of the calls on tables.
+
+use crate::buffers::Buffers;
+use balsa_reference::tables::{self, Step, Tables};
+use balsa_reference::{Code, Refusal};
+
+/// The answer of a call: the paper's number of a refusal or 0, its place, and what is handed back.
+#[derive(Clone, Copy, Debug, Default, PartialEq, Eq)]
+pub struct Answer {
+    /// The number of the refusal, 0 for none.
+    pub code: u8,
+    /// The place of the refusal.
+    pub place: usize,
+    /// Atoms and bonds read; 1 for the end of a list; 1 for a matching; the length written.
+    pub numbers: [usize; 2],
+}
+
+impl Answer {
+    /// An acceptance.
+    pub fn of(first: usize, second: usize) -> Self {
+        Answer {
+            numbers: [first, second],
+            ..Answer::default()
+        }
+    }
+
+    /// Whether the call was accepted.
+    pub fn is_accepted(&self) -> bool {
+        self.code == 0
+    }
+}
+
+impl From<Code> for Answer {
+    fn from(code: Code) -> Self {
+        Refusal::from(code).into()
+    }
+}
+
+impl From<Refusal> for Answer {
+    fn from(refusal: Refusal) -> Self {
+        Answer {
+            code: refusal.code.number(),
+            place: refusal.place,
+            ..Answer::default()
+        }
+    }
+}
+
+/// An implementation of the calls. Each takes what it needs from the buffers; only reading sets
+/// the counts there.
+pub trait Implementation {
+    /// The name that is shown.
+    fn name(&self) -> &str;
+    /// Reads a text into the tables.
+    fn read(&self, text: &[u8], buffers: &mut Buffers) -> Answer;
+    /// Stores the first matching in the row.
+    fn first(&self, buffers: &mut Buffers) -> Answer;
+    /// Stores the matching after the row in the row.
+    fn next(&self, buffers: &mut Buffers) -> Answer;
+    /// Tells whether the row is a matching.
+    fn is_matching(&self, buffers: &mut Buffers) -> Answer;
+    /// Kekulizes the tables by the row.
+    fn kekulize(&self, buffers: &mut Buffers) -> Answer;
+    /// Writes the molecule of the tables.
+    fn write(&self, buffers: &mut Buffers) -> Answer;
+}
+
+/// The reference.
+pub struct Reference;
+
+fn tables_of(buffers: &Buffers) -> Tables<'_> {
+    Tables {
+        atoms: &buffers.atoms,
+        bonds: &buffers.bonds,
+        counts: buffers.counts,
+    }
+}
+
+fn answer<T, E: Into<Answer>>(result: Result<T, E>, accepted: impl FnOnce(T) -> Answer) -> Answer {
+    result.map_or_else(Into::into, accepted)
+}
+
+impl Implementation for Reference {
+    fn name(&self) -> &str {
+        "reference"
+    }
+
+    fn read(&self, text: &[u8], buffers: &mut Buffers) -> Answer {
+        let counts = tables::read(text, &mut buffers.atoms, &mut buffers.bonds);
+        buffers.counts = counts.unwrap_or_default();
+        answer(counts, |counts| Answer::of(counts.atoms, counts.bonds))
+    }
+
+    fn first(&self, buffers: &mut Buffers) -> Answer {
+        let mut row = std::mem::take(&mut buffers.row);
+        let result = tables::first(tables_of(buffers), &mut row);
+        buffers.row = row;
+        answer(result, |()| Answer::default())
+    }
+
+    fn next(&self, buffers: &mut Buffers) -> Answer {
+        let mut row = std::mem::take(&mut buffers.row);
+        let result = tables::next(tables_of(buffers), &mut row);
+        buffers.row = row;
+        answer(result, |step| Answer::of(usize::from(step == Step::End), 0))
+    }
+
+    fn is_matching(&self, buffers: &mut Buffers) -> Answer {
+        let result = tables::is_matching(tables_of(buffers), &buffers.row);
+        answer(result, |is_matching| {
+            Answer::of(usize::from(is_matching), 0)
+        })
+    }
+
+    fn kekulize(&self, buffers: &mut Buffers) -> Answer {
+        let (atoms, bonds) = (&mut buffers.atoms, &mut buffers.bonds);
+        let result = tables::kekulize(atoms, bonds, buffers.counts, &buffers.row);
+        answer(result, |()| Answer::default())
+    }
+
+    fn write(&self, buffers: &mut Buffers) -> Answer {
+        let mut text = std::mem::take(&mut buffers.text);
+        let mut renumbering = std::mem::take(&mut buffers.renumbering);
+        let result = tables::write(tables_of(buffers), &mut text, &mut renumbering);
+        (buffers.text, buffers.renumbering) = (text, renumbering);
+        answer(result, |length| Answer::of(length, 0))
+    }
+}

@@ -1,0 +1,120 @@
+//! What the paper promises of a single implementation, checked on tables that it accepts.
+
+use crate::buffers::Buffers;
+use crate::implementation::{Answer, Implementation};
+use balsa_reference::{ATOM_CELLS, BOND_CELLS};
+
+/// The number of the refusal of a buffer that is too short.
+const SHORT_BUFFER: u8 = 1;
+/// The number of the refusal of a molecule without a matching.
+const NO_MATCHING: u8 = 11;
+
+fn holds(law: bool, message: &str) -> Result<(), String> {
+    law.then_some(()).ok_or_else(|| message.to_string())
+}
+
+/// Checks the list of matchings, kekulizing and reading back on tables, or tells what is wrong.
+pub fn check(implementation: &dyn Implementation, buffers: &Buffers) -> Result<(), String> {
+    let mut buffers = buffers.clone();
+    check_read_back(implementation, &mut buffers)?;
+    if implementation.first(&mut buffers).is_accepted() {
+        check_list(implementation, &buffers)?;
+        let before = buffers.clone();
+        let answer = implementation.kekulize(&mut buffers);
+        if !answer.is_accepted() {
+            return Err(format!("kekulizing by the first matching: {answer:?}"));
+        }
+        check_kekulized(&before, &buffers)?;
+        check_read_back(implementation, &mut buffers)?;
+    }
+    Ok(())
+}
+
+/// A written text, read back, has every atom and every bond under the renumbering; or it has no
+/// matching, and neither has the molecule.
+fn check_read_back(
+    implementation: &dyn Implementation,
+    buffers: &mut Buffers,
+) -> Result<(), String> {
+    let written = implementation.write(buffers);
+    if !written.is_accepted() {
+        return Ok(());
+    }
+    let text = &buffers.text[..written.numbers[0]];
+    let mut back = buffers.clone();
+    let answer = implementation.read(text, &mut back);
+    if answer.code == NO_MATCHING {
+        let first = implementation.first(&mut buffers.clone());
+        let is_right = [NO_MATCHING, SHORT_BUFFER].contains(&first.code);
+        return holds(
+            is_right,
+            "a text without a matching, but its molecule has one",
+        );
+    }
+    if answer != Answer::of(buffers.counts.atoms, buffers.counts.bonds) {
+        return Err(format!("read back: {answer:?}"));
+    }
+    check_renumbered(buffers, &back)
+}
+
+fn check_renumbered(buffers: &Buffers, back: &Buffers) -> Result<(), String> {
+    let renumber = |atom: i32| i32::from(buffers.renumbering[atom as usize]);
+    let atoms = buffers
+        .atoms
+        .chunks_exact(ATOM_CELLS)
+        .take(buffers.counts.atoms);
+    for (number, cells) in atoms.enumerate() {
+        let start = ATOM_CELLS * renumber(number as i32) as usize;
+        if back.atoms[start..start + ATOM_CELLS] != *cells {
+            return Err(format!("atom {number} changed"));
+        }
+    }
+    let count = buffers.counts.bonds;
+    let bonds_of = |tables: &Buffers| -> Vec<[i32; BOND_CELLS]> {
+        let rows = tables.bonds.chunks_exact(BOND_CELLS).take(count);
+        rows.map(|row| [row[0], row[1], row[2]]).collect()
+    };
+    let renumbered = |[one, other, kind]: [i32; BOND_CELLS]| {
+        let (one, other) = (renumber(one), renumber(other));
+        [one.min(other), one.max(other), kind]
+    };
+    let mut moved: Vec<_> = bonds_of(buffers).into_iter().map(renumbered).collect();
+    let mut read = bonds_of(back);
+    moved.sort_unstable();
+    read.sort_unstable();
+    holds(moved == read, "bonds changed")
+}
+
+/// The rows from the first on are matchings and descend.
+fn check_list(implementation: &dyn Implementation, first: &Buffers) -> Result<(), String> {
+    let mut buffers = first.clone();
+    for _ in 0..20 {
+        if implementation.is_matching(&mut buffers) != Answer::of(1, 0) {
+            return Err("a listed row is no matching".to_string());
+        }
+        let before = buffers.row.clone();
+        let answer = implementation.next(&mut buffers);
+        if answer == Answer::of(1, 0) {
+            let is_zero = buffers.row.iter().all(|&cell| cell == 0);
+            return holds(is_zero, "a row left at the end");
+        }
+        if !answer.is_accepted() || buffers.row >= before {
+            return Err(format!("after a matching: {answer:?}"));
+        }
+    }
+    Ok(())
+}
+
+/// Kekulizing makes the bonds of the row double, clears the selected cells and does nothing else.
+fn check_kekulized(before: &Buffers, after: &Buffers) -> Result<(), String> {
+    let mut expected = before.clone();
+    for atom in 0..before.counts.atoms {
+        expected.atoms[ATOM_CELLS * atom + 1] = 0;
+    }
+    for bond in 0..before.counts.bonds {
+        if before.row[bond] == 1 {
+            expected.bonds[BOND_CELLS * bond + 2] = 2;
+        }
+    }
+    holds(expected == *after, "kekulized otherwise")
+}

@@ -1,0 +1,15 @@
+//! Comparing implementations on random texts and tables.
+//!
+//! All that is random comes from a seed, so that a difference can be found again. To compare
+//! another implementation, implement [`implementation::Implementation`] for it and name it in the
+//! program `compare`.
+
+pub mod buffers;
+pub mod implementation;
+pub mod laws;
+pub mod limits;
+pub mod molecules;
+pub mod pair;
+pub mod random;
+pub mod spelling;
+pub mod texts;

@@ -1,0 +1,106 @@
+//! Molecules at the limits of writing.
+
+use crate::random::Random;
+use balsa_reference::{Atom, Bond, Kind, Molecule, MAX_BONDS};
+
+const CARBON: Atom = Atom {
+    element: 6,
+    selected: false,
+    isotope: 0,
+    hydrogens: 0,
+    charge: 0,
+    extension: 0,
+};
+
+/// The longest spelling of an atom.
+pub const LONG: Atom = Atom {
+    element: 27,
+    selected: false,
+    isotope: 999,
+    hydrogens: 9,
+    charge: -9,
+    extension: 9999,
+};
+
+fn of_ends(atoms: usize, ends: impl Iterator<Item = (usize, usize)>, kind: Kind) -> Molecule {
+    let bonds = ends.map(|(one, other)| Bond::between(one, other, kind));
+    Molecule {
+        atoms: vec![CARBON; atoms],
+        bonds: bonds.take(MAX_BONDS).collect(),
+    }
+}
+
+/// All bonds between 18 to 23 atoms: about 99 bridges open at once.
+pub fn complete(random: &mut Random) -> Molecule {
+    let atoms = random.between(18, 23);
+    let pairs = (0..atoms).flat_map(|one| (one + 1..atoms).map(move |other| (one, other)));
+    of_ends(atoms, pairs, Kind::Single)
+}
+
+/// A chain of atoms, all joined to the first: about 99 bridges open there.
+pub fn fan(random: &mut Random) -> Molecule {
+    let atoms = random.between(100, 104);
+    let chain = (1..atoms).map(|atom| (atom - 1, atom));
+    let spokes = (2..atoms).map(|atom| (0, atom));
+    of_ends(atoms, chain.chain(spokes), Kind::Elided)
+}
+
+/// A spine whose atoms have leaves after it, about 64 deep, perhaps with bridges and with long
+/// spellings, so that up to three limits are passed.
+pub fn nested(random: &mut Random) -> Molecule {
+    let depth = random.between(62, 67);
+    let spine = (0..depth).map(|atom| (atom, atom + 1));
+    let leaves = (0..depth).map(|atom| (atom, depth + 1 + atom));
+    let mut molecule = of_ends(2 * depth + 1, spine.chain(leaves), Kind::Single);
+    if random.percent(50) {
+        let bridges = *random.pick(&[1, 50, 98, 99, 100, 101]);
+        let ends = (2..molecule.atoms.len()).filter(|&end| end != depth + 1);
+        let bonds = ends.map(|end| Bond::between(0, end, Kind::Triple));
+        molecule.bonds.extend(bonds.take(bridges));
+    }
+    if random.percent(50) {
+        let atoms = random.between(molecule.atoms.len(), 200);
+        molecule.atoms = vec![LONG; atoms];
+    }
+    molecule
+}
+
+/// Eight spine atoms with 24 leaves each and 51 bridges, all with the longest spellings but for
+/// some bytes: about 4,096 of them. Two atoms at a leaf are perhaps delocalized.
+pub fn longest(random: &mut Random) -> Molecule {
+    let leaf = |spine: usize, leaf: usize| 8 + 24 * spine + leaf;
+    let mut ends = Vec::new();
+    for spine in 0..8 {
+        ends.extend((0..24).map(|number| (spine, leaf(spine, number))));
+        ends.extend((spine < 7).then_some((spine, spine + 1)));
+    }
+    ends.extend((0..51).map(|bridge| (bridge / 17, leaf(7, bridge % 17))));
+    let mut molecule = of_ends(200, ends.into_iter(), Kind::Single);
+    molecule.atoms.fill(LONG);
+    if random.percent(50) {
+        let (inner, outer) = (leaf(3, 22), leaf(3, 23));
+        for bond in &mut molecule.bonds {
+            if bond.second == outer {
+                *bond = Bond::between(inner, outer, Kind::Elided);
+            }
+        }
+        for (number, hydrogens) in [(inner, 1), (outer, 2)] {
+            let atom = &mut molecule.atoms[number];
+            (atom.element, atom.selected, atom.hydrogens) = (6, true, hydrogens);
+        }
+    }
+    for number in 0..random.below(9) {
+        molecule.atoms[number].isotope = 99;
+    }
+    molecule
+}
+
+/// A molecule at one of the limits.
+pub fn molecule(random: &mut Random) -> Molecule {
+    match random.below(4) {
+        0 => complete(random),
+        1 => fan(random),
+        2 => nested(random),
+        _ => longest(random),
+    }
+}

@@ -1,0 +1,185 @@
+//! The comparison itself: it is reproducible, it reaches every refusal, and it sees differences.
+
+use balsa_reference::read;
+use compare::buffers::Buffers;
+use compare::implementation::{Answer, Implementation, Reference};
+use compare::laws;
+use compare::molecules::{self, Effort};
+use compare::pair::{compare_tables, compare_text};
+use compare::random::Random;
+use compare::{spelling, texts};
+use std::collections::BTreeSet;
+
+#[test]
+fn a_seed_gives_the_same_texts() {
+    let texts = |seed| -> Vec<Vec<u8>> {
+        let mut random = Random::new(seed);
+        (0..200)
+            .map(|_| texts::text(&mut random, Effort::Plain))
+            .collect()
+    };
+    assert_eq!(texts(3), texts(3));
+    assert_ne!(texts(3), texts(4));
+    assert!(texts(3).iter().flatten().all(|&byte| byte != b'\n'));
+}
+
+#[test]
+fn the_texts_reach_every_refusal() {
+    let mut random = Random::new(1);
+    let mut codes = BTreeSet::new();
+    for _ in 0..20_000 {
+        let text = texts::text(&mut random, Effort::Plain);
+        let code = balsa_reference::report_line(&text).map_or_else(|no| no.code.number(), |_| 0);
+        codes.insert(code);
+    }
+    let expected = (0..=16).filter(|code| ![1, 12, 13].contains(code));
+    assert_eq!(codes, expected.collect());
+}
+
+#[test]
+fn the_tables_reach_every_refusal() {
+    let mut random = Random::new(1);
+    let mut codes = BTreeSet::new();
+    for _ in 0..3000 {
+        let mut buffers = Buffers::random(&mut random, Effort::Hard);
+        codes.insert(Reference.write(&mut buffers).code);
+        codes.insert(Reference.kekulize(&mut buffers.clone()).code);
+        codes.insert(Reference.first(&mut buffers).code);
+    }
+    assert_eq!(codes, BTreeSet::from([0, 1, 11, 12, 13, 14, 15, 16]));
+}
+
+/// A molecule in a random spelling is read as the same molecule, renumbered: its atoms and kinds
+/// of bonds are the same ones.
+#[test]
+fn spellings_mean_the_molecule() {
+    let mut random = Random::new(5);
+    let mut accepted = 0;
+    for _ in 0..3000 {
+        let molecule = molecules::molecule(&mut random, Effort::Hard);
+        let text = spelling::text(&mut random, &molecule);
+        let Ok(back) = read(&text) else { continue };
+        accepted += 1;
+        let atoms = |molecule: &balsa_reference::Molecule| {
+            let mut atoms: Vec<_> = molecule
+                .atoms
+                .iter()
+                .map(|atom| format!("{atom:?}"))
+                .collect();
+            atoms.sort();
+            atoms
+        };
+        let kinds = |molecule: &balsa_reference::Molecule| {
+            let mut kinds: Vec<_> = molecule.bonds.iter().map(|bond| bond.kind as u8).collect();
+            kinds.sort_unstable();
+            kinds
+        };
+        let shown = String::from_utf8_lossy(&text);
+        assert_eq!(atoms(&back), atoms(&molecule), "{shown}");
+        assert_eq!(kinds(&back), kinds(&molecule), "{shown}");
+    }
+    assert!(accepted > 1500, "{accepted}");
+}
+
+/// The reference with one fault.
+struct Faulty {
+    fault: &'static str,
+}
+
+impl Faulty {
+    fn has(&self, fault: &str) -> bool {
+        self.fault == fault
+    }
+}
+
+impl Implementation for Faulty {
+    fn name(&self) -> &str {
+        self.fault
+    }
+
+    fn read(&self, text: &[u8], buffers: &mut Buffers) -> Answer {
+        let mut answer = Reference.read(text, buffers);
+        if self.has("place of 10") && answer.code == 10 {
+            answer.place += 1;
+        }
+        if self.has("dirty table") && answer.code == 3 {
+            *buffers.bonds.last_mut().unwrap() = 1;
+        }
+        answer
+    }
+
+    fn first(&self, buffers: &mut Buffers) -> Answer {
+        Reference.first(buffers)
+    }
+
+    fn next(&self, buffers: &mut Buffers) -> Answer {
+        let before = buffers.row.clone();
+        let mut answer = Reference.next(buffers);
+        if self.has("row at the end") && answer == Answer::of(1, 0) {
+            buffers.row = before;
+        } else if self.has("early end") && answer == Answer::of(0, 0) {
+            buffers.row.fill(0);
+            answer = Answer::of(1, 0);
+        }
+        answer
+    }
+
+    fn is_matching(&self, buffers: &mut Buffers) -> Answer {
+        Reference.is_matching(buffers)
+    }
+
+    fn kekulize(&self, buffers: &mut Buffers) -> Answer {
+        let answer = Reference.kekulize(buffers);
+        if self.has("row cleared") && answer.code == 12 {
+            buffers.row.fill(0);
+        }
+        answer
+    }
+
+    fn write(&self, buffers: &mut Buffers) -> Answer {
+        let answer = Reference.write(buffers);
+        if self.has("15 before 14") && answer.code == 14 {
+            return Answer { code: 15, ..answer };
+        }
+        if self.has("renumbering") && answer.is_accepted() && buffers.counts.atoms > 1 {
+            buffers.renumbering.swap(0, 1);
+        }
+        answer
+    }
+}
+
+/// The number of cases in which a fault is seen by the comparison and by the laws.
+fn seen(fault: &'static str) -> (usize, usize) {
+    let faulty = Faulty { fault };
+    let mut random = Random::new(11);
+    let (mut differences, mut broken_laws) = (0, 0);
+    for _ in 0..2000 {
+        let text = texts::text(&mut random, Effort::Plain);
+        let dirty = Buffers::dirty(&mut random);
+        let buffers = Buffers::random(&mut random, Effort::Plain);
+        differences += usize::from(compare_text(&Reference, &faulty, &text, &dirty).is_err());
+        differences += usize::from(compare_tables(&Reference, &faulty, &buffers).is_err());
+        broken_laws += usize::from(laws::check(&faulty, &buffers).is_err());
+    }
+    (differences, broken_laws)
+}
+
+#[test]
+fn faults_are_seen() {
+    assert_eq!(seen("none"), (0, 0));
+    let faults = [
+        "place of 10",
+        "dirty table",
+        "row at the end",
+        "early end",
+        "row cleared",
+        "15 before 14",
+        "renumbering",
+    ];
+    for fault in faults {
+        let (differences, _) = seen(fault);
+        assert!(differences > 0, "{fault}");
+    }
+    assert!(seen("row at the end").1 > 0);
+    assert!(seen("renumbering").1 > 0);
+}

@@ -1,0 +1,153 @@
+//! First and next against the paper's definition: all rows of 0 and 1 are tried.
+
+use balsa_reference::tables::{self, Counts, Step, Tables, ATOM_TABLE, BOND_TABLE, ROW};
+use balsa_reference::{tables::fill, Atom, Bond, Code, Kind, Molecule};
+use compare::molecules::{self, Effort};
+use compare::random::Random;
+
+/// The delocalized atoms, from the cells of valid tables.
+fn delocalized(tables: Tables) -> Vec<bool> {
+    let is_delocalized = |atom: usize| {
+        let cells = &tables.atoms[6 * atom..6 * atom + 6];
+        let bonds = tables.bonds.chunks(3).take(tables.counts.bonds);
+        let at_atom = bonds.filter(|bond| bond[0] as usize == atom || bond[1] as usize == atom);
+        let sum: i32 = at_atom
+            .map(|bond| if bond[2] == 0 { 1 } else { bond[2] })
+            .sum();
+        let target = match cells[0] {
+            6 => 4,
+            7 | 15 => 3,
+            _ => 2,
+        };
+        cells[1] == 1 && sum + cells[3] < target
+    };
+    (0..tables.counts.atoms).map(is_delocalized).collect()
+}
+
+/// Whether a row is a matching, word by word.
+fn is_matching(tables: Tables, delocalized: &[bool], row: &[u8]) -> bool {
+    let mut ends = vec![0; tables.counts.atoms];
+    for (bond, &cell) in tables.bonds.chunks(3).zip(row) {
+        let (one, other) = (bond[0] as usize, bond[1] as usize);
+        if cell == 1 {
+            if bond[2] != 0 || !delocalized[one] || !delocalized[other] {
+                return false;
+            }
+            ends[one] += 1;
+            ends[other] += 1;
+        }
+    }
+    ends.iter()
+        .zip(delocalized)
+        .all(|(&ends, &is_delocalized)| ends == i32::from(is_delocalized))
+}
+
+/// Every row of 0 and 1, the one with 1 at the first difference first.
+fn rows(bonds: usize) -> Vec<Vec<u8>> {
+    let row = |number: usize| {
+        (0..bonds)
+            .rev()
+            .map(|bit| (number >> bit & 1) as u8)
+            .collect()
+    };
+    (0..1 << bonds).rev().map(row).collect()
+}
+
+/// Compares the calls on this molecule, for every row, with the definition; gives the number of
+/// its matchings.
+fn check(molecule: &Molecule) -> usize {
+    let (mut atoms, mut bonds) = (vec![0; ATOM_TABLE], vec![0; BOND_TABLE]);
+    fill(molecule, &mut atoms, &mut bonds);
+    let counts: Counts = tables::counts(molecule);
+    let tables = Tables {
+        atoms: &atoms,
+        bonds: &bonds,
+        counts,
+    };
+    let delocalized = delocalized(tables);
+    let all = rows(counts.bonds);
+    let is_listed = |row: &&Vec<u8>| is_matching(tables, &delocalized, row);
+    let list: Vec<&Vec<u8>> = all.iter().filter(is_listed).collect();
+    let padded = |row: Option<&&Vec<u8>>| {
+        let mut cells = vec![0; ROW];
+        cells[..counts.bonds].copy_from_slice(row.map_or(&vec![0; counts.bonds], |row| row));
+        cells
+    };
+    let mut row = vec![9; ROW];
+    let answer = if list.is_empty() {
+        Err(Code::NoMatching)
+    } else {
+        Ok(())
+    };
+    assert_eq!(tables::first(tables, &mut row), answer, "{molecule:?}");
+    assert_eq!(row, padded(list.first()), "{molecule:?}");
+    for given in &all {
+        let place = list.iter().position(|row| *row == given);
+        let mut row = vec![9; ROW];
+        row[..counts.bonds].copy_from_slice(given);
+        assert_eq!(tables::is_matching(tables, &row), Ok(place.is_some()));
+        let later = place.and_then(|place| list.get(place + 1));
+        let answer = match (place, later) {
+            (None, _) => Err(Code::NotAMatching),
+            (Some(_), None) => Ok(Step::End),
+            (Some(_), Some(_)) => Ok(Step::Matching),
+        };
+        assert_eq!(
+            tables::next(tables, &mut row),
+            answer,
+            "{molecule:?} {given:?}"
+        );
+        assert_eq!(row, padded(later), "{molecule:?} {given:?}");
+    }
+    list.len()
+}
+
+/// All molecules with five carbon atoms, selected or not, and at most five elided bonds, which
+/// are numbered by their ends.
+#[test]
+fn every_small_molecule() {
+    let pairs: Vec<(usize, usize)> = (0..5)
+        .flat_map(|one| (one + 1..5).map(move |other| (one, other)))
+        .collect();
+    let mut matchings = 0;
+    for bond_set in 0..1u32 << pairs.len() {
+        if bond_set.count_ones() > 5 {
+            continue;
+        }
+        let chosen = pairs
+            .iter()
+            .enumerate()
+            .filter(|(place, _)| bond_set >> place & 1 == 1);
+        let bond =
+            |(_, &(one, other)): (usize, &(usize, usize))| Bond::between(one, other, Kind::Elided);
+        let bonds: Vec<Bond> = chosen.map(bond).collect();
+        for selected_set in 0..32 {
+            let atom = |number: usize| Atom {
+                element: 6,
+                selected: selected_set >> number & 1 == 1,
+                ..Atom::default()
+            };
+            let molecule = Molecule {
+                atoms: (0..5).map(atom).collect(),
+                bonds: bonds.clone(),
+            };
+            matchings += check(&molecule);
+        }
+    }
+    assert!(matchings > 1000, "{matchings}");
+}
+
+#[test]
+fn random_molecules() {
+    let mut random = Random::new(7);
+    let (mut checked, mut listed) = (0, 0);
+    while checked < 3000 {
+        let mut molecule = molecules::molecule(&mut random, Effort::Plain);
+        random.shuffle(&mut molecule.bonds);
+        if molecule.bonds.len() <= 9 {
+            checked += 1;
+            listed += check(&molecule);
+        }
+    }
+    assert!(listed > 1500, "{listed}");
+}

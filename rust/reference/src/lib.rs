@@ -1,0 +1,42 @@
+//! A reader, writer and kekulizer of Balsa texts, written from the paper alone.
+//!
+//! It is the second program to which the proved one is compared, and the baseline of the
+//! benchmark. [`read`], [`first`], [`next`], [`kekulize`] and [`write`] work on a [`Molecule`];
+//! [`tables`] holds the same calls on tables of `i32`, with the paper's rules for short buffers
+//! and for what a refusal leaves behind.
+
+mod blossom;
+mod element;
+mod matching;
+mod molecule;
+mod read;
+mod refusal;
+mod report;
+mod search;
+pub mod tables;
+mod valence;
+mod write;
+
+pub use element::{number_of, symbol_of};
+pub use matching::{first, has_matching, is_matching, kekulize, next};
+pub use molecule::{Atom, Bond, Kind, Molecule, Neighbour, Neighbours};
+pub use read::read;
+pub use refusal::{Code, Refusal};
+pub use report::{report, report_line, Accepted};
+pub use valence::{delocalized, implied_hydrogens, is_shorthand};
+pub use write::{write, Written};
+
+/// The longest text that is read or written, in bytes.
+pub const MAX_TEXT: usize = 4096;
+/// The most atoms of a molecule.
+pub const MAX_ATOMS: usize = 200;
+/// The most bonds of a molecule.
+pub const MAX_BONDS: usize = 250;
+/// The deepest nesting of branches.
+pub const MAX_BRANCHES: usize = 64;
+/// The highest bridge number, and so the most bridges open at once.
+pub const MAX_BRIDGES: usize = 99;
+/// The cells of an atom's row in a table.
+pub const ATOM_CELLS: usize = 6;
+/// The cells of a bond's row in a table.
+pub const BOND_CELLS: usize = 3;

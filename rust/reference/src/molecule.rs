@@ -1,0 +1,162 @@
+//! Molecules: atoms and bonds.
+
+/// An atom.
+#[derive(Clone, Copy, Debug, Default, PartialEq, Eq)]
+pub struct Atom {
+    /// The atomic number, 0 for `*`.
+    pub element: u8,
+    /// Whether the atom is selected.
+    pub selected: bool,
+    /// The isotope, 0 for none.
+    pub isotope: u16,
+    /// The hydrogens.
+    pub hydrogens: u8,
+    /// The charge.
+    pub charge: i8,
+    /// The extension, 0 for none.
+    pub extension: u16,
+}
+
+/// The kind of a bond, under its number in a table.
+#[derive(Clone, Copy, Debug, PartialEq, Eq)]
+#[repr(u8)]
+pub enum Kind {
+    /// Written without a symbol.
+    Elided = 0,
+    /// `-`
+    Single = 1,
+    /// `=`
+    Double = 2,
+    /// `#`
+    Triple = 3,
+}
+
+impl Kind {
+    /// What a bond of this kind adds to a bond sum.
+    pub fn order(self) -> u32 {
+        (self as u32).max(1)
+    }
+
+    /// The kind of a bond symbol.
+    pub fn of_symbol(byte: u8) -> Option<Self> {
+        match byte {
+            b'-' => Some(Kind::Single),
+            b'=' => Some(Kind::Double),
+            b'#' => Some(Kind::Triple),
+            _ => None,
+        }
+    }
+
+    /// The symbol that is written.
+    pub fn symbol(self) -> Option<u8> {
+        match self {
+            Kind::Elided => None,
+            Kind::Single => Some(b'-'),
+            Kind::Double => Some(b'='),
+            Kind::Triple => Some(b'#'),
+        }
+    }
+}
+
+/// A bond between two atoms, given by their numbers, the lower one first.
+#[derive(Clone, Copy, Debug, PartialEq, Eq)]
+pub struct Bond {
+    /// The lower atom number.
+    pub first: usize,
+    /// The higher atom number.
+    pub second: usize,
+    /// The kind.
+    pub kind: Kind,
+}
+
+impl Bond {
+    /// The bond between two atoms in any order.
+    pub fn between(one: usize, other: usize, kind: Kind) -> Self {
+        Bond {
+            first: one.min(other),
+            second: one.max(other),
+            kind,
+        }
+    }
+
+    /// The two atoms.
+    pub fn ends(&self) -> (usize, usize) {
+        (self.first, self.second)
+    }
+}
+
+/// A molecule. The functions of this crate expect what [`crate::read`] and
+/// [`crate::tables::molecule`] give: values and counts within the limits, bond ends in order and
+/// below the number of atoms, and no two bonds between the same two atoms.
+#[derive(Clone, Debug, Default, PartialEq, Eq)]
+pub struct Molecule {
+    /// The atoms.
+    pub atoms: Vec<Atom>,
+    /// The bonds.
+    pub bonds: Vec<Bond>,
+}
+
+impl Molecule {
+    /// Each atom's sum of bond orders.
+    pub fn bond_sums(&self) -> Vec<u32> {
+        let mut sums = vec![0; self.atoms.len()];
+        for bond in &self.bonds {
+            sums[bond.first] += bond.kind.order();
+            sums[bond.second] += bond.kind.order();
+        }
+        sums
+    }
+
+    /// Each atom's neighbours.
+    pub fn neighbours(&self) -> Neighbours {
+        Neighbours::new(self.atoms.len(), self.bonds.iter().map(Bond::ends))
+    }
+}
+
+/// A neighbour of an atom, and the bond to it.
+#[derive(Clone, Copy, Debug, Default, PartialEq, Eq)]
+pub struct Neighbour {
+    /// The atom at the other end.
+    pub atom: usize,
+    /// The bond.
+    pub bond: usize,
+}
+
+/// The neighbours of every atom, by ascending bond number, in one list.
+#[derive(Clone, Debug)]
+pub struct Neighbours {
+    starts: Vec<usize>,
+    list: Vec<Neighbour>,
+}
+
+impl Neighbours {
+    /// The neighbours in a graph of `count` vertices with edges between these ends.
+    pub fn new<E>(count: usize, ends: E) -> Self
+    where
+        E: ExactSizeIterator<Item = (usize, usize)> + DoubleEndedIterator + Clone,
+    {
+        let mut starts = vec![0; count + 1];
+        for (one, other) in ends.clone() {
+            starts[one] += 1;
+            starts[other] += 1;
+        }
+        let mut total = 0;
+        for start in &mut starts {
+            total += *start;
+            *start = total;
+        }
+        let mut list = vec![Neighbour::default(); total];
+        for (bond, (one, other)) in ends.enumerate().rev() {
+            starts[one] -= 1;
+            list[starts[one]] = Neighbour { atom: other, bond };
+            starts[other] -= 1;
+            list[starts[other]] = Neighbour { atom: one, bond };
+        }
+        Neighbours { starts, list }
+    }
+
+    /// The neighbours of one atom.
+    pub fn of(&self, atom: usize) -> &[Neighbour] {
+        &self.list[self.starts[atom]..self.starts[atom + 1]]
+    }
+}

@@ -1,0 +1,68 @@
+//! Why a call says no: the numbers of the paper.
+
+/// The reason of a refusal, under the paper's number.
+#[derive(Clone, Copy, Debug, PartialEq, Eq, PartialOrd, Ord, Hash)]
+#[repr(u8)]
+pub enum Code {
+    /// A buffer handed in is too short.
+    ShortBuffer = 1,
+    /// The text is longer than a text may be.
+    TextTooLong = 2,
+    /// The text breaks the grammar.
+    Grammar = 3,
+    /// One atom too many begins.
+    TooManyAtoms = 4,
+    /// One bond too many is to be made.
+    TooManyBonds = 5,
+    /// One branch too many opens inside the open ones.
+    BranchesTooDeep = 6,
+    /// A bridge joins an atom to itself.
+    SelfBridge = 7,
+    /// A bridge joins two atoms that have a bond.
+    RepeatedBond = 8,
+    /// The bond symbols at a bridge's ends differ.
+    UnequalSymbols = 9,
+    /// A bridge is open at the end of the text.
+    OpenBridge = 10,
+    /// No matching exists.
+    NoMatching = 11,
+    /// The row handed in is not a matching.
+    NotAMatching = 12,
+    /// The tables are not valid.
+    InvalidTables = 13,
+    /// The written text would need too many bridges open at once.
+    TooManyBridges = 14,
+    /// The written branches would nest too deep.
+    WrittenTooDeep = 15,
+    /// The written text would be too long.
+    WrittenTooLong = 16,
+}
+
+impl Code {
+    /// The paper's number.
+    pub fn number(self) -> u8 {
+        self as u8
+    }
+}
+
+/// A refusal: its reason and the byte it is about, 0 where the reason is about none.
+#[derive(Clone, Copy, Debug, PartialEq, Eq)]
+pub struct Refusal {
+    /// The reason.
+    pub code: Code,
+    /// The byte of the text.
+    pub place: usize,
+}
+
+impl Refusal {
+    /// A refusal about the byte at `place`.
+    pub fn at(code: Code, place: usize) -> Self {
+        Refusal { code, place }
+    }
+}
+
+impl From<Code> for Refusal {
+    fn from(code: Code) -> Self {
+        Refusal::at(code, 0)
+    }
+}

@@ -1,0 +1,281 @@
+//! The calls on tables: six `i32` cells for an atom, three for a bond.
+//!
+//! Every call that gets a buffer that is too short gives [`Code::ShortBuffer`] and changes
+//! nothing. Any other refusal fills the outputs with 0; an acceptance fills their unused rest.
+
+use crate::element::MAX_ELEMENT;
+use crate::matching;
+use crate::molecule::{Atom, Bond, Kind, Molecule};
+use crate::refusal::{Code, Refusal};
+use crate::valence::is_selectable;
+use crate::{ATOM_CELLS, BOND_CELLS, MAX_ATOMS, MAX_BONDS, MAX_TEXT};
+
+/// The cells that a table of atoms has at least.
+pub const ATOM_TABLE: usize = ATOM_CELLS * MAX_ATOMS;
+/// The cells that a table of bonds has at least.
+pub const BOND_TABLE: usize = BOND_CELLS * MAX_BONDS;
+/// The cells that a row has at least.
+pub const ROW: usize = MAX_BONDS;
+/// The cells that a renumbering has at least.
+pub const RENUMBERING: usize = MAX_ATOMS;
+/// The bytes that the output of a text has at least.
+pub const TEXT: usize = MAX_TEXT;
+
+/// The used rows of the two tables.
+#[derive(Clone, Copy, Debug, Default, PartialEq, Eq)]
+pub struct Counts {
+    /// The number of atoms.
+    pub atoms: usize,
+    /// The number of bonds.
+    pub bonds: usize,
+}
+
+/// The two tables of a molecule.
+#[derive(Clone, Copy, Debug)]
+pub struct Tables<'a> {
+    /// The table of atoms.
+    pub atoms: &'a [i32],
+    /// The table of bonds.
+    pub bonds: &'a [i32],
+    /// Their used rows.
+    pub counts: Counts,
+}
+
+impl Tables<'_> {
+    fn is_short(&self) -> bool {
+        self.atoms.len() < ATOM_TABLE || self.bonds.len() < BOND_TABLE
+    }
+}
+
+/// The answer to [`next`].
+#[derive(Clone, Copy, Debug, PartialEq, Eq)]
+pub enum Step {
+    /// The row is now the next matching.
+    Matching,
+    /// The row was the last matching.
+    End,
+}
+
+/// Reads a text into tables.
+pub fn read(text: &[u8], atoms: &mut [i32], bonds: &mut [i32]) -> Result<Counts, Refusal> {
+    if atoms.len() < ATOM_TABLE || bonds.len() < BOND_TABLE {
+        return Err(Code::ShortBuffer.into());
+    }
+    let answer = crate::read(text);
+    let no_molecule = Molecule::default();
+    fill(answer.as_ref().unwrap_or(&no_molecule), atoms, bonds);
+    answer.map(|molecule| counts(&molecule))
+}
+
+/// The first matching, stored in the row.
+pub fn first(tables: Tables, row: &mut [u8]) -> Result<(), Code> {
+    if tables.is_short() || row.len() < ROW {
+        return Err(Code::ShortBuffer);
+    }
+    let matching =
+        molecule(tables).and_then(|molecule| matching::first(&molecule).ok_or(Code::NoMatching));
+    store(row, matching.as_deref().unwrap_or(&[]));
+    matching.map(|_| ())
+}
+
+/// The matching after the one in the row, stored in the row.
+pub fn next(tables: Tables, row: &mut [u8]) -> Result<Step, Code> {
+    if tables.is_short() || row.len() < ROW {
+        return Err(Code::ShortBuffer);
+    }
+    let later = molecule(tables).and_then(|molecule| {
+        let used = &row[..molecule.bonds.len()];
+        matching::next(&molecule, used).ok_or(Code::NotAMatching)
+    });
+    match later {
+        Ok(Some(later)) => {
+            store(row, &later);
+            Ok(Step::Matching)
+        }
+        Ok(None) => {
+            row.fill(0);
+            Ok(Step::End)
+        }
+        Err(code) => {
+            row.fill(0);
+            Err(code)
+        }
+    }
+}
+
+/// Whether the row is a matching.
+pub fn is_matching(tables: Tables, row: &[u8]) -> Result<bool, Code> {
+    if tables.is_short() || row.len() < ROW {
+        return Err(Code::ShortBuffer);
+    }
+    let molecule = molecule(tables)?;
+    Ok(matching::is_matching(
+        &molecule,
+        &row[..molecule.bonds.len()],
+    ))
+}
+
+/// Makes the bonds of the matching in the row double and every atom unselected, in the tables. A
+/// refusal leaves them as they were.
+pub fn kekulize(
+    atoms: &mut [i32],
+    bonds: &mut [i32],
+    counts: Counts,
+    row: &[u8],
+) -> Result<(), Code> {
+    let tables = Tables {
+        atoms,
+        bonds,
+        counts,
+    };
+    if !is_matching(tables, row)? {
+        return Err(Code::NotAMatching);
+    }
+    for cells in atoms.chunks_exact_mut(ATOM_CELLS).take(counts.atoms) {
+        cells[1] = 0;
+    }
+    for (cells, &cell) in bonds
+        .chunks_exact_mut(BOND_CELLS)
+        .zip(row)
+        .take(counts.bonds)
+    {
+        if cell == 1 {
+            cells[2] = Kind::Double as i32;
+        }
+    }
+    Ok(())
+}
+
+/// Writes a molecule: its text and each atom's number in the text. Gives the text's length.
+pub fn write(tables: Tables, text: &mut [u8], renumbering: &mut [u16]) -> Result<usize, Code> {
+    if tables.is_short() || text.len() < TEXT || renumbering.len() < RENUMBERING {
+        return Err(Code::ShortBuffer);
+    }
+    match molecule(tables).and_then(|molecule| crate::write(&molecule)) {
+        Ok(written) => {
+            store(text, &written.text);
+            store(renumbering, &written.renumbering);
+            Ok(written.text.len())
+        }
+        Err(code) => {
+            text.fill(0);
+            renumbering.fill(0);
+            Err(code)
+        }
+    }
+}
+
+/// The molecule of tables that are long enough, if they are valid (in the paper: sound).
+pub fn molecule(tables: Tables) -> Result<Molecule, Code> {
+    let Counts { atoms, bonds } = tables.counts;
+    if atoms > MAX_ATOMS || bonds > MAX_BONDS {
+        return Err(Code::InvalidTables);
+    }
+    let mut molecule = Molecule {
+        atoms: Vec::with_capacity(atoms),
+        bonds: Vec::with_capacity(bonds),
+    };
+    for cells in tables.atoms.chunks_exact(ATOM_CELLS).take(atoms) {
+        let atom = atom_of_cells(cells).ok_or(Code::InvalidTables)?;
+        molecule.atoms.push(atom);
+    }
+    for cells in tables.bonds.chunks_exact(BOND_CELLS).take(bonds) {
+        let bond = bond_of_cells(cells, atoms).ok_or(Code::InvalidTables)?;
+        molecule.bonds.push(bond);
+    }
+    if has_repeated_bond(&molecule) {
+        return Err(Code::InvalidTables);
+    }
+    Ok(molecule)
+}
+
+fn atom_of_cells(cells: &[i32]) -> Option<Atom> {
+    let element = within(cells[0], 0, MAX_ELEMENT.into())? as u8;
+    let selected = within(cells[1], 0, 1)? == 1;
+    if selected && !is_selectable(element) {
+        return None;
+    }
+    Some(Atom {
+        element,
+        selected,
+        isotope: within(cells[2], 0, 999)? as u16,
+        hydrogens: within(cells[3], 0, 9)? as u8,
+        charge: within(cells[4], -9, 9)? as i8,
+        extension: within(cells[5], 0, 9999)? as u16,
+    })
+}
+
+fn bond_of_cells(cells: &[i32], atoms: usize) -> Option<Bond> {
+    let first = usize::try_from(cells[0]).ok()?;
+    let second = usize::try_from(cells[1]).ok()?;
+    let kind = match cells[2] {
+        0 => Kind::Elided,
+        1 => Kind::Single,
+        2 => Kind::Double,
+        3 => Kind::Triple,
+        _ => return None,
+    };
+    let bond = Bond {
+        first,
+        second,
+        kind,
+    };
+    (first < second && second < atoms).then_some(bond)
+}
+
+fn within(cell: i32, low: i32, high: i32) -> Option<i32> {
+    (low..=high).contains(&cell).then_some(cell)
+}
+
+fn has_repeated_bond(molecule: &Molecule) -> bool {
+    let neighbours = molecule.neighbours();
+    let mut seen_from = vec![usize::MAX; molecule.atoms.len()];
+    (0..molecule.atoms.len()).any(|atom| {
+        let mut ends = neighbours.of(atom).iter();
+        ends.any(|to| std::mem::replace(&mut seen_from[to.atom], atom) == atom)
+    })
+}
+
+/// The counts of a molecule.
+pub fn counts(molecule: &Molecule) -> Counts {
+    Counts {
+        atoms: molecule.atoms.len(),
+        bonds: molecule.bonds.len(),
+    }
+}
+
+/// Stores a molecule in tables that are long enough, and fills their rest with 0.
+pub fn fill(molecule: &Molecule, atoms: &mut [i32], bonds: &mut [i32]) {
+    let rows = molecule.atoms.iter().map(cells_of_atom);
+    for (cells, row) in atoms.chunks_exact_mut(ATOM_CELLS).zip(rows) {
+        cells.copy_from_slice(&row);
+    }
+    let rows = molecule.bonds.iter().map(cells_of_bond);
+    for (cells, row) in bonds.chunks_exact_mut(BOND_CELLS).zip(rows) {
+        cells.copy_from_slice(&row);
+    }
+    atoms[ATOM_CELLS * molecule.atoms.len()..].fill(0);
+    bonds[BOND_CELLS * molecule.bonds.len()..].fill(0);
+}
+
+fn cells_of_atom(atom: &Atom) -> [i32; ATOM_CELLS] {
+    [
+        atom.element.into(),
+        atom.selected.into(),
+        atom.isotope.into(),
+        atom.hydrogens.into(),
+        atom.charge.into(),
+        atom.extension.into(),
+    ]
+}
+
+fn cells_of_bond(bond: &Bond) -> [i32; BOND_CELLS] {
+    [bond.first as i32, bond.second as i32, bond.kind as i32]
+}
+
+/// Stores cells at the start of a buffer, and fills its rest with 0.
+fn store<T: Copy + Default>(buffer: &mut [T], cells: &[T]) {
+    let (used, rest) = buffer.split_at_mut(cells.len());
+    used.copy_from_slice(cells);
+    rest.fill(T::default());
+}

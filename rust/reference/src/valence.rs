@@ -1,0 +1,50 @@
+//! Target valences, implied hydrogens and delocalized atoms.
+
+use crate::molecule::{Atom, Molecule};
+
+/// The target valences of an element, empty where the table has none.
+fn targets(element: u8) -> &'static [u32] {
+    match element {
+        5 => &[3],
+        6 => &[4],
+        7 | 15 => &[3, 5],
+        8 => &[2],
+        16 => &[2, 4, 6],
+        9 | 17 | 35 | 53 | 85 | 117 => &[1],
+        _ => &[],
+    }
+}
+
+/// Whether an atom of this element can be selected.
+pub(crate) fn is_selectable(element: u8) -> bool {
+    matches!(element, 6 | 7 | 8 | 15 | 16)
+}
+
+/// Whether an atom of this element can stand outside brackets.
+pub fn is_shorthand(element: u8) -> bool {
+    element == 0 || !targets(element).is_empty()
+}
+
+/// The hydrogens that an atom outside brackets gets.
+pub fn implied_hydrogens(element: u8, selected: bool, bond_sum: u32) -> u8 {
+    let targets = targets(element);
+    let room = if selected {
+        targets[0].saturating_sub(bond_sum + 1)
+    } else {
+        let target = targets.iter().find(|&&target| target >= bond_sum);
+        target.map_or(0, |target| target - bond_sum)
+    };
+    room as u8
+}
+
+/// Whether an atom with this bond sum is delocalized (in the paper: kept).
+fn is_delocalized(atom: &Atom, bond_sum: u32) -> bool {
+    atom.selected && bond_sum + u32::from(atom.hydrogens) < targets(atom.element)[0]
+}
+
+/// For each atom whether it is delocalized.
+pub fn delocalized(molecule: &Molecule) -> Vec<bool> {
+    let sums = molecule.bond_sums();
+    let atoms = molecule.atoms.iter().zip(sums);
+    atoms.map(|(atom, sum)| is_delocalized(atom, sum)).collect()
+}
