@@ -2,10 +2,11 @@
 use mathlib.Core.Path.{_≡_, refl, sym, ap, _∙_, subst}
 use mathlib.Core.Bool.{Bool, true, false, _&&_}
 use mathlib.Core.List.{List, [], _∷_, _++_, map}
-use Prim.Native.Nat.{ℕ, zero, suc, _+_, _*_, _<_, _≤_}
+use Prim.Native.Nat.{ℕ, zero, suc, _+_, _-_, _*_, _<_, _≤_}
 use native.Mathlib.Omega.{arith}
 use lib.Dec.{leb, ltb}
-use lib.ListN.{length, getD, replicate}
+use lib.ListN.{length, getD, take, replicate}
+use lib.Seq.{take-append-seam}
 use lib.IntN.{ℤ, pos}
 use Rattle.loops.specs.Loop.{pick, upTo}
 use Rattle.loops.proofs.Loops.{length-upTo, upTo-at}
@@ -13,7 +14,7 @@ use Rattle.graph.specs.Graph.{matchable}
 use Rattle.table.specs.Limits.{atomCells, bondCells}
 use Rattle.table.specs.Cells.{atomCell}
 use Rattle.table.specs.Valid.{valid, Valid, enough}
-use Rattle.table.proofs.Valid.{facts, enough-facts}
+use Rattle.table.proofs.Valid.{facts, facts-back, enough-facts}
 use Rattle.state.specs.Limits.{maxText}
 use Rattle.reading.specs.Read.{Told, refused, placed, readFrom, readOf}
 use Rattle.walk.specs.Token.{Bond, joined}
@@ -24,10 +25,12 @@ use Rattle.walk.proofs.Walk.{Inside}
 use Rattle.walk.proofs.Trip.{Renumbering, completed}
 use Rattle.walk.proofs.Perm.{Perm, bonds-permuted}
 use Rattle.walk.proofs.Order.{place-below, atom-below, atom-place, place-atom}
-use Rattle.writing.specs.Write.{bondList, tokens, textOf, renumbering, fewBridges, shallow}
+use Rattle.writing.specs.Write.{bondList, tokens, textOf, renumbering, fewBridges, shallow, lent, writeValid, writeOf}
+use Rattle.writing.specs.Write as write
 use Rattle.roundtrip.proofs.Bonds.{inside}
 use Rattle.roundtrip.proofs.Back.{Molecule, ReadBack, ren, read-back, matchable-same}
 use Rattle.roundtrip.proofs.Again.{text-again, identity-again}
+use Rattle.roundtrip.proofs.Rewritten.{valid-again, few-again, shallow-again}
 
 -- valid tables that writing does not refuse: neither 13, 14, 15 nor 16
 pub record Writable (atoms bonds : List ℤ) (n m : ℕ) : Type 0 where
@@ -35,6 +38,33 @@ pub record Writable (atoms bonds : List ℤ) (n m : ℕ) : Type 0 where
   pub bridges : fewBridges (tokens bonds n m) ≡ true
   pub branches : shallow (tokens bonds n m) ≡ true
   pub bytes : leb (length (textOf atoms bonds n m)) maxText ≡ true
+
+-- ---- what writing answers
+-- what is not refused is written
+pub writes : {atoms bonds : List ℤ} {n m : ℕ} → Writable atoms bonds n m → (out ren : List ℕ) → lent atoms bonds out ren ≡ true → writeOf atoms bonds n m out ren ≡ write.accepted (textOf atoms bonds n m) (renumbering bonds n m) out ren
+unfolding writeOf writeValid
+writes w out ren l = rw (l, w .sound, w .bridges, w .branches, w .bytes)
+
+all-pass : (t : write.Told) (out ren : List ℕ) (l a b c d : Bool) → pick l (pick a (pick b (pick c (pick d t (write.refused 16 out ren)) (write.refused 15 out ren)) (write.refused 14 out ren)) (write.refused 13 out ren)) (write.short out ren) .code ≡ 0
+    → (l ≡ true) × ((a ≡ true) × ((b ≡ true) × ((c ≡ true) × (d ≡ true))))
+all-pass t out ren true true true true true h = (refl, (refl, (refl, (refl, refl))))
+all-pass t out ren true true true true false h = absurd (omega arith)
+all-pass t out ren true true true false d h = absurd (omega arith)
+all-pass t out ren true true false c d h = absurd (omega arith)
+all-pass t out ren true false b c d h = absurd (omega arith)
+all-pass t out ren false a b c d h = absurd (omega arith)
+
+-- and what is written was not refused: nothing was too short, and the tables are valid
+pub written : (atoms bonds : List ℤ) (n m : ℕ) (out ren : List ℕ) → writeOf atoms bonds n m out ren .code ≡ 0 → Writable atoms bonds n m × (lent atoms bonds out ren ≡ true)
+unfolding writeOf writeValid
+written atoms bonds n m out ren h =
+    let r = all-pass (write.accepted (textOf atoms bonds n m) (renumbering bonds n m) out ren) out ren (lent atoms bonds out ren) (valid atoms bonds n m) (fewBridges (tokens bonds n m)) (shallow (tokens bonds n m)) (leb (length (textOf atoms bonds n m)) maxText) h in
+    (record { sound = r .1 .0; bridges = r .1 .1 .0; branches = r .1 .1 .1 .0; bytes = r .1 .1 .1 .1 }, r .0)
+
+-- the text stands at the front of the output
+pub written-output : {atoms bonds : List ℤ} {n m : ℕ} → Writable atoms bonds n m → (out ren : List ℕ) → lent atoms bonds out ren ≡ true → take (writeOf atoms bonds n m out ren .size) (writeOf atoms bonds n m out ren .output) ≡ textOf atoms bonds n m
+written-output {atoms} {bonds} {n} {m} w out ren l =
+    ap (λ (t : write.Told). take (t .size) (t .output)) (writes w out ren l) ∙ take-append-seam (textOf atoms bonds n m) (replicate (length out - length (textOf atoms bonds n m)) 0)
 
 -- the number of an atom, and a bond, under a renumbering: the lower number is the first end
 abbrev pub numbered : List ℕ → ℕ → ℕ
@@ -54,7 +84,7 @@ pub record Same (atoms bonds : List ℤ) (n m : ℕ) (T U : List ℤ) : Type 0 w
   pub atoms-after : (j : ℕ) → atomCells * n ≤ j → getD T j (pos 0) ≡ pos 0
   pub bonds-after : (j : ℕ) → bondCells * m ≤ j → getD U j (pos 0) ≡ pos 0
 
--- the text is read into tables T and U that hold the molecule; written again they give the same bytes, every atom keeping its number
+-- the text is read into tables T and U that hold the molecule; they are valid, and writing them is accepted with the same bytes, every atom keeping its number
 pub record RoundTrip (atoms bonds : List ℤ) (n m : ℕ) (A B : List ℤ) : Type 0 where
   pub T : List ℤ
   pub U : List ℤ
@@ -62,8 +92,8 @@ pub record RoundTrip (atoms bonds : List ℤ) (n m : ℕ) (A B : List ℤ) : Typ
   pub same : Same atoms bonds n m T U
   pub atoms-long : length T ≡ length A
   pub bonds-long : length U ≡ length B
-  pub text-again : textOf T U n m ≡ textOf atoms bonds n m
-  pub numbers-again : renumbering U n m ≡ upTo (λ v. v) 0 n
+  pub still-valid : valid T U n m ≡ true
+  pub again : (out ren : List ℕ) → lent T U out ren ≡ true → writeOf T U n m out ren ≡ write.accepted (textOf atoms bonds n m) (upTo (λ v. v) 0 n) out ren
 
 -- ---- the renumbering
 number-place : (bonds : List ℤ) (n m v : ℕ) → v < n → numbered (renumbering bonds n m) v ≡ place (pre (forestOf n (bondList bonds m))) v
@@ -111,16 +141,24 @@ same-of atoms bonds n m T U p q v M =
       bonds-after = M .bonds-after;
     }
 
-module _ (atoms bonds : List ℤ) (n m : ℕ) (w : Writable atoms bonds n m) (A B : List ℤ) (lent : enough A B ≡ true) where
+module _ (atoms bonds : List ℤ) (n m : ℕ) (w : Writable atoms bonds n m) (A B : List ℤ) (long : enough A B ≡ true) where
   v : Valid atoms bonds n m
   v = facts atoms bonds n m (w .sound)
 
   back : ReadBack atoms bonds n m A B
-  back = read-back atoms bonds n m v A B (enough-facts A B lent) (w .bridges) (w .branches)
+  back = read-back atoms bonds n m v A B (enough-facts A B long) (w .bridges) (w .branches)
 
   reads : readOf (textOf atoms bonds n m) A B ≡ placed (back .atoms) (back .bonds) n m
   unfolding readOf
-  reads = rw (lent, w .bytes) (back .reads)
+  reads = rw (long, w .bytes) (back .reads)
+
+  again : {T U : List ℤ} → Molecule atoms bonds n m T U (length A) (length B) → Writable T U n m
+  again M = record {
+    sound = facts-back (valid-again atoms bonds n m v M);
+    bridges = few-again atoms bonds n m v M ∙ w .bridges;
+    branches = shallow-again atoms bonds n m v M ∙ w .branches;
+    bytes = ap (λ (s : List ℕ). leb (length s) maxText) (text-again atoms bonds n m v M) ∙ w .bytes;
+  }
 
   -- DEMAND 2: a molecule that has a matching is read back, and written again
   pub round-trip : matchable atoms bonds n m ≡ true → RoundTrip atoms bonds n m A B
@@ -134,8 +172,8 @@ module _ (atoms bonds : List ℤ) (n m : ℕ) (w : Writable atoms bonds n m) (A 
         same = same-of atoms bonds n m (back .atoms) (back .bonds) (length A) (length B) v M;
         atoms-long = M .atoms-long;
         bonds-long = M .bonds-long;
-        text-again = text-again atoms bonds n m v M;
-        numbers-again = identity-again atoms bonds n m v M;
+        still-valid = facts-back (valid-again atoms bonds n m v M);
+        again = λ out ren l. writes (again M) out ren l ∙ (λ i. write.accepted (text-again atoms bonds n m v M i) (identity-again atoms bonds n m v M i) out ren);
       }
 
   -- DEMAND 2: the text of one that has none is refused as 11
