@@ -49,7 +49,7 @@ use Rattle.roundtrip.proofs.Tokens.{Good}
 use Rattle.roundtrip.proofs.Written.{Held, text-read}
 use Rattle.roundtrip.proofs.Bonds.{inside, small-kinds, distinct, many, listed, sum-list}
 use Rattle.roundtrip.proofs.Ending.{none-left, hydrogens-cell, other-cell, rest-cell, hydrogenated-length}
-use Rattle.roundtrip.proofs.Matchable.{graphBond, tests, same-matchable}
+use Rattle.roundtrip.proofs.Matchable.{graphBond, tests, same-matchable, none-matchable}
 
 -- ---- tokens of valid tables with few bridges
 good-tokens : (n : ℕ) (ts : List Tok) → fewBridges ts ≡ true → All (Made (λ v. v < n) (λ k. k ≤ 3)) ts → All (Good n) ts
@@ -274,3 +274,14 @@ module _ (atoms bonds : List ℤ) (n m : ℕ) (v : Valid atoms bonds n m) where
         ∙ subst (λ (k : ℕ). some? (matchings (tests F (completed n bs)) k) ≡ some? (matchings (tests G bs) k)) as-many
         (same-matchable ren G F flag-same (length-upTo (delocalizedFlag atoms bonds m) 0 n) (length-upTo (delocalizedFlag T U m) 0 n) bs (completed n bs) (inside v) permuted)
         ∙ sym (ap (λ (l : List graph.Bond). some? (matchings (graph.isMatching G l) m)) (graph-list bonds 0 m))
+
+-- a molecule without a delocalized atom has a matching
+pub localized-matchable : (atoms bonds : List ℤ) (n m : ℕ) → ((a : ℕ) → a < n → delocalizedAt atoms bonds m a ≡ false) → matchable atoms bonds n m ≡ true
+unfolding matchable
+localized-matchable atoms bonds n m h =
+    let F = delocalizedFlags atoms bonds n m in
+    ap (λ (l : List graph.Bond). some? (matchings (graph.isMatching F l) m)) (graph-list bonds 0 m)
+    ∙ subst (λ (k : ℕ). some? (matchings (tests F (bondList bonds m)) k) ≡ true) (length-upTo (bondAt bonds) 0 m)
+    (none-matchable F (bondList bonds m)
+    (λ v l. (let e : v < n = (let z = length-upTo (delocalizedFlag atoms bonds m) 0 n in omega arith) in
+    ap (λ (x : ℕ). eqb x 1) (upTo-at (delocalizedFlag atoms bonds m) n v 0 e ∙ ap flag (h v e)))))

@@ -12,7 +12,8 @@ use Rattle.loops.specs.Loop.{pick, upTo}
 use Rattle.loops.proofs.Loops.{length-upTo, upTo-at}
 use Rattle.graph.specs.Graph.{matchable}
 use Rattle.table.specs.Limits.{atomCells, bondCells}
-use Rattle.table.specs.Cells.{atomCell}
+use Rattle.valence.specs.Valence.{delocalized}
+use Rattle.table.specs.Cells.{atomCell, selected}
 use Rattle.table.specs.Valid.{valid, Valid, enough}
 use Rattle.table.proofs.Valid.{facts, facts-back, enough-facts}
 use Rattle.state.specs.Limits.{maxText}
@@ -28,7 +29,7 @@ use Rattle.walk.proofs.Order.{place-below, atom-below, atom-place, place-atom}
 use Rattle.writing.specs.Write.{bondList, tokens, textOf, renumbering, fewBridges, shallow, lent, writeValid, writeOf}
 use Rattle.writing.specs.Write as write
 use Rattle.roundtrip.proofs.Bonds.{inside}
-use Rattle.roundtrip.proofs.Back.{Molecule, ReadBack, ren, read-back, matchable-same}
+use Rattle.roundtrip.proofs.Back.{Molecule, ReadBack, ren, read-back, matchable-same, localized-matchable}
 use Rattle.roundtrip.proofs.Again.{text-again, identity-again}
 use Rattle.roundtrip.proofs.Rewritten.{valid-again, few-again, shallow-again}
 
@@ -183,3 +184,8 @@ module _ (atoms bonds : List ℤ) (n m : ℕ) (w : Writable atoms bonds n m) (A 
       let e : matchable (back .atoms) (back .bonds) n m ≡ false = matchable-same atoms bonds n m v M ∙ h in
       reads ∙ ap (λ (x : Bool). pick x (accepted n m (back .atoms) (back .bonds)) (refused 11 0 (back .atoms) (back .bonds))) e
       ∙ (λ i. record { code = 11; offset = 0; atomCount = 0; bondCount = 0; atoms = replicate (M .atoms-long i) (pos 0); bonds = replicate (M .bonds-long i) (pos 0) })
+
+  -- a molecule in which no atom is selected, as a kekulized one, needs no more
+  pub unselected-round-trip : ((a : ℕ) → a < n → selected atoms a ≡ 0) → RoundTrip atoms bonds n m A B
+  unfolding delocalized
+  unselected-round-trip h = round-trip (localized-matchable atoms bonds n m (λ a l. rw (h a l)))

@@ -18,3 +18,4 @@ pub mod Again
 pub mod Rewritten
 pub mod Limits
 pub mod Claims
+pub mod Kekulized

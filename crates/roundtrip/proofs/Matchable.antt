@@ -5,7 +5,7 @@ use mathlib.Core.List.{List, [], _∷_, _++_, map}
 use Prim.Native.Nat.{ℕ, zero, suc, _+_, _-_, _*_, _<_, _≤_}
 use native.Mathlib.Omega.{arith}
 use lib.Dec.{eqb, leb, ltb}
-use lib.ListN.{length, getD}
+use lib.ListN.{length, getD, replicate}
 use borrow.Author.Tests.{eqb-true, eqb-false, eq-eqb, ne-eqb}
 use Rattle.loops.specs.Loop.{pick}
 use Rattle.loops.proofs.Loops.{and-left, and-right}
@@ -210,6 +210,26 @@ reorder flags {l} {k} w r =
       shape = g .shape;
       passes = of-matches flags k (g .row) (record { induces = sym (g .same (other flags)) ∙ t .induces; pairs = λ v a f. sym (g .same (meets v)) ∙ t .pairs v a f });
     }
+
+-- ---- no atom to pair: the row of zeros
+zeros-row : (m : ℕ) → isRow m (replicate m 0) ≡ true
+unfolding isRow
+zeros-row zero = refl
+zeros-row (suc m) = zeros-row m
+
+chosen-zeros : (l : List Bond) → chosen l (replicate (length l) 0) ≡ []
+chosen-zeros [] = refl
+chosen-zeros (b ∷ l) = chosen-zeros l
+
+pub none-matchable : (flags : List ℕ) (l : List Bond) → ((v : ℕ) → v < length flags → flagged flags v ≡ false) → some? (matchings (tests flags l) (length l)) ≡ true
+none-matchable flags l h =
+    has-passing (tests flags l) (length l)
+    (record {
+      row = replicate (length l) 0;
+      shape = zeros-row (length l);
+      passes = of-matches flags l (replicate (length l) 0)
+          (record { induces = ap (count (other flags)) (chosen-zeros l); pairs = λ v g f. absurd (let e = h v g in let z : _≡_ {A = ℕ} 0 1 = cc in omega arith) });
+    })
 
 -- ---- other numbers of the atoms
 abbrev In : ℕ → Bond → Type 0
