@@ -1,33 +1,31 @@
 -- Reading what was written: the tables that are read, cell by cell and bond by bond. Assumes nothing.
 use mathlib.Core.Path.{_≡_, refl, sym, ap, _∙_, subst}
-use mathlib.Core.Bool.{Bool, true, false, _&&_, not}
-use mathlib.Core.List.{List, [], _∷_, _++_, map}
-use Prim.Native.Nat.{ℕ, zero, suc, _+_, _-_, _*_, _<_, _≤_}
+use mathlib.Core.Bool.{Bool, true, false}
+use mathlib.Core.List.{List, [], _∷_, map}
+use Prim.Native.Nat.{ℕ, zero, suc, _*_, _<_, _≤_}
 use native.Mathlib.Omega.{arith}
-use lib.Dec.{eqb, leb, ltb}
+use lib.Dec.{eqb, ltb}
 use lib.ListN.{length, getD}
 use lib.IntN.{ℤ, pos}
-use borrow.Author.Tests.{ltb-true, le-ltb, eqb-true, eqb-false}
+use borrow.Author.Tests.{ltb-true, eqb-true, eqb-false}
 use Rattle.loops.specs.Loop.{pick, upTo}
 use Rattle.loops.proofs.Loops.{and-left, and-right, length-upTo, upTo-at}
-use Rattle.grammar.specs.declared.State.the-variants.{Start as opening}
-use Rattle.grammar.specs.Fold.{Reading}
 use Rattle.valence.specs.Valence.{order, implied, delocalized}
 use Rattle.matching.specs.Enumeration.{matchings}
 use Rattle.matching.specs.Graph.{flagged}
 use Rattle.matching.specs.Graph as graph
 use Rattle.matching.specs.Model.{some?}
-use Rattle.graph.specs.Graph.{bondSum, delocalizedAt, delocalizedFlag, delocalizedFlags, flag, bondOf, graphOf, matchable}
-use Rattle.table.specs.Limits.{maxAtoms, maxBonds, atomCells, bondCells, ELEMENT, SELECTED, ISOTOPE, HYDROGENS, CHARGE, EXTENSION}
-use Rattle.table.specs.Cells.{number, atomPlace, atomCell, bondCell, element, selected, hydrogens}
+use Rattle.graph.specs.Graph.{bondSum, delocalizedAt, delocalizedFlag, delocalizedFlags, flag, bondOf, matchable}
+use Rattle.table.specs.Limits.{maxAtoms, maxBonds, atomCells, bondCells, ELEMENT, SELECTED, ISOTOPE, HYDROGENS, EXTENSION}
+use Rattle.table.specs.Cells.{number, atomCell, bondCell, element, selected, hydrogens}
 use Rattle.table.specs.Valid.{Valid, selectedOk}
 use Rattle.table.proofs.Valid.{AtomFine, atom-row, range-pos, Enough}
 use Rattle.state.specs.Limits.{maxText, maxDepth, bridges}
 use Rattle.reading.specs.Memory.{Memory}
 use Rattle.reading.specs.Read.{hydrogenated, leftmost, refused, placed, ended, finished, readFrom}
-use Rattle.walk.specs.Token.{Bond, bond, Tok, apart, along, ring, branch, back, Hook, St, st, start, shut}
+use Rattle.walk.specs.Token.{Bond, Tok, apart, along, ring, branch, back, St, st, start}
 use Rattle.walk.specs.Emit.{pre}
-use Rattle.walk.specs.Walk.{forestOf, place, renumber, renumbered, write}
+use Rattle.walk.specs.Walk.{forestOf, place, renumber, renumbered}
 use Rattle.walk.specs.Check.{fine, reading}
 use Rattle.walk.proofs.Count.{count, All, none, more}
 use Rattle.walk.proofs.Trip.{Renumbering, renumbering, completed, Returned, round-trip}
@@ -38,12 +36,11 @@ use Rattle.walk.proofs.Twice.{count-map}
 use Rattle.walk.proofs.Sums as sums
 use Rattle.walk.proofs.Made.{Made, written-made}
 use Rattle.walk.proofs.Order.{place-below, atom-place}
-use Rattle.writing.specs.Spell.{unbracketed, atomBytes, tokensBytes}
+use Rattle.writing.specs.Spell.{unbracketed}
 use Rattle.writing.specs.Write.{bondAt, bondList, tokens, textOf, fewBridges, shallow}
-use Rattle.roundtrip.proofs.Feed.{Takes}
 use Rattle.roundtrip.proofs.Cells.{atomCellsOf, bondCellsOf}
-use Rattle.roundtrip.proofs.Atoms.{rowBy, draftRow, outsideFlag, Bare, bare-of}
-use Rattle.roundtrip.proofs.Held.{nobond, rowOfBond, AtomTable, BondTable}
+use Rattle.roundtrip.proofs.Atoms.{rowBy, draftRow, outsideFlag, bare-of}
+use Rattle.roundtrip.proofs.Held.{nobond, rowOfBond}
 use Rattle.roundtrip.proofs.Simulation.{Sim}
 use Rattle.roundtrip.proofs.Tokens.{Good}
 use Rattle.roundtrip.proofs.Written.{Held, text-read}

@@ -1,10 +1,10 @@
 -- The bonds of valid tables, as the walk's list of bonds: inside, distinct, of kinds 0 to 3. Assumes nothing.
-use mathlib.Core.Path.{_≡_, refl, sym, ap, _∙_, subst}
-use mathlib.Core.Bool.{Bool, true, false, _&&_, _||_, not, cond}
-use mathlib.Core.List.{List, [], _∷_, _++_}
-use Prim.Native.Nat.{ℕ, zero, suc, _+_, _-_, _*_, _<_, _≤_}
+use mathlib.Core.Path.{_≡_, refl, sym, ap, _∙_}
+use mathlib.Core.Bool.{Bool, true, false, _||_, cond}
+use mathlib.Core.List.{List, [], _∷_}
+use Prim.Native.Nat.{ℕ, zero, suc, _+_, _<_, _≤_}
 use native.Mathlib.Omega.{arith}
-use lib.Dec.{eqb, leb, ltb}
+use lib.Dec.{eqb}
 use lib.ListN.{length, getD}
 use lib.IntN.{ℤ, pos}
 use borrow.Author.Tests.{eqb-true, eq-eqb}
@@ -16,7 +16,7 @@ use Rattle.table.specs.Cells.{number, end1, end2, kind, bondCell}
 use Rattle.table.specs.Limits.{FIRST, SECOND, KIND}
 use Rattle.table.specs.Valid.{Valid, sameEnds}
 use Rattle.table.proofs.Valid.{bond-row, kind-small, apart-at}
-use Rattle.walk.specs.Token.{Bond, bond}
+use Rattle.walk.specs.Token.{Bond}
 use Rattle.walk.specs.Check.{ends}
 use Rattle.walk.proofs.Count.{bit, count, All, none, more}
 use Rattle.walk.proofs.Walk.{Inside}
@@ -24,7 +24,7 @@ use Rattle.walk.proofs.Twice.{Distinct}
 use Rattle.walk.proofs.Sums.{total, weightAt}
 use Rattle.walk.proofs.Sums as sums
 use Rattle.writing.specs.Write.{bondAt, bondList}
-use Rattle.roundtrip.proofs.Held.{nobond, rowOfBond, BondTable}
+use Rattle.roundtrip.proofs.Held.{nobond, BondTable}
 
 -- ---- lists by index
 module _ {A : Type 0} where

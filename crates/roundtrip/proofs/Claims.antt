@@ -1,10 +1,10 @@
 -- The round trip (demand 2): reading what was written, and writing what was read, for all valid tables that writing does not refuse. Assumes nothing.
 use mathlib.Core.Path.{_≡_, refl, sym, ap, _∙_, subst}
-use mathlib.Core.Bool.{Bool, true, false, _&&_}
-use mathlib.Core.List.{List, [], _∷_, _++_, map}
-use Prim.Native.Nat.{ℕ, zero, suc, _+_, _-_, _*_, _<_, _≤_}
+use mathlib.Core.Bool.{Bool, true, false}
+use mathlib.Core.List.{List, [], _∷_, map}
+use Prim.Native.Nat.{ℕ, _-_, _*_, _<_, _≤_}
 use native.Mathlib.Omega.{arith}
-use lib.Dec.{leb, ltb}
+use lib.Dec.{leb}
 use lib.ListN.{length, getD, take, replicate}
 use lib.Seq.{take-append-seam}
 use lib.IntN.{ℤ, pos}
@@ -17,13 +17,13 @@ use Rattle.table.specs.Cells.{atomCell, selected}
 use Rattle.table.specs.Valid.{valid, Valid, enough}
 use Rattle.table.proofs.Valid.{facts, facts-back, enough-facts}
 use Rattle.state.specs.Limits.{maxText}
-use Rattle.reading.specs.Read.{Told, refused, placed, readFrom, readOf}
+use Rattle.reading.specs.Read.{Told, refused, placed, readOf}
 use Rattle.walk.specs.Token.{Bond, joined}
 use Rattle.walk.specs.Emit.{pre}
 use Rattle.walk.specs.Walk.{forestOf, place, renumber, renumbered}
-use Rattle.walk.proofs.Count.{All, none, more}
+use Rattle.walk.proofs.Count.{none, more}
 use Rattle.walk.proofs.Walk.{Inside}
-use Rattle.walk.proofs.Trip.{Renumbering, completed}
+use Rattle.walk.proofs.Trip.{completed}
 use Rattle.walk.proofs.Perm.{Perm, bonds-permuted}
 use Rattle.walk.proofs.Order.{place-below, atom-below, atom-place, place-atom}
 use Rattle.writing.specs.Write.{bondList, tokens, textOf, renumbering, fewBridges, shallow, lent, writeValid, writeOf}

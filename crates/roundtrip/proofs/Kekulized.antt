@@ -1,14 +1,14 @@
 -- The text of a kekulized molecule, as the report prints it, is read back as that molecule. Assumes nothing.
-use mathlib.Core.Path.{_≡_, refl, ap}
+use mathlib.Core.Path.{_≡_, ap}
 use mathlib.Core.Bool.{true}
 use mathlib.Core.List.{List}
 use Prim.Native.Nat.{ℕ}
-use lib.IntN.{ℤ, pos}
+use lib.IntN.{ℤ}
 use Rattle.table.specs.Cells.{number}
 use Rattle.table.specs.Valid.{enough}
 use Rattle.table.specs.declared.Check.the-variants.{Fine}
 use Rattle.kekule.specs.Kekule.{kekulizedOf}
-use Rattle.kekule.proofs.Kekulized.{Settled, kekulize-settles}
+use Rattle.kekule.proofs.Kekulized.{kekulize-settles}
 use Rattle.writing.specs.Write.{writeOf}
 use Rattle.roundtrip.proofs.Claims.{RoundTrip, written, unselected-round-trip}
 

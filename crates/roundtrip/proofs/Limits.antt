@@ -1,28 +1,26 @@
 -- When writing says 14, 15 or 16: exactly when the walk needs too many bridges, its branches nest too deep, or its text is too long. Assumes nothing.
 use mathlib.Core.Path.{_≡_, refl, sym, ap, _∙_, subst}
-use mathlib.Core.Bool.{Bool, true, false, _&&_, not}
+use mathlib.Core.Bool.{Bool, true, false, _&&_}
 use mathlib.Core.List.{List, [], _∷_, _++_}
-use Prim.Native.Nat.{ℕ, zero, suc, _+_, _-_, _<_, _≤_}
+use Prim.Native.Nat.{ℕ, zero, suc, _-_, _<_, _≤_}
 use native.Mathlib.Omega.{arith}
 use lib.Dec.{eqb, leb, ltb}
-use lib.ListN.{length}
 use lib.IntN.{ℤ}
 use mathlib.Core.Logic.{_⊎_, inl, inr, ⊎-elim}
 use borrow.Author.Tests.{eqb-true, eqb-false, ltb-true, lt-ltb, lt-leb, ltb-false}
-use Rattle.loops.specs.Loop.{pick}
 use Rattle.loops.proofs.Loops.{and-left, and-right}
 use Rattle.table.specs.Limits.{maxAtoms, maxBonds}
 use Rattle.table.specs.Valid.{valid}
 use Rattle.table.proofs.Valid.{facts}
 use Rattle.state.specs.Limits.{maxDepth, bridges}
-use Rattle.walk.specs.Token.{Bond, Tok, apart, along, ring, branch, back}
+use Rattle.walk.specs.Token.{Tok, apart, along, ring, branch, back}
 use Rattle.walk.specs.Emit.{size}
-use Rattle.walk.specs.Walk.{forestOf, relabel, unused, write}
+use Rattle.walk.specs.Walk.{forestOf, relabel, unused}
 use Rattle.walk.specs.Check.{nests}
 use Rattle.walk.proofs.Count.{count, All, none, more, all-map, nobody}
 use Rattle.walk.proofs.Read.{pending}
 use Rattle.walk.proofs.Walk.{Inside}
-use Rattle.walk.proofs.Trip.{size-length, size-relabel, Renumbering, renumbering, inside-unused}
+use Rattle.walk.proofs.Trip.{size-length, size-relabel, renumbering, inside-unused}
 use Rattle.walk.proofs.Bridges.{Low, low-places, places-low}
 use Rattle.writing.specs.Write.{bondList, tokens, fewBridges, shallow}
 use Rattle.roundtrip.proofs.Bonds.{inside}

@@ -2,7 +2,7 @@
 use mathlib.Core.Path.{_≡_, refl, sym, ap, _∙_, subst}
 use mathlib.Core.Bool.{Bool, true, false, _&&_, _||_, not, cond}
 use mathlib.Core.List.{List, [], _∷_, _++_, map}
-use Prim.Native.Nat.{ℕ, zero, suc, _+_, _-_, _*_, _<_, _≤_}
+use Prim.Native.Nat.{ℕ, zero, suc, _+_, _<_}
 use native.Mathlib.Omega.{arith}
 use lib.Dec.{eqb, leb, ltb}
 use lib.ListN.{length, getD, replicate}
@@ -15,14 +15,14 @@ use Rattle.matching.specs.Graph as graph
 use Rattle.matching.specs.Model.{some?}
 use Rattle.matching.proofs.Graph.{and-intro}
 use Rattle.matching.proofs.Enumeration.{matchings-suc, found, after, cursor-found}
-use Rattle.walk.specs.Token.{Bond, bond, joined}
+use Rattle.walk.specs.Token.{Bond, bond}
 use Rattle.walk.specs.Walk.{place, renumber}
 use Rattle.walk.proofs.Count.{bit, count, All, none, more}
 use Rattle.walk.proofs.Walk.{Inside}
 use Rattle.walk.proofs.Trip.{place-inj, Renumbering}
 use Rattle.walk.proofs.Twice.{count-map}
 use Rattle.walk.proofs.Perm.{Perm, nil, cons, swap, trans}
-use Rattle.walk.proofs.Order.{place-below, atom-below, atom-place, place-atom}
+use Rattle.walk.proofs.Order.{place-below, atom-below, place-atom}
 
 pub same-bool : (a b : Bool) → (a ≡ true → b ≡ true) → (b ≡ true → a ≡ true) → a ≡ b
 same-bool true b f g = sym (f refl)

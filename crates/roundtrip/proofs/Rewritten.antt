@@ -1,34 +1,32 @@
 -- The tables that are read are valid, and writing them is accepted with the same bytes. Assumes nothing.
-use mathlib.Core.Path.{_≡_, refl, sym, ap, _∙_, subst}
+use mathlib.Core.Path.{_≡_, refl, sym, ap, _∙_}
 use mathlib.Core.Bool.{Bool, true, false, _&&_, _||_, not}
-use mathlib.Core.List.{List, [], _∷_, _++_, map}
-use Prim.Native.Nat.{ℕ, zero, suc, _+_, _-_, _*_, _<_, _≤_}
+use mathlib.Core.List.{List, [], _∷_, map}
+use Prim.Native.Nat.{ℕ, zero, suc, _<_, _≤_}
 use native.Mathlib.Omega.{arith}
-use lib.Dec.{eqb, leb, ltb}
+use lib.Dec.{eqb, ltb}
 use lib.ListN.{length, getD}
 use lib.IntN.{ℤ, pos, negsuc}
 use borrow.Author.Tests.{eqb-true, eq-eqb, le-leb}
-use Rattle.loops.specs.Loop.{pick, each, upTo}
 use Rattle.loops.proofs.Loops.{and-left, and-right, each-at}
-use Rattle.table.specs.Limits.{maxAtoms, maxBonds, atomCells, bondCells, ELEMENT, SELECTED, ISOTOPE, HYDROGENS, CHARGE, EXTENSION, FIRST, SECOND, KIND}
-use Rattle.table.specs.Cells.{number, inRange, atomCell, bondCell, end1, end2}
-use Rattle.table.specs.Valid.{selectable, selectedOk, sameEnds, fresh, atomOk, bondOk, Valid, enough}
+use Rattle.table.specs.Limits.{maxAtoms, maxBonds, ELEMENT, SELECTED, ISOTOPE, HYDROGENS, CHARGE, EXTENSION, FIRST, SECOND, KIND}
+use Rattle.table.specs.Cells.{number, inRange, atomCell, end1, end2}
+use Rattle.table.specs.Valid.{selectable, selectedOk, sameEnds, fresh, atomOk, bondOk, Valid}
 use Rattle.table.specs.Valid as spec
-use Rattle.table.proofs.Valid.{range-of, BondFine, bond-fine-back}
+use Rattle.table.proofs.Valid.{range-of, bond-fine-back}
 use Rattle.state.specs.Limits.{maxDepth}
 use Rattle.walk.specs.Token.{Bond, Tok, apart, along, ring, branch, back}
 use Rattle.walk.specs.Emit.{pre}
 use Rattle.walk.specs.Walk.{forestOf, renumber, renumbered}
 use Rattle.walk.specs.Check.{ends, nests}
 use Rattle.walk.proofs.Count.{bit, count, All, none, more}
-use Rattle.walk.proofs.Trip.{completed, Returned, round-trip, Renumbering}
+use Rattle.walk.proofs.Trip.{completed, round-trip}
 use Rattle.walk.proofs.Twice.{Distinct, completed-inside, distinct-map}
 use Rattle.walk.proofs.Natural.{onTok}
 use Rattle.walk.proofs.Made.{completed-made}
 use Rattle.walk.proofs.Order.{atom-below}
-use Rattle.writing.specs.Write.{bondList, tokens, textOf, renumbering, fewBridges, shallow}
-use Rattle.roundtrip.proofs.Cells.{bondCellsOf}
-use Rattle.roundtrip.proofs.Held.{nobond, rowOfBond}
+use Rattle.writing.specs.Write.{bondList, tokens, fewBridges, shallow}
+use Rattle.roundtrip.proofs.Held.{nobond}
 use Rattle.roundtrip.proofs.Simulation.{each-all}
 use Rattle.roundtrip.proofs.Bonds.{inside, small-kinds, distinct}
 use Rattle.roundtrip.proofs.Back.{Molecule, ren, as-many}

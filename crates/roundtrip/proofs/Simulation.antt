@@ -1,33 +1,28 @@
 -- The memory of a reading of bytes holds what a reading of tokens holds; atoms, branches and bridges keep it so. Assumes nothing.
-use mathlib.Core.Path.{_≡_, refl, sym, ap, _∙_, subst}
+use mathlib.Core.Path.{_≡_, refl, ap, _∙_}
 use mathlib.Core.Bool.{Bool, true, false, _&&_, _||_, not, cond}
 use mathlib.Core.List.{List, [], _∷_, _++_}
 use Prim.Native.Nat.{ℕ, zero, suc, _+_, _-_, _*_, _<_, _≤_}
 use native.Mathlib.Omega.{arith}
-use native.Mathlib.Numerals.{add-one}
-use lib.Dec.{eqb, leb, ltb}
+use lib.Dec.{eqb, ltb}
 use lib.ListN.{length, getD, set, length-append}
-use lib.IntN.{ℤ, pos}
-use borrow.Author.Tests.{eqb-true, eqb-false, eq-eqb, ne-eqb, ltb-true, ltb-false, lt-ltb, le-ltb, lt-leb}
+use borrow.Author.Tests.{eqb-true, eqb-false, eq-eqb, ne-eqb, ltb-true, ltb-false, lt-leb}
 use Rattle.loops.specs.Loop.{pick, each}
-use Rattle.loops.proofs.Loops.{and-left, and-right}
 use Rattle.grammar.specs.Fold.{keeps}
 use Rattle.table.specs.declared.Atom.{Atom}
-use Rattle.table.specs.declared.Bond as table
 use Rattle.table.specs.Limits.{maxAtoms, maxBonds, atomCells, bondCells, FIRST, SECOND}
 use Rattle.table.specs.Cells.{number, end1, end2}
-use Rattle.table.specs.Rows.{withAtom, withBond}
+use Rattle.table.specs.Rows.{withAtom}
 use Rattle.state.specs.declared.Fields.{Fields}
 use Rattle.state.specs.Limits.{maxDepth, bridges}
 use Rattle.state.specs.State.{opened, closed, bridged, joined}
 use Rattle.reading.specs.Memory.{Memory, nothing, kindOf, between, bonded, begun, described, drafted, moved, awaiting, counting, joins, joinedAlready, closeRefusal}
 use Rattle.reading.specs.Memory as bytes
-use Rattle.reading.specs.Act.{bridgeBond, bridgeAct, branchAct, orRefuse}
+use Rattle.reading.specs.Act.{bridgeBond, bridgeAct}
 use Rattle.walk.specs.Token.{Bond, bond, Hook, vacant, at, hookAt, hang, meet, St, st, bridge}
 use Rattle.walk.specs.Token as token
 use Rattle.walk.specs.Check.{ends, some, clash, refusedBridge}
 use Rattle.walk.proofs.Count.{All, none, more, all-map}
-use Rattle.roundtrip.proofs.Cells.{bondCellsOf}
 use Rattle.roundtrip.proofs.Held.{openerOf, symbolOf, Bridging, bridging-set, Branching, branching-push, branching-pop, AtomTable, atom-add, nobond, rowOfBond, BondTable, bond-add}
 
 -- row v, flag v: the row and the flag that the bytes of the atom v leave; p and q: the cells of the tables
