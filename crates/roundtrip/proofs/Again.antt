@@ -27,7 +27,7 @@ use Rattle.walk.proofs.Order.{atom-below, place-atom}
 use Rattle.writing.specs.Spell.{isotopeBytes, symbolBytes, hydrogenBytes, chargeBytes, extensionBytes, bracketBytes, unbracketed, atomBytes, kindBytes, bridgeBytes, restBytes, tokensBytes}
 use Rattle.writing.specs.Write.{bondList, tokens, textOf, renumbering}
 use Rattle.roundtrip.proofs.Bonds.{inside, distinct}
-use Rattle.roundtrip.proofs.Back.{Molecule, ren, sum-same}
+use Rattle.roundtrip.proofs.Back.{map-same, Molecule, ren, sum-same}
 
 -- ---- an atom's bytes depend on its cells and its bond sum
 abbrev zero? : ℤ → Bool
@@ -93,10 +93,6 @@ upTo-same : (f g : ℕ → ℕ) (k m : ℕ) → ((j : ℕ) → k ≤ j → j < k
 unfolding upTo
 upTo-same f g k zero h = refl
 upTo-same f g k (suc m) h = λ i. h k (omega arith) (omega arith) i ∷ upTo-same f g (suc k) m (λ j a b. h j (omega arith) (omega arith)) i
-
-map-same : (l : List ℕ) → map (λ a. a) l ≡ l
-map-same [] = refl
-map-same (x ∷ l) = ap (λ (k : List ℕ). x ∷ k) (map-same l)
 
 module _ (atoms bonds : List ℤ) (n m : ℕ) (v : Valid atoms bonds n m) {T U : List ℤ} {p q : ℕ} (M : Molecule atoms bonds n m T U p q) where
   abbrev pub bs : List Bond

@@ -2,16 +2,15 @@
 use mathlib.Core.Path.{_≡_, refl, sym, ap, _∙_, subst}
 use mathlib.Core.Bool.{Bool, true, false}
 use mathlib.Core.List.{List, [], _∷_, map}
-use Prim.Native.Nat.{ℕ, _-_, _*_, _<_, _≤_}
+use Prim.Native.Nat.{ℕ, _-_, _<_}
 use native.Mathlib.Omega.{arith}
 use lib.Dec.{leb}
 use lib.ListN.{length, getD, take, replicate}
 use lib.Seq.{take-append-seam}
 use lib.IntN.{ℤ, pos}
-use Rattle.loops.specs.Loop.{pick, upTo}
+use Rattle.loops.specs.Loop.{pick}
 use Rattle.loops.proofs.Loops.{length-upTo, upTo-at}
 use Rattle.graph.specs.Graph.{matchable}
-use Rattle.table.specs.Limits.{atomCells, bondCells}
 use Rattle.valence.specs.Valence.{delocalized}
 use Rattle.table.specs.Cells.{atomCell, selected}
 use Rattle.table.specs.Valid.{valid, Valid, enough}
@@ -28,17 +27,11 @@ use Rattle.walk.proofs.Perm.{Perm, bonds-permuted}
 use Rattle.walk.proofs.Order.{place-below, atom-below, atom-place, place-atom}
 use Rattle.writing.specs.Write.{bondList, tokens, textOf, renumbering, fewBridges, shallow, lent, writeValid, writeOf}
 use Rattle.writing.specs.Write as write
+use Rattle.roundtrip.specs.Claims.{Writable, numbered, renamed, accepted, Same, RoundTrip, Permutes}
 use Rattle.roundtrip.proofs.Bonds.{inside}
 use Rattle.roundtrip.proofs.Back.{Molecule, ReadBack, ren, read-back, matchable-same, localized-matchable}
 use Rattle.roundtrip.proofs.Again.{text-again, identity-again}
 use Rattle.roundtrip.proofs.Rewritten.{valid-again, few-again, shallow-again}
-
--- valid tables that writing does not refuse: neither 13, 14, 15 nor 16
-pub record Writable (atoms bonds : List ℤ) (n m : ℕ) : Type 0 where
-  pub sound : valid atoms bonds n m ≡ true
-  pub bridges : fewBridges (tokens bonds n m) ≡ true
-  pub branches : shallow (tokens bonds n m) ≡ true
-  pub bytes : leb (length (textOf atoms bonds n m)) maxText ≡ true
 
 -- ---- what writing answers
 -- what is not refused is written
@@ -67,46 +60,10 @@ pub written-output : {atoms bonds : List ℤ} {n m : ℕ} → Writable atoms bon
 written-output {atoms} {bonds} {n} {m} w out ren l =
     ap (λ (t : write.Told). take (t .size) (t .output)) (writes w out ren l) ∙ take-append-seam (textOf atoms bonds n m) (replicate (length out - length (textOf atoms bonds n m)) 0)
 
--- the number of an atom, and a bond, under a renumbering: the lower number is the first end
-abbrev pub numbered : List ℕ → ℕ → ℕ
-numbered r v = getD r v 0
-
-abbrev pub renamed : List ℕ → Bond → Bond
-renamed r b = joined (numbered r (b .lo)) (numbered r (b .hi)) (b .kind)
-
--- what an accepted reading hands back
-abbrev pub accepted : ℕ → ℕ → List ℤ → List ℤ → Told
-accepted n m atoms bonds = record { code = 0; offset = 0; atomCount = n; bondCount = m; atoms = atoms; bonds = bonds }
-
--- the tables T and U hold the molecule of atoms and bonds under its renumbering: every atom cell, every bond with its kind, 0 in the cells after
-pub record Same (atoms bonds : List ℤ) (n m : ℕ) (T U : List ℤ) : Type 0 where
-  pub cells : (v f : ℕ) → v < n → f < atomCells → atomCell T (numbered (renumbering bonds n m) v) f ≡ atomCell atoms v f
-  pub permuted : Perm (bondList U m) (map (renamed (renumbering bonds n m)) (bondList bonds m))
-  pub atoms-after : (j : ℕ) → atomCells * n ≤ j → getD T j (pos 0) ≡ pos 0
-  pub bonds-after : (j : ℕ) → bondCells * m ≤ j → getD U j (pos 0) ≡ pos 0
-
--- the text is read into tables T and U that hold the molecule; they are valid, and writing them is accepted with the same bytes, every atom keeping its number
-pub record RoundTrip (atoms bonds : List ℤ) (n m : ℕ) (A B : List ℤ) : Type 0 where
-  pub T : List ℤ
-  pub U : List ℤ
-  pub told : readOf (textOf atoms bonds n m) A B ≡ accepted n m T U
-  pub same : Same atoms bonds n m T U
-  pub atoms-long : length T ≡ length A
-  pub bonds-long : length U ≡ length B
-  pub still-valid : valid T U n m ≡ true
-  pub again : (out ren : List ℕ) → lent T U out ren ≡ true → writeOf T U n m out ren ≡ write.accepted (textOf atoms bonds n m) (upTo (λ v. v) 0 n) out ren
-
 -- ---- the renumbering
 number-place : (bonds : List ℤ) (n m v : ℕ) → v < n → numbered (renumbering bonds n m) v ≡ place (pre (forestOf n (bondList bonds m))) v
 unfolding renumbering
 number-place bonds n m v l = upTo-at (place (pre (forestOf n (bondList bonds m)))) n v 0 l
-
--- a permutation of the numbers below n
-pub record Permutes (n : ℕ) (r : List ℕ) : Type 0 where
-  pub long : length r ≡ n
-  pub below : (v : ℕ) → v < n → numbered r v < n
-  pub injective : (v w : ℕ) → v < n → w < n → numbered r v ≡ numbered r w → v ≡ w
-  pub onto : (a : ℕ) → a < n → (v : ℕ) × ((v < n) × (numbered r v ≡ a))
 
 -- THE RENUMBERING is a permutation of the atom numbers
 pub renumbering-permutes : (atoms bonds : List ℤ) (n m : ℕ) → valid atoms bonds n m ≡ true → Permutes n (renumbering bonds n m)

@@ -10,7 +10,8 @@ use Rattle.table.specs.declared.Check.the-variants.{Fine}
 use Rattle.kekule.specs.Kekule.{kekulizedOf}
 use Rattle.kekule.proofs.Kekulized.{kekulize-settles}
 use Rattle.writing.specs.Write.{writeOf}
-use Rattle.roundtrip.proofs.Claims.{RoundTrip, written, unselected-round-trip}
+use Rattle.roundtrip.specs.Claims.{RoundTrip}
+use Rattle.roundtrip.proofs.Claims.{written, unselected-round-trip}
 
 -- 01, "the settled text": kekulizing by a matching that is not refused, and writing that is not refused, give a text that is read back and written again
 pub kekulized-round-trip : (atoms bonds : List ℤ) (n m : ℕ) (row : List ℕ) → kekulizedOf atoms bonds n m row .check ≡ Fine → (out ren : List ℕ)

@@ -12,7 +12,6 @@ pub mod Tokens
 pub mod Written
 pub mod Bonds
 pub mod Ending
-pub mod Matchable
 pub mod Back
 pub mod Again
 pub mod Rewritten

@@ -1,11 +1,10 @@
 -- Reading with refusals: the plain step, and a number where a token is refused (4 to 9); the grammar of tokens (3)
-use mathlib.Core.Path.{_≡_, refl}
 use mathlib.Core.Bool.{Bool, true, false, _&&_, _||_, cond, not}
-use mathlib.Core.List.{List, [], _∷_, _++_, map}
-use Prim.Native.Nat.{ℕ, zero, suc, _+_}
+use mathlib.Core.List.{List, [], _∷_}
+use Prim.Native.Nat.{ℕ, zero, suc}
 use lib.Dec.{eqb, ltb}
 use lib.ListN.{length}
-use Rattle.walk.specs.Token.{Bond, bond, eqBond, Tok, apart, along, ring, branch, back, Hook, vacant, at, hookAt, hang, meet, St, st, joined, step, run}
+use Rattle.walk.specs.Token.{Bond, Tok, apart, along, ring, branch, back, Hook, vacant, at, hookAt, St, st, joined, step}
 
 abbrev pub ends : ℕ → ℕ → Bond → Bool
 ends a c b = eqb (b .lo) a && eqb (b .hi) c

@@ -1,9 +1,7 @@
 -- Emission: the tokens of any forest with any further bonds between its nodes (numbered in preorder)
-use mathlib.Core.Path.{_≡_, refl}
-use mathlib.Core.Bool.{Bool, true, false, _&&_, cond}
-use mathlib.Core.List.{List, [], _∷_, _++_, map}
-use Prim.Native.Nat.{ℕ, zero, suc, _+_}
-use lib.Dec.{eqb, ltb}
+use mathlib.Core.Bool.{cond}
+use mathlib.Core.List.{List, [], _∷_, _++_}
+use Prim.Native.Nat.{ℕ, suc, _+_}
 use Rattle.walk.specs.Token.{Bond, bond, eqBond, Tok, apart, along, ring, branch, back}
 
 -- first child and next sibling: an atom, the kind of the bond to its parent, its children, its later siblings

@@ -1,11 +1,11 @@
 -- The walk: depth first, from the lowest atom not yet visited, along bonds in ascending number; and what is written
 use mathlib.Core.Path.{_≡_, refl}
-use mathlib.Core.Bool.{Bool, true, false, _&&_, _||_, cond}
+use mathlib.Core.Bool.{Bool, true, false, _||_, cond}
 use mathlib.Core.List.{List, [], _∷_, _++_, map}
-use Prim.Native.Nat.{ℕ, zero, suc, _+_}
-use lib.Dec.{eqb, ltb}
-use Rattle.walk.specs.Token.{Bond, bond, eqBond, Tok, apart, along, ring, branch, back, joined, run, start, St, st}
-use Rattle.walk.specs.Emit.{Forest, leaf, node, size, pre, text, tree, trees}
+use Prim.Native.Nat.{ℕ, zero, suc}
+use lib.Dec.{eqb}
+use Rattle.walk.specs.Token.{Bond, bond, eqBond, Tok, apart, along, ring, branch, back, joined}
+use Rattle.walk.specs.Emit.{Forest, leaf, node, pre, text, trees}
 
 -- a bond as it is tried from an atom: the other end and the kind
 pub record Way : Type 0 where
