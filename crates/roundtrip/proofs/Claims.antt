@@ -37,7 +37,7 @@ use Rattle.roundtrip.proofs.Rewritten.{valid-again, few-again, shallow-
 -- what is not refused is written
 pub writes : {atoms bonds : List ℤ} {n m : ℕ} → Writable atoms bonds n m → (out ren : List ℕ) → lent atoms bonds out ren ≡ true → writeOf atoms bonds n m out ren ≡ write.accepted (textOf atoms bonds n m) (renumbering bonds n m) out ren
 unfolding writeOf writeValid
-writes w out ren l = rw (l, w .sound, w .bridges, w .branches, w .bytes)
+writes w out ren l = rw (l, w .tables, w .bridges, w .branches, w .bytes)
 
 all-pass : (t : write.Told) (out ren : List ℕ) (l a b c d : Bool) → pick l (pick a (pick b (pick c (pick d t (write.refused 16 out ren)) (write.refused 15 out ren)) (write.refused 14 out ren)) (write.refused 13 out ren)) (write.short out ren) .code ≡ 0
     → (l ≡ true) × ((a ≡ true) × ((b ≡ true) × ((c ≡ true) × (d ≡ true))))
@@ -53,7 +53,7 @@ pub written : (atoms bonds : List ℤ) (n m : ℕ) (out ren : List ℕ) → writ
 unfolding writeOf writeValid
 written atoms bonds n m out ren h =
     let r = all-pass (write.accepted (textOf atoms bonds n m) (renumbering bonds n m) out ren) out ren (lent atoms bonds out ren) (valid atoms bonds n m) (fewBridges (tokens bonds n m)) (shallow (tokens bonds n m)) (leb (length (textOf atoms bonds n m)) maxText) h in
-    (record { sound = r .1 .0; bridges = r .1 .1 .0; branches = r .1 .1 .1 .0; bytes = r .1 .1 .1 .1 }, r .0)
+    (record { tables = r .1 .0; bridges = r .1 .1 .0; branches = r .1 .1 .1 .0; bytes = r .1 .1 .1 .1 }, r .0)
 
 -- the text stands at the front of the output
 pub written-output : {atoms bonds : List ℤ} {n m : ℕ} → Writable atoms bonds n m → (out ren : List ℕ) → lent atoms bonds out ren ≡ true → take (writeOf atoms bonds n m out ren .size) (writeOf atoms bonds n m out ren .output) ≡ textOf atoms bonds n m
@@ -101,7 +101,7 @@ same-of atoms bonds n m T U p q v M =
 
 module _ (atoms bonds : List ℤ) (n m : ℕ) (w : Writable atoms bonds n m) (A B : List ℤ) (long : enough A B ≡ true) where
   v : Valid atoms bonds n m
-  v = facts atoms bonds n m (w .sound)
+  v = facts atoms bonds n m (w .tables)
 
   back : ReadBack atoms bonds n m A B
   back = read-back atoms bonds n m v A B (enough-facts A B long) (w .bridges) (w .branches)
@@ -112,7 +112,7 @@ module _ (atoms bonds : List ℤ) (n m : ℕ) (w : Writable atoms bonds n m) (A 
 
   again : {T U : List ℤ} → Molecule atoms bonds n m T U (length A) (length B) → Writable T U n m
   again M = record {
-    sound = facts-back (valid-again atoms bonds n m v M);
+    tables = facts-back (valid-again atoms bonds n m v M);
     bridges = few-again atoms bonds n m v M ∙ w .bridges;
     branches = shallow-again atoms bonds n m v M ∙ w .branches;
     bytes = ap (λ (s : List ℕ). leb (length s) maxText) (text-again atoms bonds n m v M) ∙ w .bytes;

@@ -22,7 +22,7 @@ use Rattle.writing.specs.Write as write
 
 -- valid tables that writing does not refuse: neither 13, 14, 15 nor 16
 pub record Writable (atoms bonds : List ℤ) (n m : ℕ) : Type 0 where
-  pub sound : valid atoms bonds n m ≡ true
+  pub tables : valid atoms bonds n m ≡ true
   pub bridges : fewBridges (tokens bonds n m) ≡ true
   pub branches : shallow (tokens bonds n m) ≡ true
   pub bytes : leb (length (textOf atoms bonds n m)) maxText ≡ true
