@@ -6,7 +6,7 @@ use Prim.Native.Nat.{ℕ, _-_, _<_}
 use native.Mathlib.Omega.{arith}
 use lib.Dec.{leb}
 use lib.ListN.{length, getD, take, replicate}
-use lib.Seq.{take-append-seam}
+use lib.Seq.{take-append-seam, take-at}
 use lib.IntN.{ℤ, pos}
 use Rattle.loops.specs.Loop.{pick}
 use Rattle.loops.proofs.Loops.{length-upTo, upTo-at}
@@ -27,7 +27,7 @@ use Rattle.walk.proofs.Perm.{Perm, bonds-permuted}
 use Rattle.walk.proofs.Order.{place-below, atom-below, atom-place, place-atom}
 use Rattle.writing.specs.Write.{bondList, tokens, textOf, renumbering, fewBridges, shallow, lent, writeValid, writeOf}
 use Rattle.writing.specs.Write as write
-use Rattle.roundtrip.specs.Claims.{Writable, numbered, renamed, accepted, Same, RoundTrip, Permutes}
+use Rattle.roundtrip.specs.Claims.{Writable, numbered, renamed, accepted, Same, RoundTrip, Permutes, Demand2}
 use Rattle.roundtrip.proofs.Bonds.{inside}
 use Rattle.roundtrip.proofs.Back.{Molecule, ReadBack, ren, read-back, matchable-same, localized-matchable}
 use Rattle.roundtrip.proofs.Again.{text-again, identity-again}
@@ -38,6 +38,20 @@ use Rattle.roundtrip.proofs.Rewritten.{valid-again, few-again, shallow-
 pub writes : {atoms bonds : List ℤ} {n m : ℕ} → Writable atoms bonds n m → (out ren : List ℕ) → lent atoms bonds out ren ≡ true → writeOf atoms bonds n m out ren ≡ write.accepted (textOf atoms bonds n m) (renumbering bonds n m) out ren
 unfolding writeOf writeValid
 writes w out ren l = rw (l, w .tables, w .bridges, w .branches, w .bytes)
+
+-- 14, 15, 16: what else valid tables get, and exactly when
+module _ (atoms bonds : List ℤ) (n m : ℕ) (out ren : List ℕ) (l : lent atoms bonds out ren ≡ true) (t : valid atoms bonds n m ≡ true) where
+  pub says-14 : fewBridges (tokens bonds n m) ≡ false → writeOf atoms bonds n m out ren ≡ write.refused 14 out ren
+  unfolding writeOf writeValid
+  says-14 h = rw (l, t, h)
+
+  pub says-15 : fewBridges (tokens bonds n m) ≡ true → shallow (tokens bonds n m) ≡ false → writeOf atoms bonds n m out ren ≡ write.refused 15 out ren
+  unfolding writeOf writeValid
+  says-15 h k = rw (l, t, h, k)
+
+  pub says-16 : fewBridges (tokens bonds n m) ≡ true → shallow (tokens bonds n m) ≡ true → leb (length (textOf atoms bonds n m)) maxText ≡ false → writeOf atoms bonds n m out ren ≡ write.refused 16 out ren
+  unfolding writeOf writeValid
+  says-16 h k j = rw (l, t, h, k, j)
 
 all-pass : (t : write.Told) (out ren : List ℕ) (l a b c d : Bool) → pick l (pick a (pick b (pick c (pick d t (write.refused 16 out ren)) (write.refused 15 out ren)) (write.refused 14 out ren)) (write.refused 13 out ren)) (write.short out ren) .code ≡ 0
     → (l ≡ true) × ((a ≡ true) × ((b ≡ true) × ((c ≡ true) × (d ≡ true))))
@@ -55,10 +69,17 @@ written atoms bonds n m out ren h =
     let r = all-pass (write.accepted (textOf atoms bonds n m) (renumbering bonds n m) out ren) out ren (lent atoms bonds out ren) (valid atoms bonds n m) (fewBridges (tokens bonds n m)) (shallow (tokens bonds n m)) (leb (length (textOf atoms bonds n m)) maxText) h in
     (record { tables = r .1 .0; bridges = r .1 .1 .0; branches = r .1 .1 .1 .0; bytes = r .1 .1 .1 .1 }, r .0)
 
--- the text stands at the front of the output
-pub written-output : {atoms bonds : List ℤ} {n m : ℕ} → Writable atoms bonds n m → (out ren : List ℕ) → lent atoms bonds out ren ≡ true → take (writeOf atoms bonds n m out ren .size) (writeOf atoms bonds n m out ren .output) ≡ textOf atoms bonds n m
-written-output {atoms} {bonds} {n} {m} w out ren l =
-    ap (λ (t : write.Told). take (t .size) (t .output)) (writes w out ren l) ∙ take-append-seam (textOf atoms bonds n m) (replicate (length out - length (textOf atoms bonds n m)) 0)
+-- the text stands at the front of the output, and the renumbering at the front of the numbers
+module _ {atoms bonds : List ℤ} {n m : ℕ} (w : Writable atoms bonds n m) (out ren : List ℕ) (l : lent atoms bonds out ren ≡ true) where
+  written-output : take (writeOf atoms bonds n m out ren .size) (writeOf atoms bonds n m out ren .output) ≡ textOf atoms bonds n m
+  written-output =
+      ap (λ (t : write.Told). take (t .size) (t .output)) (writes w out ren l) ∙ take-append-seam (textOf atoms bonds n m) (replicate (length out - length (textOf atoms bonds n m)) 0)
+
+  written-numbers : take n (writeOf atoms bonds n m out ren .numbers) ≡ renumbering bonds n m
+  unfolding renumbering
+  written-numbers =
+      ap (λ (t : write.Told). take n (t .numbers)) (writes w out ren l)
+      ∙ take-at (renumbering bonds n m) (replicate (length ren - length (renumbering bonds n m)) 0) n (length-upTo (place (pre (forestOf n (bondList bonds m)))) 0 n)
 
 -- ---- the renumbering
 number-place : (bonds : List ℤ) (n m v : ℕ) → v < n → numbered (renumbering bonds n m) v ≡ place (pre (forestOf n (bondList bonds m))) v
@@ -146,3 +167,15 @@ module _ (atoms bonds : List ℤ) (n m : ℕ) (w : Writable atoms bonds n m) (A 
   pub unselected-round-trip : ((a : ℕ) → a < n → selected atoms a ≡ 0) → RoundTrip atoms bonds n m A B
   unfolding delocalized
   unselected-round-trip h = round-trip (localized-matchable atoms bonds n m (λ a l. rw (h a l)))
+
+-- DEMAND 2, for every writing that is not refused and every buffers to read into
+pub demand-2 : (atoms bonds : List ℤ) (n m : ℕ) (out ren : List ℕ) → writeOf atoms bonds n m out ren .code ≡ 0 → (A B : List ℤ) → enough A B ≡ true → Demand2 atoms bonds n m out ren A B
+demand-2 atoms bonds n m out ren h A B long =
+    let w = written atoms bonds n m out ren h in
+    record {
+      text = written-output (w .0) out ren (w .1);
+      numbers = written-numbers (w .0) out ren (w .1);
+      permutes = renumbering-permutes atoms bonds n m (w .0 .tables);
+      matching = round-trip atoms bonds n m (w .0) A B long;
+      no-matching = no-matching-read atoms bonds n m (w .0) A B long;
+    }

@@ -149,3 +149,29 @@ shallow-depth ts h = nests-deep ts 0 h
 
 pub depth-shallow : (ts : List Tok) → ((a b : List Tok) → ts ≡ a ++ (branch ∷ b) → depthAfter a 0 < maxDepth) → shallow ts ≡ true
 depth-shallow ts g = deep-nests ts 0 g
+
+-- told as a point of the text: some branch opens inside maxDepth others
+pub record Deep (ts : List Tok) (d : ℕ) : Type 0 where
+  pub before : List Tok
+  pub after : List Tok
+  pub cut : ts ≡ before ++ (branch ∷ after)
+  pub deep : maxDepth ≤ depthAfter before d
+
+later : (t : Tok) {ts : List Tok} {d e : ℕ} → ((a : List Tok) → depthAfter (t ∷ a) d ≡ depthAfter a e) → Deep ts e → Deep (t ∷ ts) d
+later t h g = record { before = t ∷ g .before; after = g .after; cut = ap (λ (l : List Tok). t ∷ l) (g .cut); deep = let q = h (g .before) in let k = g .deep in omega arith }
+
+deep-at : (ts : List Tok) (d : ℕ) → nests maxAtoms maxBonds maxDepth ts d ≡ false → Deep ts d
+deep-at [] d h = absurd (let z : _≡_ {A = ℕ} 0 1 = cc in omega arith)
+deep-at (apart w ∷ ts) d h = later (apart w) (λ a. refl) (deep-at ts d h)
+deep-at (along k w ∷ ts) d h = later (along k w) (λ a. refl) (deep-at ts d h)
+deep-at (ring k r ∷ ts) d h = later (ring k r) (λ a. refl) (deep-at ts d h)
+deep-at (branch ∷ ts) d h = go (ltb d maxDepth) refl h (deep-at ts (suc d))
+  where
+    go : (x : Bool) → ltb d maxDepth ≡ x → (x && nests maxAtoms maxBonds maxDepth ts (suc d)) ≡ false → (nests maxAtoms maxBonds maxDepth ts (suc d) ≡ false → Deep ts (suc d)) → Deep (branch ∷ ts) d
+    go true e h f = later branch (λ a. refl) (f h)
+    go false e h f = record { before = []; after = ts; cut = refl; deep = ltb-false d maxDepth e }
+deep-at (back ∷ ts) zero h = later back (λ a. refl) (deep-at ts 0 h)
+deep-at (back ∷ ts) (suc d) h = later back (λ a. let s : suc d - 1 ≡ d = omega arith in ap (depthAfter a) s) (deep-at ts d h)
+
+pub deep-branch : (ts : List Tok) → shallow ts ≡ false → Deep ts 0
+deep-branch ts h = deep-at ts 0 h

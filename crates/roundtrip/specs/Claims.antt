@@ -1,17 +1,18 @@
 -- What is claimed of writing and reading together: the round trip, the renumbering, and the points of a walk that refuse
 use mathlib.Core.Path.{_≡_}
-use mathlib.Core.Bool.{true}
+use mathlib.Core.Bool.{true, false}
 use mathlib.Core.List.{List, [], _∷_, map}
 use Prim.Native.Nat.{ℕ, suc, _-_, _*_, _<_, _≤_}
 use lib.Dec.{leb}
-use lib.ListN.{length, getD}
+use lib.ListN.{length, getD, take}
 use lib.IntN.{ℤ, pos}
 use Rattle.loops.specs.Loop.{upTo}
+use Rattle.graph.specs.Graph.{matchable}
 use Rattle.table.specs.Limits.{atomCells, bondCells}
 use Rattle.table.specs.Cells.{atomCell}
 use Rattle.table.specs.Valid.{valid}
 use Rattle.state.specs.Limits.{bridges, maxText}
-use Rattle.reading.specs.Read.{Told, readOf}
+use Rattle.reading.specs.Read.{Told, refused, readOf}
 use Rattle.walk.specs.Token.{Bond, joined, Tok, apart, along, ring, branch, back}
 use Rattle.walk.specs.Walk.{unused}
 use Rattle.walk.proofs.Count.{count}
@@ -62,6 +63,14 @@ pub record Permutes (n : ℕ) (r : List ℕ) : Type 0 where
   pub below : (v : ℕ) → v < n → numbered r v < n
   pub injective : (v w : ℕ) → v < n → w < n → numbered r v ≡ numbered r w → v ≡ w
   pub onto : (a : ℕ) → a < n → (v : ℕ) × ((v < n) × (numbered r v ≡ a))
+
+-- DEMAND 2 as the calls show it: what writing left in out and ren, and what reading that text into buffers A and B hands back
+pub record Demand2 (atoms bonds : List ℤ) (n m : ℕ) (out ren : List ℕ) (A B : List ℤ) : Type 0 where
+  pub text : take (writeOf atoms bonds n m out ren .size) (writeOf atoms bonds n m out ren .output) ≡ textOf atoms bonds n m
+  pub numbers : take n (writeOf atoms bonds n m out ren .numbers) ≡ renumbering bonds n m
+  pub permutes : Permutes n (renumbering bonds n m)
+  pub matching : matchable atoms bonds n m ≡ true → RoundTrip atoms bonds n m A B
+  pub no-matching : matchable atoms bonds n m ≡ false → readOf (textOf atoms bonds n m) A B ≡ refused 11 0 A B
 
 -- ---- 14 and 15
 -- the numbers 1 to 99: as many bridges may be open at once
