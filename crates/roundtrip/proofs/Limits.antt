@@ -111,9 +111,6 @@ module _ (atoms bonds : List ℤ) (n m : ℕ) (h : valid atoms bonds n m ≡ tru
 abbrev NoDeeper : List Tok → ℕ → Type 0
 NoDeeper ts d = (a b : List Tok) → ts ≡ a ++ (branch ∷ b) → depthAfter a d < maxDepth
 
-head-branch : (t : Tok) (ts b : List Tok) → t ∷ ts ≡ branch ∷ b → t ≡ branch
-head-branch t ts b e = cc
-
 tail-same : (t u : Tok) (ts us : List Tok) → t ∷ ts ≡ u ∷ us → ts ≡ us
 tail-same t u ts us e = cc
 
