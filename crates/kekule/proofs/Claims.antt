@@ -1,26 +1,24 @@
 -- What the calls on a valid molecule mean, from the list theorem and the enumeration. Assumes nothing.
-use Prim.Native.Nat.{ℕ, zero, suc}
+use Prim.Native.Nat.{ℕ, suc}
 use native.Mathlib.Omega.{arith}
 use mathlib.Core.Path.{_≡_, refl, sym, ap, _∙_}
 use mathlib.Core.Bool.{Bool, true, false, _&&_}
 use mathlib.Core.List.{List, [], _∷_, _++_, map}
 use lib.ListN.{length, take, replicate}
 use lib.IntN.{ℤ}
-use Rattle.loops.specs.Loop.{pick, upTo}
-use Rattle.loops.proofs.Loops.{and-left, and-right, length-upTo}
-use Rattle.refusal.specs.declared.Refusal.the-variants.{Short, NoMatching, NotMatching, Invalid}
+use Rattle.loops.specs.Loop.{pick}
+use Rattle.loops.proofs.Loops.{length-upTo}
+use Rattle.refusal.specs.declared.Refusal.the-variants.{Short, NoMatching, Invalid}
 use Rattle.table.specs.Valid.{Valid, valid}
 use Rattle.table.proofs.Valid.{facts-back}
 use Rattle.matching.specs.Enumeration.{Row, Reply, matchings, cursorAt, isRow, fill, given, zeroed, orZeroed, rowCall, enumFirst, enumNext, enumTurn, enumReplies}
-use Rattle.matching.specs.Graph.{isMatching, enumeration, afterZero}
+use Rattle.matching.specs.Graph.{enumeration, afterZero}
 use Rattle.matching.specs.Model.{some?}
-use Rattle.matching.specs.declared.Answer.{Answer}
-use Rattle.matching.specs.declared.Answer.the-variants.{Given as answerGiven, Absent, Refused as answerRefused, Ended}
+use Rattle.matching.specs.declared.Answer.the-variants.{Absent, Refused as answerRefused, Ended}
 use Rattle.matching.specs.declared.Call.{Call}
 use Rattle.matching.specs.declared.Call.the-variants.{First, Next}
 use Rattle.matching.proofs.Enumeration.{cursor-found, first-matching, after, found}
 use Rattle.graph.specs.Graph.{delocalizedFlags, bondOf, graphOf, matchingOf, matchable}
-use Rattle.kekule.specs.declared.Found.{Found}
 use Rattle.kekule.specs.declared.Found.the-variants.{Given, End, Refused}
 use Rattle.kekule.specs.Kekule.{Out, out, outOf, foundOf, roomy, callOn}
 use Rattle.kekule.specs.Calls.{repliesOf}
