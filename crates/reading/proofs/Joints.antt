@@ -69,8 +69,8 @@ bridge-tables : {p q n m : ℕ} {atoms bonds : List ℤ} (u h k : ℕ) → Table
     → Tables p q n (m + 1) atoms (withBond bonds m (between u h k))
 bridge-tables {p} {q} {n} {m} {atoms} {bonds} u h k w a un hn k3 =
     by-test (λ x. Tables p q n (m + 1) atoms (withBond bonds m x)) _ _ _
-      (λ e. bond-added w u h k (a .few) (ltb-true u h e) hn k3 (λ j l. no-way bonds u h j (a .fresh j l)))
-      (λ e. bond-added w h u k (a .few) (not-above (ltb-false u h e)) un k3 (λ j l. no-way-back bonds u h j (a .fresh j l)))
+    (λ e. bond-added w u h k (a .few) (ltb-true u h e) hn k3 (λ j l. no-way bonds u h j (a .fresh j l)))
+    (λ e. bond-added w h u k (a .few) (not-above (ltb-false u h e)) un k3 (λ j l. no-way-back bonds u h j (a .fresh j l)))
   where
     not-above : h ≤ u → h < u
     not-above g = omega (arith, a .apart)

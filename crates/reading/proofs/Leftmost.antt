@@ -35,8 +35,8 @@ module _ (opener offset : List ℕ) where
   one r p =
       by-test (One r p) _ _ _ (λ e. let z : getD opener r 0 ≡ 0 = eqb-true (getD opener r 0) 0 e in record { below = omega arith; least = λ o. absurd (omega arith); told = inl refl }) (λ e.
       by-test (One r p) _ _ _
-        (λ f. record { below = omega (arith, ltb-true (getD offset r 0) p f); least = λ o. omega arith; told = inr (positive (eqb-false (getD opener r 0) 0 e), refl) })
-        (λ f. record { below = omega arith; least = λ o. ltb-false (getD offset r 0) p f; told = inl refl }))
+      (λ f. record { below = omega (arith, ltb-true (getD offset r 0) p f); least = λ o. omega arith; told = inr (positive (eqb-false (getD opener r 0) 0 e), refl) })
+      (λ f. record { below = omega arith; least = λ o. ltb-false (getD offset r 0) p f; told = inl refl }))
     where
       positive : (getD opener r 0 ≡ 0 → ⊥) → Open opener r
       positive n = omega arith

@@ -76,8 +76,8 @@ module _ (σ : State) (b i : ℕ) (μ : Memory) where
   atom-why n =
       by-test (Explained σ b i μ) _ _ _ (λ e. Why.many-atoms n (leb-true maxAtoms (μ .st .atoms) e)) (λ e.
       by-test (Explained σ b i μ) _ _ _
-        (λ f. Why.many-bonds n (leb-false maxAtoms (μ .st .atoms) e) (and-left (bonded μ) (leb maxBonds (μ .st .bonds)) f) (leb-true maxBonds (μ .st .bonds) (and-right (bonded μ) (leb maxBonds (μ .st .bonds)) f)))
-        (λ f. tt))
+      (λ f. Why.many-bonds n (leb-false maxAtoms (μ .st .atoms) e) (and-left (bonded μ) (leb maxBonds (μ .st .bonds)) f) (leb-true maxBonds (μ .st .bonds) (and-right (bonded μ) (leb maxBonds (μ .st .bonds)) f)))
+      (λ f. tt))
 
   bridge-why : (r p : ℕ) → Completes σ b i μ r p → Explained σ b i μ (bridgeAct r p μ)
   unfolding bridgeAct closeRefusal
@@ -139,12 +139,12 @@ module _ (d b i : ℕ) (μ : Memory) where
   unfolding modeAct step next
   mode-why (seq x) =
       first-why (at (seq x) d) b i μ _
-        (by-test (Explained (at (seq x) d) b i μ) (among b nonzero) (bridgeAct (digit b) i μ) _ (digit-why (at (seq x) d)) (λ e1.
-        by-test (Explained (at (seq x) d) b i μ) (eqb b 37) _ _ (λ e. tt) (λ e2.
-        by-test (Explained (at (seq x) d) b i μ) (among b bondSymbols) (jointAct b μ) _ (λ e. tt) (λ e3.
-        by-test (Explained (at (seq x) d) b i μ) (eqb b 46) (jointAct b μ) _ (λ e. tt) (λ e4.
-        by-test (Explained (at (seq x) d) b i μ) (eqb b 40) (branchAct i μ) _ (λ e. branch-why (at (seq x) d) b i μ (eqb-true b 40 e)) (λ e5.
-        by-test (Explained (at (seq x) d) b i μ) (eqb b 41) _ (goesOn x μ) (λ e. tt) (λ e6. goes-why (at (seq x) d) b i μ x)))))))
+      (by-test (Explained (at (seq x) d) b i μ) (among b nonzero) (bridgeAct (digit b) i μ) _ (digit-why (at (seq x) d)) (λ e1.
+      by-test (Explained (at (seq x) d) b i μ) (eqb b 37) _ _ (λ e. tt) (λ e2.
+      by-test (Explained (at (seq x) d) b i μ) (among b bondSymbols) (jointAct b μ) _ (λ e. tt) (λ e3.
+      by-test (Explained (at (seq x) d) b i μ) (eqb b 46) (jointAct b μ) _ (λ e. tt) (λ e4.
+      by-test (Explained (at (seq x) d) b i μ) (eqb b 40) (branchAct i μ) _ (λ e. branch-why (at (seq x) d) b i μ (eqb-true b 40 e)) (λ e5.
+      by-test (Explained (at (seq x) d) b i μ) (eqb b 41) _ (goesOn x μ) (λ e. tt) (λ e6. goes-why (at (seq x) d) b i μ x)))))))
   mode-why bond = first-why (at bond d) b i μ _ (by-test (Explained (at bond d) b i μ) (among b nonzero) (bridgeAct (digit b) i μ) _ (digit-why (at bond d)) (λ e. tt))
   mode-why dot = atom-why (at dot d) b i μ (atom-only b d)
   mode-why inside = first-why (at inside d) b i μ (jointAct b μ) tt

@@ -297,17 +297,23 @@ module _ {n : ℕ} {order : List ℕ} (ren : Renumbering n order) where
           ∙ count-alike (In n) (λ b. meets (place order v) (renumber order b)) (meets v) (meets-place v l) (chosen bs r) (all-chosen (In n) bs r i)
 
       renamed : Matches flags bs r → Matches flags′ (map (renumber order) bs) r
-      renamed w = record { induces = others ∙ w .induces; pairs = λ a l f.
-        (let l2 : a < n = omega arith in
-        let v = getD order a 0 in
-        let e = place-atom ren a l2 in
-        let g : flagged flags v ≡ true = sym (same v (atom-below ren a l2)) ∙ ap (flagged flags′) e ∙ f in
-        subst (λ (b : ℕ). count (meets b) (chosen (map (renumber order) bs) r) ≡ 1) e (meetings v (atom-below ren a l2) ∙ w .pairs v (let z = atom-below ren a l2 in omega arith) g)) }
+      renamed w = record {
+        induces = others ∙ w .induces;
+        pairs = λ a l f.
+            (let l2 : a < n = omega arith in
+            let v = getD order a 0 in
+            let e = place-atom ren a l2 in
+            let g : flagged flags v ≡ true = sym (same v (atom-below ren a l2)) ∙ ap (flagged flags′) e ∙ f in
+            subst (λ (b : ℕ). count (meets b) (chosen (map (renumber order) bs) r) ≡ 1) e (meetings v (atom-below ren a l2) ∙ w .pairs v (let z = atom-below ren a l2 in omega arith) g));
+      }
 
       unrenamed : Matches flags′ (map (renumber order) bs) r → Matches flags bs r
-      unrenamed w = record { induces = sym others ∙ w .induces; pairs = λ v l f.
-        (let l2 : v < n = omega arith in
-        sym (meetings v l2) ∙ w .pairs (place order v) (let z = place-below ren v l2 in omega arith) (same v l2 ∙ f)) }
+      unrenamed w = record {
+        induces = sym others ∙ w .induces;
+        pairs = λ v l f.
+            (let l2 : v < n = omega arith in
+            sym (meetings v l2) ∙ w .pairs (place order v) (let z = place-below ren v l2 in omega arith) (same v l2 ∙ f));
+      }
 
     -- THE STATEMENT
     pub same-matchable : length flags ≡ n → length flags′ ≡ n → (bs k : List Bond) → Inside n bs → Perm k (map (renumber order) bs) → some? (matchings (tests flags′ k) (length k)) ≡ some? (matchings (tests flags bs) (length k))
