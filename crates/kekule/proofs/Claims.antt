@@ -1,29 +1,29 @@
 -- What the calls on a valid molecule mean, from the list theorem and the enumeration. Assumes nothing.
-use Prim.Native.Nat.{ℕ, zero, suc}
+use Prim.Native.Nat.{ℕ, suc}
 use native.Mathlib.Omega.{arith}
 use mathlib.Core.Path.{_≡_, refl, sym, ap, _∙_}
 use mathlib.Core.Bool.{Bool, true, false, _&&_}
 use mathlib.Core.List.{List, [], _∷_, _++_, map}
 use lib.ListN.{length, take, replicate}
 use lib.IntN.{ℤ}
-use Rattle.loops.specs.Loop.{pick, upTo}
-use Rattle.loops.proofs.Loops.{and-left, and-right, length-upTo}
-use Rattle.refusal.specs.declared.Refusal.the-variants.{Short, NoMatching, NotMatching, Invalid}
+use Rattle.loops.specs.Loop.{pick}
+use Rattle.loops.proofs.Loops.{length-upTo}
+use Rattle.refusal.specs.declared.Refusal.the-variants.{Short, NoMatching, Invalid}
 use Rattle.table.specs.Valid.{Valid, valid}
 use Rattle.table.proofs.Valid.{facts-back}
 use Rattle.matching.specs.Enumeration.{Row, Reply, matchings, cursorAt, isRow, fill, given, zeroed, orZeroed, rowCall, enumFirst, enumNext, enumTurn, enumReplies}
-use Rattle.matching.specs.Graph.{isMatching, enumeration, afterZero}
+use Rattle.matching.specs.Graph.{enumeration, afterZero}
 use Rattle.matching.specs.Model.{some?}
-use Rattle.matching.specs.declared.Answer.{Answer}
-use Rattle.matching.specs.declared.Answer.the-variants.{Given as answerGiven, Absent, Refused as answerRefused, Ended}
+use Rattle.matching.specs.declared.Answer.the-variants.{Absent, Refused as answerRefused, Ended}
 use Rattle.matching.specs.declared.Call.{Call}
 use Rattle.matching.specs.declared.Call.the-variants.{First, Next}
 use Rattle.matching.proofs.Enumeration.{cursor-found, first-matching, after, found}
 use Rattle.graph.specs.Graph.{delocalizedFlags, bondOf, graphOf, matchingOf, matchable}
-use Rattle.kekule.specs.declared.Found.{Found}
 use Rattle.kekule.specs.declared.Found.the-variants.{Given, End, Refused}
 use Rattle.kekule.specs.Kekule.{Out, out, outOf, foundOf, roomy, callOn}
 use Rattle.kekule.specs.Calls.{repliesOf}
+use Rattle.kekule.specs.Pairing.{Pairing}
+use Rattle.kekule.proofs.Pairing.{matching-pairing, pairing-matching}
 
 -- an enumeration is empty exactly if no row passes
 none-found : (b : Bool) (l : List Row) (r : Row) → found b (r ∷ l) ≡ [] → b ≡ false
@@ -60,16 +60,30 @@ module _ {atoms bonds : List ℤ} {n m : ℕ} (v : Valid atoms bonds n m) (row :
       go [] e = first-found [] e ∙ simp e
       go (r ∷ es) e = first-found (r ∷ es) e ∙ simp e
 
-  -- 11 exactly if no set of induced bonds pairs each delocalized atom once
-  pub first-none : callOn First atoms bonds n m row .found ≡ Refused NoMatching → (r : Row) → (isRow m r && matchingOf atoms bonds n m r) ≡ false
-  first-none e = go (matchings (matchingOf atoms bonds n m) m) refl
+  none-tests : callOn First atoms bonds n m row .found ≡ Refused NoMatching → (r : Row) → (isRow m r && matchingOf atoms bonds n m r) ≡ false
+  none-tests e = go (matchings (matchingOf atoms bonds n m) m) refl
     where
       go : (es : List Row) → matchings (matchingOf atoms bonds n m) m ≡ es → (r : Row) → (isRow m r && matchingOf atoms bonds n m r) ≡ false
       go [] q r = empty-none (matchingOf atoms bonds n m) m q r
       go (s ∷ es) q r = let w : Given ≡ Refused NoMatching = sym (first-found (s ∷ es) q) ∙ e in cc
 
-  pub none-first : ((r : Row) → (isRow m r && matchingOf atoms bonds n m r) ≡ false) → callOn First atoms bonds n m row .found ≡ Refused NoMatching
-  none-first k = first-found [] (none-empty (matchingOf atoms bonds n m) m k)
+  -- 11 exactly if no set of induced bonds has each delocalized atom as an end of exactly one
+  pub first-none : callOn First atoms bonds n m row .found ≡ Refused NoMatching → (r : Row) → isRow m r ≡ true → Pairing atoms bonds n m r → ⊥
+  first-none e r i p =
+      let w : true ≡ false = sym (simp (i, pairing-matching v r i p)) ∙ none-tests e r in
+      let z : _≡_ {A = ℕ} 0 1 = cc in
+      omega arith
+
+  pub none-first : ((r : Row) → isRow m r ≡ true → Pairing atoms bonds n m r → ⊥) → callOn First atoms bonds n m row .found ≡ Refused NoMatching
+  none-first k = first-found [] (none-empty (matchingOf atoms bonds n m) m fails)
+    where
+      fails : (r : Row) → (isRow m r && matchingOf atoms bonds n m r) ≡ false
+      fails r = go (isRow m r) (matchingOf atoms bonds n m r) refl refl
+        where
+          go : (x y : Bool) → isRow m r ≡ x → matchingOf atoms bonds n m r ≡ y → (x && y) ≡ false
+          go false y e f = refl
+          go true false e f = refl
+          go true true e f = absurd (k r e (matching-pairing v r e f))
 
 -- asking for the next never gives 11
 pub next-never-none : (atoms bonds : List ℤ) (n m : ℕ) (row : List ℕ) → callOn Next atoms bonds n m row .found ≡ Refused NoMatching → ⊥
