@@ -14,3 +14,7 @@ pub mod Bonds
 pub mod Ending
 pub mod Matchable
 pub mod Back
+pub mod Again
+pub mod Rewritten
+pub mod Limits
+pub mod Claims
