@@ -15,7 +15,6 @@ use Rattle.grammar.specs.declared.Mode.the-variants.{Seq as seq, LetterA as let
 use Rattle.grammar.specs.declared.Out.{Out}
 use Rattle.grammar.specs.declared.State.the-variants.{Start as start, At as at}
 use Rattle.grammar.specs.Machine.{turn}
-use Rattle.grammar.specs.Fold.{keeps, refuses}
 use Rattle.grammar.proofs.Ends.{never}
 use Rattle.table.specs.declared.Atom.{Atom}
 use Rattle.table.specs.Limits.{maxAtoms, maxBonds}
@@ -85,7 +84,7 @@ begun-held {p} {q} {d} {i} {μ} x h few few-bonds = record { tables = tables (bo
         → Tables p q (μ .st .atoms + 1) (pick t (μ .st .bonds + 1) (μ .st .bonds)) (μ .atoms) (pick t (withBond (μ .bonds) (μ .st .bonds) (bondRow (μ .st .hub .0) (μ .st .atoms) (kindOf (μ .pending)))) (μ .bonds))
     tables true e =
         bond-added (atom-added (h .tables) few) (μ .st .hub .0) (μ .st .atoms) (kindOf (μ .pending)) (few-bonds e)
-          (h .hub (some-atom (μ .st .atoms) (not (afterDot (μ .pending))) e)) (omega arith) (h .kind) fresh
+        (h .hub (some-atom (μ .st .atoms) (not (afterDot (μ .pending))) e)) (omega arith) (h .kind) fresh
     tables false e = atom-added (h .tables) few
 
 -- what an atom's first byte leaves

@@ -92,7 +92,7 @@ module _ (s : List ℕ) (atoms bonds : List ℤ) where
       outside : getD (μ .st .outside) a 0 ≡ 1 → atomRow (atomsOf μ) a ≡ withHydrogens (atomRow (μ .atoms) a) (pos (implied (element (atomsOf μ) a) (selected (atomsOf μ) a) (bondSum (μ .bonds) (μ .st .bonds) a)))
       outside e =
           row-given (μ .st .outside) (μ .bonds) (μ .st .bonds) (μ .st .atoms) (μ .atoms) a l (omega (arith, w .tables .atom-length, w .tables .atom-room, w .tables .few-atoms)) e
-            ∙ ap (λ (h : ℕ). withHydrogens (atomRow (μ .atoms) a) (pos h)) (sym count)
+          ∙ ap (λ (h : ℕ). withHydrogens (atomRow (μ .atoms) a) (pos h)) (sym count)
         where
           count : implied (element (atomsOf μ) a) (selected (atomsOf μ) a) (bondSum (μ .bonds) (μ .st .bonds) a) ≡ implied (element (μ .atoms) a) (selected (μ .atoms) a) (bondSum (μ .bonds) (μ .st .bonds) a)
           count = rw (same ELEMENT (λ z. omega arith) (omega arith), same SELECTED (λ z. omega arith) (omega arith))

@@ -40,22 +40,49 @@ other-than l b h x e = split (eqb b x) refl
 on-letter : (b : ℕ) → among b letters ≡ true → (k : Out) → Begins (letterOf b) (atomOr b k)
 unfolding letters letterOf selectedOf atomOr among numberOf indexFrom symbols sameBytes
 on-letter =
-    each (λ b. (k : Out) → Begins (letterOf b) (atomOr b k)) letters
-      ((λ k. Begins.plain (omega arith)),
-      ((λ k. Begins.plain (omega arith)),
-      ((λ k. Begins.plain (omega arith)),
-      ((λ k. Begins.plain (omega arith)),
-      ((λ k. Begins.plain (omega arith)),
-      ((λ k. Begins.plain (omega arith)),
-      ((λ k. Begins.plain (omega arith)),
-      ((λ k. Begins.plain (omega arith)),
-      ((λ k. Begins.plain (omega arith)),
-      ((λ k. Begins.selected (omega arith) refl),
-      ((λ k. Begins.selected (omega arith) refl),
-      ((λ k. Begins.selected (omega arith) refl),
-      ((λ k. Begins.selected (omega arith) refl),
-      ((λ k. Begins.selected (omega arith) refl),
-      tt))))))))))))))
+    each (λ b. (k : Out) → Begins (letterOf b) (atomOr b k)) letters (
+      (λ k. Begins.plain (omega arith)),
+      (
+        (λ k. Begins.plain (omega arith)),
+        (
+          (λ k. Begins.plain (omega arith)),
+          (
+            (λ k. Begins.plain (omega arith)),
+            (
+              (λ k. Begins.plain (omega arith)),
+              (
+                (λ k. Begins.plain (omega arith)),
+                (
+                  (λ k. Begins.plain (omega arith)),
+                  (
+                    (λ k. Begins.plain (omega arith)),
+                    (
+                      (λ k. Begins.plain (omega arith)),
+                      (
+                        (λ k. Begins.selected (omega arith) refl),
+                        (
+                          (λ k. Begins.selected (omega arith) refl),
+                          (
+                            (λ k. Begins.selected (omega arith) refl),
+                            (
+                              (λ k. Begins.selected (omega arith) refl),
+                              (
+                                (λ k. Begins.selected (omega arith) refl),
+                                tt,
+                              ),
+                            ),
+                          ),
+                        ),
+                      ),
+                    ),
+                  ),
+                ),
+              ),
+            ),
+          ),
+        ),
+      ),
+    )
 
 -- a byte outside the list is neither `*` nor a selected letter
 record Unlisted (b : ℕ) : Type 0 where
@@ -78,7 +105,7 @@ off-letter b h k = let u = unlisted b h in rw (u .star, u .c, u .n, u .o, u .p, 
   where
     split : (u v w : Bool)
         → Begins (pick (u || v) Half (pick w Bracket Nothing)) (pick u (to letterA) (pick v (to letterT) (pick w (to bracket) k)))
-          ⊎ ((pick (u || v) Half (pick w Bracket Nothing) ≡ Nothing) × (pick u (to letterA) (pick v (to letterT) (pick w (to bracket) k)) ≡ k))
+        ⊎ ((pick (u || v) Half (pick w Bracket Nothing) ≡ Nothing) × (pick u (to letterA) (pick v (to letterT) (pick w (to bracket) k)) ≡ k))
     split true v w = inl Begins.letter-a
     split false true w = inl Begins.letter-t
     split false false true = inl Begins.opening

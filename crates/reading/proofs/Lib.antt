@@ -15,3 +15,4 @@ pub mod Refusals
 pub mod Outcome
 pub mod Leftmost
 pub mod Claims
+pub mod Stays

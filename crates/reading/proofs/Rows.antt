@@ -41,10 +41,10 @@ module _ (t : List ℤ) (a : ℕ) (x : Atom) (room : atomCells * a + atomCells �
 
   with-atom-at : (k : ℕ) → getD (withAtom t a x) k (pos 0)
       ≡ pick (eqb k (atomPlace a EXTENSION)) (x .extension)
-        (pick (eqb k (atomPlace a CHARGE)) (x .charge)
-        (pick (eqb k (atomPlace a HYDROGENS)) (x .hydrogens)
-        (pick (eqb k (atomPlace a ISOTOPE)) (x .isotope)
-        (pick (eqb k (atomPlace a SELECTED)) (x .selected) (pick (eqb k (atomPlace a ELEMENT)) (x .element) (getD t k (pos 0)))))))
+      (pick (eqb k (atomPlace a CHARGE)) (x .charge)
+      (pick (eqb k (atomPlace a HYDROGENS)) (x .hydrogens)
+      (pick (eqb k (atomPlace a ISOTOPE)) (x .isotope)
+      (pick (eqb k (atomPlace a SELECTED)) (x .selected) (pick (eqb k (atomPlace a ELEMENT)) (x .element) (getD t k (pos 0)))))))
   unfolding withAtom
   with-atom-at k =
       let t1 : List ℤ = set t (atomPlace a ELEMENT) (x .element) in
@@ -52,13 +52,14 @@ module _ (t : List ℤ) (a : ℕ) (x : Atom) (room : atomCells * a + atomCells �
       let t3 : List ℤ = set t2 (atomPlace a ISOTOPE) (x .isotope) in
       let t4 : List ℤ = set t3 (atomPlace a HYDROGENS) (x .hydrogens) in
       let t5 : List ℤ = set t4 (atomPlace a CHARGE) (x .charge) in
-      rw
-        (cell-set t5 (atomPlace a EXTENSION) (x .extension) k (simp length-set (omega arith)),
+      rw (
+        cell-set t5 (atomPlace a EXTENSION) (x .extension) k (simp length-set (omega arith)),
         cell-set t4 (atomPlace a CHARGE) (x .charge) k (simp length-set (omega arith)),
         cell-set t3 (atomPlace a HYDROGENS) (x .hydrogens) k (simp length-set (omega arith)),
         cell-set t2 (atomPlace a ISOTOPE) (x .isotope) k (simp length-set (omega arith)),
         cell-set t1 (atomPlace a SELECTED) (x .selected) k (simp length-set (omega arith)),
-        cell-set t (atomPlace a ELEMENT) (x .element) k (omega arith))
+        cell-set t (atomPlace a ELEMENT) (x .element) k (omega arith),
+      )
 
   -- the cells of other rows stay
   pub with-atom-other : (k : ℕ) → (k < atomCells * a) ⊎ (atomCells * a + atomCells ≤ k) → getD (withAtom t a x) k (pos 0) ≡ getD t k (pos 0)
@@ -80,13 +81,14 @@ module _ (t : List ℤ) (a : ℕ) (x : Atom) (room : atomCells * a + atomCells �
 -- a row of equal cells is the same row
 pub same-atom-row : (t u : List ℤ) (a : ℕ) → ((k : ℕ) → atomCells * a ≤ k → k < atomCells * a + atomCells → getD t k (pos 0) ≡ getD u k (pos 0)) → atomRow t a ≡ atomRow u a
 same-atom-row t u a h =
-    rw
-      (h (atomPlace a ELEMENT) (omega arith) (omega arith),
+    rw (
+      h (atomPlace a ELEMENT) (omega arith) (omega arith),
       h (atomPlace a SELECTED) (omega arith) (omega arith),
       h (atomPlace a ISOTOPE) (omega arith) (omega arith),
       h (atomPlace a HYDROGENS) (omega arith) (omega arith),
       h (atomPlace a CHARGE) (omega arith) (omega arith),
-      h (atomPlace a EXTENSION) (omega arith) (omega arith))
+      h (atomPlace a EXTENSION) (omega arith) (omega arith),
+    )
 
 pub within : (n high : ℕ) → n ≤ high → inRange (pos n) (pos 0) (pos high) ≡ true
 unfolding inRange
@@ -96,11 +98,11 @@ within n high h = rw (le-leb 0 n (omega arith), le-leb n high h)
 unfoldable pub rowOk : Atom → Bool
 rowOk x =
     inRange (x .element) (pos 0) (pos 118)
-      && inRange (x .isotope) (pos 0) (pos 999)
-      && inRange (x .hydrogens) (pos 0) (pos 9)
-      && inRange (x .charge) (negsuc 8) (pos 9)
-      && inRange (x .extension) (pos 0) (pos 9999)
-      && (inRange (x .selected) (pos 0) (pos 1) && (eqb (number (x .selected)) 0 || selectable (number (x .element))))
+    && inRange (x .isotope) (pos 0) (pos 999)
+    && inRange (x .hydrogens) (pos 0) (pos 9)
+    && inRange (x .charge) (negsuc 8) (pos 9)
+    && inRange (x .extension) (pos 0) (pos 9999)
+    && (inRange (x .selected) (pos 0) (pos 1) && (eqb (number (x .selected)) 0 || selectable (number (x .element))))
 
 pub atom-ok-row : (t : List ℤ) (a : ℕ) → atomOk t a ≡ rowOk (atomRow t a)
 unfolding atomOk selectedOk rowOk
@@ -117,10 +119,11 @@ module _ (t : List ℤ) (b : ℕ) (x : Bond) (room : bondCells * b + bondCells �
   with-bond-at k =
       let t1 : List ℤ = set t (bondPlace b FIRST) (x .first) in
       let t2 : List ℤ = set t1 (bondPlace b SECOND) (x .second) in
-      rw
-        (cell-set t2 (bondPlace b KIND) (x .kind) k (simp length-set (omega arith)),
+      rw (
+        cell-set t2 (bondPlace b KIND) (x .kind) k (simp length-set (omega arith)),
         cell-set t1 (bondPlace b SECOND) (x .second) k (simp length-set (omega arith)),
-        cell-set t (bondPlace b FIRST) (x .first) k (omega arith))
+        cell-set t (bondPlace b FIRST) (x .first) k (omega arith),
+      )
 
   pub with-bond-other : (k : ℕ) → (k < bondCells * b) ⊎ (bondCells * b + bondCells ≤ k) → getD (withBond t b x) k (pos 0) ≡ getD t k (pos 0)
   with-bond-other k w =
@@ -134,7 +137,8 @@ module _ (t : List ℤ) (b : ℕ) (x : Bond) (room : bondCells * b + bondCells �
 
 pub same-bond-row : (t u : List ℤ) (b : ℕ) → ((k : ℕ) → bondCells * b ≤ k → k < bondCells * b + bondCells → getD t k (pos 0) ≡ getD u k (pos 0)) → bondRow t b ≡ bondRow u b
 same-bond-row t u b h =
-    rw
-      (h (bondPlace b FIRST) (omega arith) (omega arith),
+    rw (
+      h (bondPlace b FIRST) (omega arith) (omega arith),
       h (bondPlace b SECOND) (omega arith) (omega arith),
-      h (bondPlace b KIND) (omega arith) (omega arith))
+      h (bondPlace b KIND) (omega arith) (omega arith),
+    )

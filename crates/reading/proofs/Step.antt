@@ -45,7 +45,7 @@ use Rattle.reading.proofs.InBracket.{Follows, extend-act, charge-act, h
 use Rattle.reading.proofs.Joints.{bridge-act, branch-act, unbranch-act, joint-held, counting-held}
 
 -- ---- an atom, or something else
-or-begins : {l : Letter} {o : Out} (a k : Acts) → Begins l o → orAtom l a k ≡ a
+pub or-begins : {l : Letter} {o : Out} (a k : Acts) → Begins l o → orAtom l a k ≡ a
 or-begins a k (Begins.plain s) = refl
 or-begins a k (Begins.selected s t) = refl
 or-begins a k Begins.letter-a = refl
@@ -95,8 +95,8 @@ module _ {p q i : ℕ} {μ : Memory} where
     where
       split : (t1 t2 t3 t4 t5 t6 : Bool) → among b nonzero ≡ t1
           → Follows p q i
-            (turn (pick t1 (to (seq plain)) (pick t2 (to percent) (pick t3 (to bond) (pick t4 (to dot) (pick t5 up (pick t6 down (machine.goesOn x b))))))) d)
-            (pick t1 (bridgeAct (digit b) i μ) (pick t2 (keeps μ) (pick t3 (jointAct b μ) (pick t4 (jointAct b μ) (pick t5 (branchAct i μ) (pick t6 (keeps (moved (closed (μ .st)) μ)) (goesOn x μ)))))))
+          (turn (pick t1 (to (seq plain)) (pick t2 (to percent) (pick t3 (to bond) (pick t4 (to dot) (pick t5 up (pick t6 down (machine.goesOn x b))))))) d)
+          (pick t1 (bridgeAct (digit b) i μ) (pick t2 (keeps μ) (pick t3 (jointAct b μ) (pick t4 (jointAct b μ) (pick t5 (branchAct i μ) (pick t6 (keeps (moved (closed (μ .st)) μ)) (goesOn x μ)))))))
       split true t2 t3 t4 t5 t6 e v = digit-bridge h b e
       split false true t3 t4 t5 t6 e v = sane-of percent (held-later h) tt
       split false false true t4 t5 t6 e v = sane-of bond (joint-held h b) tt

@@ -87,9 +87,9 @@ module _ {p q n m : ℕ} {atoms bonds : List ℤ} (w : Tables p q n m atoms bond
           split (yes e) = rw e (atom-ok-row (withAtom atoms a x) a ∙ ap rowOk (with-atom-row atoms a x room) ∙ ok)
           split (no g) =
               atom-ok-row (withAtom atoms a x) c
-                ∙ ap rowOk (same-atom-row (withAtom atoms a x) atoms c (λ k s u. with-atom-other atoms a x room k (other g k s u)))
-                ∙ sym (atom-ok-row atoms c)
-                ∙ w .atom-rows c l
+              ∙ ap rowOk (same-atom-row (withAtom atoms a x) atoms c (λ k s u. with-atom-other atoms a x room k (other g k s u)))
+              ∙ sym (atom-ok-row atoms c)
+              ∙ w .atom-rows c l
 
 -- ---- bonds
 
