@@ -16,3 +16,4 @@ pub mod Outcome
 pub mod Leftmost
 pub mod Claims
 pub mod Stays
+pub mod Kept

@@ -147,8 +147,8 @@ module _ {p q d i n k : ℕ} {μ : Memory} (h : Ready p q d i μ) (na : n ≤ μ
           rows = λ a l. refl;
           flags = λ a l. getD-set-other (μ .st .outside) (μ .st .atoms) a x 0 (λ e. omega arith);
           bonds = λ b l. by-test (λ t. bondRow t b ≡ bondRow (μ .bonds) b) (bonded μ) _ (μ .bonds)
-            (λ e. bond-before (μ .bonds) (μ .st .bonds) _ (omega (arith, few-bonds e, h .tables .bond-length, h .tables .bond-room)) b (omega arith))
-            (λ e. refl);
+              (λ e. bond-before (μ .bonds) (μ .st .bonds) _ (omega (arith, few-bonds e, h .tables .bond-length, h .tables .bond-room)) b (omega arith))
+              (λ e. refl);
         }
 
     more-bonds : (x : ℕ) → k ≤ begun x μ .st .bonds
@@ -225,9 +225,9 @@ module _ {p q d i n k : ℕ} {μ : Memory} (h : Held p q d i μ) (na : n ≤ μ 
     where
       split : (t : Bool)
           → LeftAct n k μ (at (seq plain) d)
-            (pick t (keeps (moved (pick t (bridged (μ .st) r (μ .st .hub .0 + 1) (kindOf (μ .pending)) o (μ .st .bonds)) (bridged (μ .st) r 0 0 0 (μ .st .bonds + 1))) μ))
-            (orRefuse (closeRefusal (μ .bonds) (μ .st .bonds) (getD (μ .st .opener) r 0 - 1) (μ .st .hub .0) (getD (μ .st .symbol) r 0) (kindOf (μ .pending))) o
-            (moved (pick t (bridged (μ .st) r (μ .st .hub .0 + 1) (kindOf (μ .pending)) o (μ .st .bonds)) (bridged (μ .st) r 0 0 0 (μ .st .bonds + 1))) (bridgeBond r μ))))
+          (pick t (keeps (moved (pick t (bridged (μ .st) r (μ .st .hub .0 + 1) (kindOf (μ .pending)) o (μ .st .bonds)) (bridged (μ .st) r 0 0 0 (μ .st .bonds + 1))) μ))
+          (orRefuse (closeRefusal (μ .bonds) (μ .st .bonds) (getD (μ .st .opener) r 0 - 1) (μ .st .hub .0) (getD (μ .st .symbol) r 0) (kindOf (μ .pending))) o
+          (moved (pick t (bridged (μ .st) r (μ .st .hub .0 + 1) (kindOf (μ .pending)) o (μ .st .bonds)) (bridged (μ .st) r 0 0 0 (μ .st .bonds + 1))) (bridgeBond r μ))))
       split true = record { complete = (na, tt); bonds = kb; same = record { rows = λ a l. refl; flags = λ a l. refl; bonds = λ b l. refl } }
       split false = refusal (closeRefusal (μ .bonds) (μ .st .bonds) (getD (μ .st .opener) r 0 - 1) (μ .st .hub .0) (getD (μ .st .symbol) r 0) (kindOf (μ .pending))) refl
         where
@@ -278,8 +278,8 @@ module _ {p q d i n k : ℕ} {μ : Memory} (h : Held p q d i μ) (na : n ≤ μ 
     where
       split : (t1 t2 t3 t4 t5 t6 : Bool)
           → Leaves n k μ
-            (turn (pick t1 (to (seq plain)) (pick t2 (to percent) (pick t3 (to bond) (pick t4 (to dot) (pick t5 up (pick t6 down (machine.goesOn x b))))))) d)
-            (pick t1 (bridgeAct (digit b) i μ) (pick t2 (keeps μ) (pick t3 (jointAct b μ) (pick t4 (jointAct b μ) (pick t5 (branchAct i μ) (pick t6 (keeps (moved (closed (μ .st)) μ)) (goesOn x μ)))))))
+          (turn (pick t1 (to (seq plain)) (pick t2 (to percent) (pick t3 (to bond) (pick t4 (to dot) (pick t5 up (pick t6 down (machine.goesOn x b))))))) d)
+          (pick t1 (bridgeAct (digit b) i μ) (pick t2 (keeps μ) (pick t3 (jointAct b μ) (pick t4 (jointAct b μ) (pick t5 (branchAct i μ) (pick t6 (keeps (moved (closed (μ .st)) μ)) (goesOn x μ)))))))
       split true t2 t3 t4 t5 t6 v = bridge-left (digit b) i
       split false true t3 t4 t5 t6 v = quiet percent refl μ refl refl refl
       split false false true t4 t5 t6 v = quiet bond refl _ refl refl refl
@@ -330,8 +330,8 @@ module _ {p q d i n k : ℕ} {μ : Memory} (h : Held p q d i μ) (na : n ≤ μ 
     close-left : (b : ℕ) → LeftAct n k μ τ (closing b μ)
     close-left b =
         by-test (λ ν. Left n k μ τ ν) (eqb b 93) (described (rowOf (μ .draft)) μ) μ
-          (λ e. record { complete = complete-any τ n (described (rowOf (μ .draft)) μ) na (l .0) (l .1); bonds = kb; same = described-same (rowOf (μ .draft)) (h .tables) (l .0) (h .hub) })
-          (λ e. record { complete = complete-any τ n μ na (l .0) (l .1); bonds = kb; same = same-itself n k μ })
+        (λ e. record { complete = complete-any τ n (described (rowOf (μ .draft)) μ) na (l .0) (l .1); bonds = kb; same = described-same (rowOf (μ .draft)) (h .tables) (l .0) (h .hub) })
+        (λ e. record { complete = complete-any τ n μ na (l .0) (l .1); bonds = kb; same = same-itself n k μ })
 
     charge-left : (b : ℕ) → LeftAct n k μ τ (charging b μ)
     charge-left b = by-test (LeftAct n k μ τ) (among b signs) _ _ (λ e. draft-left _) (λ e. close-left b)
