@@ -15,7 +15,6 @@ use Rattle.grammar.specs.declared.Mode.the-variants.{Seq as seq, LetterA as let
 use Rattle.grammar.specs.declared.Out.{Out}
 use Rattle.grammar.specs.declared.State.the-variants.{Start as start, At as at}
 use Rattle.grammar.specs.Machine.{turn}
-use Rattle.grammar.specs.Fold.{keeps, refuses}
 use Rattle.grammar.proofs.Ends.{never}
 use Rattle.table.specs.declared.Atom.{Atom}
 use Rattle.table.specs.Limits.{maxAtoms, maxBonds}

@@ -5,7 +5,7 @@ use mathlib.Core.Path.{_≡_, refl, sym, _∙_}
 use mathlib.Core.Bool.{Bool, true, false, _&&_, _||_, not}
 use mathlib.Core.List.{List}
 use lib.IntN.{ℤ}
-use lib.Dec.{eqb, leb, ltb}
+use lib.Dec.{eqb, leb}
 use borrow.Author.Tests.{eqb-false, eq-eqb, leb-false, ltb-true, ltb-false, not-true, not-false}
 use Rattle.loops.specs.Loop.{pick, each}
 use Rattle.loops.proofs.Loops.{each-at}
@@ -16,7 +16,7 @@ use Rattle.grammar.specs.Fold.{keeps, refuses}
 use Rattle.grammar.proofs.Ends.{never}
 use Rattle.table.specs.Limits.{maxBonds}
 use Rattle.table.specs.Cells.{end1, end2}
-use Rattle.reading.specs.Memory.{Memory, dotted, symbol, symbolKind, kindOf, bondRow, between, awaiting, moved, counting, meet, clash, joins, joinedAlready, closeRefusal}
+use Rattle.reading.specs.Memory.{Memory, dotted, symbol, symbolKind, kindOf, between, awaiting, moved, counting, meet, clash, joins, joinedAlready, closeRefusal}
 use Rattle.reading.specs.Act.{bridgeBond, orRefuse, bridgeAct, branchAct}
 use Rattle.reading.proofs.Cases.{by-test}
 use Rattle.reading.proofs.Sane.{Tables, Sane, SaneAct}
@@ -31,12 +31,12 @@ use Rattle.reading.proofs.Atoms.{Held}
 -- ---- a bridge
 
 -- what was not refused
-record Allowed (bonds : List ℤ) (m u h : ℕ) : Type 0 where
+pub record Allowed (bonds : List ℤ) (m u h : ℕ) : Type 0 where
   pub few : m < maxBonds
   pub apart : u ≡ h → ⊥
   pub fresh : (j : ℕ) → j < m → joins bonds u h j ≡ false
 
-allowed : (bonds : List ℤ) (m u h j k : ℕ) → closeRefusal bonds m u h j k ≡ 0 → Allowed bonds m u h
+pub allowed : (bonds : List ℤ) (m u h j k : ℕ) → closeRefusal bonds m u h j k ≡ 0 → Allowed bonds m u h
 unfolding closeRefusal joinedAlready
 allowed bonds m u h j k =
     by-test (λ c. c ≡ 0 → Allowed bonds m u h) (leb maxBonds m) 5 _ (λ e (z : 5 ≡ 0). absurd (omega arith)) (λ few.

@@ -3,13 +3,11 @@ use Prim.Native.Nat.{ℕ, zero, suc, _+_, _≤_, _<_}
 use native.Mathlib.Omega.{arith}
 use native.Mathlib.Decide.{ℕ-discrete, decLt}
 use mathlib.Core.Path.{_≡_, refl, sym, _∙_}
-use mathlib.Core.Bool.{Bool, true, false}
 use mathlib.Core.Logic.{_⊎_, inl, inr}
 use mathlib.Core.List.{List}
 use lib.ListN.{length, getD, List·getD-eq-default}
-use lib.Dec.{eqb, ltb}
 use borrow.Author.Tests.{eqb-true, eqb-false, ltb-true, ltb-false}
-use Rattle.loops.specs.Loop.{pick, run}
+use Rattle.loops.specs.Loop.{run}
 use Rattle.state.specs.Limits.{bridges, maxText}
 use Rattle.reading.proofs.Cases.{by-test}
 use Rattle.reading.specs.Read.{earlier, leftmost}

@@ -15,3 +15,5 @@ pub mod Refusals
 pub mod Outcome
 pub mod Leftmost
 pub mod Claims
+pub mod Stays
+pub mod Kept

@@ -1,14 +1,13 @@
 -- Why a byte is refused with 4 to 9: each check of 01, with those that are asked before it. Assumes nothing.
 use Prim.Native.Nat.{ℕ, _+_, _-_, _*_, _≤_, _<_}
 use native.Mathlib.Omega.{arith}
-use mathlib.Core.Path.{_≡_, refl, subst}
-use mathlib.Core.Bool.{Bool, true, false, _&&_}
+use mathlib.Core.Path.{_≡_, subst}
+use mathlib.Core.Bool.{true, false}
 use mathlib.Core.Logic.{⊎-elim}
 use mathlib.Core.List.{[], _∷_}
 use lib.ListN.{getD}
 use lib.Dec.{eqb, leb}
 use borrow.Author.Tests.{eqb-true, eqb-false, leb-true, leb-false}
-use Rattle.loops.specs.Loop.{pick}
 use Rattle.loops.proofs.Loops.{and-left, and-right}
 use Rattle.element.specs.declared.Letter.{Letter}
 use Rattle.element.specs.declared.Letter.the-variants.{Plain, Selected, Half, Bracket, Nothing}
@@ -31,7 +30,7 @@ use Rattle.state.specs.Limits.{maxDepth}
 use Rattle.state.specs.State.{opened, joined}
 use Rattle.reading.specs.Memory.{Memory, kindOf, bonded, moved, clash, joinedAlready, closeRefusal}
 use Rattle.reading.specs.Bracket.{digit}
-use Rattle.reading.specs.Act.{Acts, firstByte, bridgeBond, closing, charging, hydrating, jointAct, orAtom, atomAct, orRefuse, bridgeAct, branchAct, goesOn, modeAct, act}
+use Rattle.reading.specs.Act.{Acts, bridgeBond, charging, hydrating, jointAct, orAtom, atomAct, orRefuse, bridgeAct, branchAct, goesOn, modeAct, act}
 use Rattle.reading.proofs.Cases.{by-test}
 use Rattle.reading.proofs.Letters.{Begins, begins}
 
