@@ -1,11 +1,11 @@
 -- Writing what was read gives the same bytes, and the renumbering is the identity. Assumes nothing.
 use mathlib.Core.Path.{_≡_, refl, sym, ap, _∙_, subst}
-use mathlib.Core.Bool.{Bool, true, false, _&&_, not}
+use mathlib.Core.Bool.{Bool, false, _&&_}
 use mathlib.Core.List.{List, [], _∷_, _++_, map}
-use Prim.Native.Nat.{ℕ, zero, suc, _+_, _-_, _*_, _<_, _≤_}
+use Prim.Native.Nat.{ℕ, zero, suc, _+_, _<_, _≤_}
 use native.Mathlib.Omega.{arith}
 use lib.Dec.{eqb}
-use lib.ListN.{length, getD}
+use lib.ListN.{getD}
 use lib.IntN.{ℤ, pos, negsuc}
 use Rattle.loops.specs.Loop.{pick, upTo}
 use Rattle.element.specs.Lookup.{bare}
@@ -18,16 +18,16 @@ use Rattle.walk.specs.Token.{Bond, Tok, apart, along, ring, branch, back}
 use Rattle.walk.specs.Emit.{pre}
 use Rattle.walk.specs.Walk.{forestOf, place, write}
 use Rattle.walk.proofs.Count.{All, none, more}
-use Rattle.walk.proofs.Walk.{range, Inside}
+use Rattle.walk.proofs.Walk.{range}
 use Rattle.walk.proofs.Trip.{completed}
 use Rattle.walk.proofs.Twice.{completed-inside, order-again, place-same, write-again}
 use Rattle.walk.proofs.Natural.{onTok, write-natural}
 use Rattle.walk.proofs.Made.{Made, written-made}
 use Rattle.walk.proofs.Order.{atom-below, place-atom}
-use Rattle.writing.specs.Spell.{isotopeBytes, symbolBytes, hydrogenBytes, chargeBytes, extensionBytes, bracketBytes, unbracketed, atomBytes, kindBytes, bridgeBytes, tokenBytes, restBytes, tokensBytes}
+use Rattle.writing.specs.Spell.{isotopeBytes, symbolBytes, hydrogenBytes, chargeBytes, extensionBytes, bracketBytes, unbracketed, atomBytes, kindBytes, bridgeBytes, restBytes, tokensBytes}
 use Rattle.writing.specs.Write.{bondList, tokens, textOf, renumbering}
 use Rattle.roundtrip.proofs.Bonds.{inside, distinct}
-use Rattle.roundtrip.proofs.Back.{Molecule, ren, sum-same}
+use Rattle.roundtrip.proofs.Back.{map-same, Molecule, ren, sum-same}
 
 -- ---- an atom's bytes depend on its cells and its bond sum
 abbrev zero? : ℤ → Bool
@@ -93,10 +93,6 @@ upTo-same : (f g : ℕ → ℕ) (k m : ℕ) → ((j : ℕ) → k ≤ j → j < k
 unfolding upTo
 upTo-same f g k zero h = refl
 upTo-same f g k (suc m) h = λ i. h k (omega arith) (omega arith) i ∷ upTo-same f g (suc k) m (λ j a b. h j (omega arith) (omega arith)) i
-
-map-same : (l : List ℕ) → map (λ a. a) l ≡ l
-map-same [] = refl
-map-same (x ∷ l) = ap (λ (k : List ℕ). x ∷ k) (map-same l)
 
 module _ (atoms bonds : List ℤ) (n m : ℕ) (v : Valid atoms bonds n m) {T U : List ℤ} {p q : ℕ} (M : Molecule atoms bonds n m T U p q) where
   abbrev pub bs : List Bond

@@ -1,12 +1,11 @@
 -- Reading the bytes of an atom of valid tables: with or without brackets, its row before its hydrogens. Assumes nothing.
-use mathlib.Core.Path.{_≡_, refl, sym, ap, _∙_, subst}
-use mathlib.Core.Bool.{Bool, true, false, _&&_, _||_, not}
-use mathlib.Core.List.{List, [], _∷_, _++_}
+use mathlib.Core.Path.{_≡_, refl, ap, _∙_}
+use mathlib.Core.Bool.{Bool, true, false, _&&_, _||_}
+use mathlib.Core.List.{List}
 use mathlib.Core.Logic.{_⊎_, inl, inr}
-use Prim.Native.Nat.{ℕ, zero, suc, _+_, _-_, _*_, _<_, _≤_}
+use Prim.Native.Nat.{ℕ, zero, suc, _≤_}
 use native.Mathlib.Omega.{arith}
-use lib.Dec.{eqb, leb, ltb}
-use lib.ListN.{length, getD}
+use lib.Dec.{eqb, leb}
 use lib.IntN.{ℤ, pos, negsuc}
 use lib.Signed.{leZ}
 use borrow.Author.Tests.{eqb-true, leb-true}
@@ -15,24 +14,21 @@ use Rattle.loops.proofs.Loops.{and-left, and-right}
 use Rattle.element.specs.Symbols.{among, letters}
 use Rattle.element.specs.Lookup.{selectedOf, letterOf, bare}
 use Rattle.grammar.specs.declared.Last.the-variants.{Plain as plain}
-use Rattle.grammar.specs.declared.Mode.the-variants.{Seq as seq, Bracket as bracket}
-use Rattle.grammar.specs.declared.Out.{Out}
-use Rattle.grammar.specs.declared.Out.the-variants.{To as to}
 use Rattle.grammar.specs.declared.State.{State}
 use Rattle.grammar.specs.declared.State.the-variants.{At as at}
-use Rattle.grammar.specs.Machine.{turn, atomOr}
+use Rattle.grammar.specs.Machine.{atomOr}
 use Rattle.valence.specs.Valence.{implied}
 use Rattle.graph.specs.Graph.{bondSum}
 use Rattle.table.specs.declared.Atom.{Atom}
 use Rattle.state.specs.declared.Fields.{Fields}
 use Rattle.table.specs.Limits.{ELEMENT, SELECTED, ISOTOPE, HYDROGENS, CHARGE, EXTENSION}
 use Rattle.table.specs.Cells.{number, inRange, atomCell, element, selected, hydrogens}
-use Rattle.table.specs.Valid.{selectable, selectedOk, chargeOk}
-use Rattle.table.proofs.Valid.{AtomFine, range-high, range-pos}
-use Rattle.reading.specs.Memory.{Memory, bareRow, rowOf, blank, begun, drafted}
-use Rattle.writing.specs.Spell.{isotopeBytes, symbolBytes, hydrogenBytes, chargeBytes, extensionBytes, bracketBytes, unbracketed, atomBytes}
-use Rattle.roundtrip.proofs.Feed.{Takes, byte}
-use Rattle.roundtrip.proofs.Bracketed.{fields, Slight, Ends}
+use Rattle.table.specs.Valid.{selectable, selectedOk}
+use Rattle.table.proofs.Valid.{AtomFine, range-high}
+use Rattle.reading.specs.Memory.{Memory, bareRow, rowOf, begun}
+use Rattle.writing.specs.Spell.{symbolBytes, bracketBytes, unbracketed, atomBytes}
+use Rattle.roundtrip.proofs.Feed.{byte}
+use Rattle.roundtrip.proofs.Bracketed.{fields, Slight}
 use Rattle.roundtrip.proofs.Named.{Symbolic, takes-bracket}
 use Rattle.roundtrip.proofs.Letters.{Begins, Room, Atomed, first, takes-letters}
 

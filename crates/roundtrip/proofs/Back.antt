@@ -1,33 +1,31 @@
 -- Reading what was written: the tables that are read, cell by cell and bond by bond. Assumes nothing.
 use mathlib.Core.Path.{_≡_, refl, sym, ap, _∙_, subst}
-use mathlib.Core.Bool.{Bool, true, false, _&&_, not}
-use mathlib.Core.List.{List, [], _∷_, _++_, map}
-use Prim.Native.Nat.{ℕ, zero, suc, _+_, _-_, _*_, _<_, _≤_}
+use mathlib.Core.Bool.{Bool, true, false}
+use mathlib.Core.List.{List, [], _∷_, map}
+use Prim.Native.Nat.{ℕ, zero, suc, _+_, _*_, _<_, _≤_}
 use native.Mathlib.Omega.{arith}
-use lib.Dec.{eqb, leb, ltb}
+use lib.Dec.{eqb, ltb}
 use lib.ListN.{length, getD}
 use lib.IntN.{ℤ, pos}
-use borrow.Author.Tests.{ltb-true, le-ltb, eqb-true, eqb-false}
+use borrow.Author.Tests.{ltb-true, eqb-true, eqb-false}
 use Rattle.loops.specs.Loop.{pick, upTo}
-use Rattle.loops.proofs.Loops.{and-left, and-right, length-upTo, upTo-at}
-use Rattle.grammar.specs.declared.State.the-variants.{Start as opening}
-use Rattle.grammar.specs.Fold.{Reading}
-use Rattle.valence.specs.Valence.{order, implied, delocalized}
+use Rattle.loops.proofs.Loops.{and-left, and-right, length-upTo}
+use Rattle.valence.specs.Valence.{order, implied}
 use Rattle.matching.specs.Enumeration.{matchings}
-use Rattle.matching.specs.Graph.{flagged}
-use Rattle.matching.specs.Graph as graph
+use Rattle.matching.specs.Graph.{noneFlagged}
+use Rattle.matching.proofs.Claims.{one-zero-row}
 use Rattle.matching.specs.Model.{some?}
-use Rattle.graph.specs.Graph.{bondSum, delocalizedAt, delocalizedFlag, delocalizedFlags, flag, bondOf, graphOf, matchable}
-use Rattle.table.specs.Limits.{maxAtoms, maxBonds, atomCells, bondCells, ELEMENT, SELECTED, ISOTOPE, HYDROGENS, CHARGE, EXTENSION}
-use Rattle.table.specs.Cells.{number, atomPlace, atomCell, bondCell, element, selected, hydrogens}
+use Rattle.graph.specs.Graph.{bondSum, delocalizedAt, delocalizedFlag, delocalizedFlags, flag, bondOf, graphOf, matchingOf, matchable}
+use Rattle.table.specs.Limits.{maxAtoms, maxBonds, atomCells, bondCells, ELEMENT, SELECTED, ISOTOPE, HYDROGENS, EXTENSION}
+use Rattle.table.specs.Cells.{number, atomCell, bondCell, element, selected, hydrogens}
 use Rattle.table.specs.Valid.{Valid, selectedOk}
 use Rattle.table.proofs.Valid.{AtomFine, atom-row, range-pos, Enough}
 use Rattle.state.specs.Limits.{maxText, maxDepth, bridges}
 use Rattle.reading.specs.Memory.{Memory}
 use Rattle.reading.specs.Read.{hydrogenated, leftmost, refused, placed, ended, finished, readFrom}
-use Rattle.walk.specs.Token.{Bond, bond, Tok, apart, along, ring, branch, back, Hook, St, st, start, shut}
+use Rattle.walk.specs.Token.{Bond, Tok, apart, along, ring, branch, back, St, st, start}
 use Rattle.walk.specs.Emit.{pre}
-use Rattle.walk.specs.Walk.{forestOf, place, renumber, renumbered, write}
+use Rattle.walk.specs.Walk.{forestOf, place, renumber, renumbered}
 use Rattle.walk.specs.Check.{fine, reading}
 use Rattle.walk.proofs.Count.{count, All, none, more}
 use Rattle.walk.proofs.Trip.{Renumbering, renumbering, completed, Returned, round-trip}
@@ -36,20 +34,20 @@ use Rattle.walk.proofs.Checked.{read-written, length-count}
 use Rattle.walk.proofs.Grammar.{written-grammar}
 use Rattle.walk.proofs.Twice.{count-map}
 use Rattle.walk.proofs.Sums as sums
+use Rattle.renumbered.proofs.Sums.{sum-total}
+use Rattle.renumbered.proofs.Claims.{matchable-renumbered}
 use Rattle.walk.proofs.Made.{Made, written-made}
 use Rattle.walk.proofs.Order.{place-below, atom-place}
-use Rattle.writing.specs.Spell.{unbracketed, atomBytes, tokensBytes}
-use Rattle.writing.specs.Write.{bondAt, bondList, tokens, textOf, fewBridges, shallow}
-use Rattle.roundtrip.proofs.Feed.{Takes}
+use Rattle.writing.specs.Spell.{unbracketed}
+use Rattle.writing.specs.Write.{bondList, tokens, textOf, fewBridges, shallow}
 use Rattle.roundtrip.proofs.Cells.{atomCellsOf, bondCellsOf}
-use Rattle.roundtrip.proofs.Atoms.{rowBy, draftRow, outsideFlag, Bare, bare-of}
-use Rattle.roundtrip.proofs.Held.{nobond, rowOfBond, AtomTable, BondTable}
+use Rattle.roundtrip.proofs.Atoms.{rowBy, draftRow, outsideFlag, bare-of}
+use Rattle.roundtrip.proofs.Held.{nobond, rowOfBond}
 use Rattle.roundtrip.proofs.Simulation.{Sim}
 use Rattle.roundtrip.proofs.Tokens.{Good}
 use Rattle.roundtrip.proofs.Written.{Held, text-read}
-use Rattle.roundtrip.proofs.Bonds.{inside, small-kinds, distinct, many, listed, sum-list}
+use Rattle.roundtrip.proofs.Bonds.{inside, small-kinds, distinct, many, listed}
 use Rattle.roundtrip.proofs.Ending.{none-left, hydrogens-cell, other-cell, rest-cell, hydrogenated-length}
-use Rattle.roundtrip.proofs.Matchable.{graphBond, tests, same-matchable}
 
 -- ---- tokens of valid tables with few bridges
 good-tokens : (n : ℕ) (ts : List Tok) → fewBridges ts ≡ true → All (Made (λ v. v < n) (λ k. k ≤ 3)) ts → All (Good n) ts
@@ -61,14 +59,9 @@ good-tokens n (ring k r ∷ ts) h (more g a) = more {b = ring k r} (g, ltb-true 
 good-tokens n (branch ∷ ts) h (more g a) = more {b = branch} tt (good-tokens n ts h a)
 good-tokens n (back ∷ ts) h (more g a) = more {b = back} tt (good-tokens n ts h a)
 
-map-same : (l : List ℕ) → map (λ a. a) l ≡ l
+pub map-same : (l : List ℕ) → map (λ a. a) l ≡ l
 map-same [] = refl
 map-same (x ∷ l) = ap (λ (k : List ℕ). x ∷ k) (map-same l)
-
-graph-list : (bonds : List ℤ) (k m : ℕ) → upTo (bondOf bonds) k m ≡ map graphBond (upTo (bondAt bonds) k m)
-unfolding upTo
-graph-list bonds k zero = refl
-graph-list bonds k (suc m) = ap (λ (l : List graph.Bond). bondOf bonds k ∷ l) (graph-list bonds (suc k) m)
 
 six : (P : ℕ → Type 0) → P 0 → P 1 → P 2 → P 3 → P 4 → P 5 → (f : ℕ) → f < atomCells → P f
 six P a b c d e g zero l = a
@@ -162,7 +155,7 @@ module _ (atoms bonds : List ℤ) (n m : ℕ) (v : Valid atoms bonds n m) where
   -- bond sums are the same in the table of the completed bonds
   pub sum-same : (U : List ℤ) → bondList U m ≡ completed n bs → (w : ℕ) → w < n → bondSum U m (place walked w) ≡ bondSum bonds m w
   sum-same U e w l =
-      sum-list U m (place walked w) ∙ ap (sums.bondSum order (place walked w)) e ∙ sums.sum-kept n bs (inside v) order w l ∙ sym (sum-list bonds m w)
+      sum-total U m (place walked w) ∙ ap (sums.bondSum order (place walked w)) e ∙ sums.sum-kept n bs (inside v) order w l ∙ sym (sum-total bonds m w)
 
   module _ (A B : List ℤ) (lent : Enough A B) (few : fewBridges (tokens bonds n m) ≡ true) (flat : shallow (tokens bonds n m) ≡ true) where
     rows-fine : (w : ℕ) → w < n → AtomFine atoms w
@@ -246,31 +239,31 @@ module _ (atoms bonds : List ℤ) (n m : ℕ) (v : Valid atoms bonds n m) where
     pub read-back : ReadBack atoms bonds n m A B
     read-back = record { atoms = readAtoms; bonds = readBonds; reads = reads; molecule = molecule }
 
-  -- ---- a matching exists in what is read exactly if one exists in what was written
+  -- ---- what is read is the molecule under its renumbering, so a matching exists in both or in none
   module _ {T U : List ℤ} {p q : ℕ} (M : Molecule atoms bonds n m T U p q) where
-    deloc : (w : ℕ) → w < n → delocalizedAt T U m (place walked w) ≡ delocalizedAt atoms bonds m w
-    deloc w l =
-        let e = ap number (M .cells w ELEMENT l (omega arith)) in
-        let s = ap number (M .cells w SELECTED l (omega arith)) in
-        let h = ap number (M .cells w HYDROGENS l (omega arith)) in
-        let b = sum-same U (M .listed) w l in
-        λ i. delocalized (e i) (s i) (b i) (h i)
-
-    flag-same : (w : ℕ) → w < n → flagged (delocalizedFlags T U n m) (place walked w) ≡ flagged (delocalizedFlags atoms bonds n m) w
-    flag-same w l =
-        ap (λ (x : ℕ). eqb x 1)
-        (upTo-at (delocalizedFlag T U m) n (place walked w) 0 (place-below ren w l) ∙ ap flag (deloc w l) ∙ sym (upTo-at (delocalizedFlag atoms bonds m) n w 0 l))
-
     permuted : Perm (completed n bs) (map (renumber walked) bs)
     unfolding renumbered
     permuted = bonds-permuted n bs (inside v)
 
     pub matchable-same : matchable T U n m ≡ matchable atoms bonds n m
-    unfolding matchable
-    matchable-same =
-        let F = delocalizedFlags T U n m in
-        let G = delocalizedFlags atoms bonds n m in
-        ap (λ (l : List graph.Bond). some? (matchings (graph.isMatching F l) m)) (graph-list U 0 m ∙ ap (map graphBond) (M .listed))
-        ∙ subst (λ (k : ℕ). some? (matchings (tests F (completed n bs)) k) ≡ some? (matchings (tests G bs) k)) as-many
-        (same-matchable ren G F flag-same (length-upTo (delocalizedFlag atoms bonds m) 0 n) (length-upTo (delocalizedFlag T U m) 0 n) bs (completed n bs) (inside v) permuted)
-        ∙ sym (ap (λ (l : List graph.Bond). some? (matchings (graph.isMatching G l) m)) (graph-list bonds 0 m))
+    matchable-same = matchable-renumbered (record {
+      numbers = ren;
+      inside = inside v;
+      permuted = subst (λ (l : List Bond). Perm l (map (renumber walked) bs)) (sym (M .listed)) permuted;
+      elements = λ w l. ap number (M .cells w ELEMENT l (omega arith));
+      selections = λ w l. ap number (M .cells w SELECTED l (omega arith));
+      hydrogen-counts = λ w l. ap number (M .cells w HYDROGENS l (omega arith));
+    })
+
+-- ---- a molecule without a delocalized atom has a matching, the row of zeros
+zero-flags : (f : ℕ → ℕ) (k n : ℕ) → ((j : ℕ) → j < k + n → f j ≡ 0) → noneFlagged (upTo f k n) ≡ true
+unfolding upTo noneFlagged
+zero-flags f k zero h = refl
+zero-flags f k (suc n) h = rw (h k (omega arith)) (zero-flags f (suc k) n (λ j l. h j (omega arith)))
+
+pub localized-matchable : (atoms bonds : List ℤ) (n m : ℕ) → ((a : ℕ) → a < n → delocalizedAt atoms bonds m a ≡ false) → matchable atoms bonds n m ≡ true
+unfolding matchable
+localized-matchable atoms bonds n m h =
+    let F = delocalizedFlags atoms bonds n m in
+    let z = zero-flags (delocalizedFlag atoms bonds m) 0 n (λ j l. ap flag (h j (omega arith))) in
+    subst (λ (k : ℕ). some? (matchings (matchingOf atoms bonds n m) k) ≡ true) (length-upTo (bondOf bonds) 0 m) (ap some? (one-zero-row F (graphOf bonds m) z))

@@ -1,35 +1,29 @@
 -- When writing says 14, 15 or 16: exactly when the walk needs too many bridges, its branches nest too deep, or its text is too long. Assumes nothing.
 use mathlib.Core.Path.{_≡_, refl, sym, ap, _∙_, subst}
-use mathlib.Core.Bool.{Bool, true, false, _&&_, not}
+use mathlib.Core.Bool.{Bool, true, false, _&&_}
 use mathlib.Core.List.{List, [], _∷_, _++_}
-use Prim.Native.Nat.{ℕ, zero, suc, _+_, _-_, _<_, _≤_}
+use Prim.Native.Nat.{ℕ, zero, suc, _-_, _<_, _≤_}
 use native.Mathlib.Omega.{arith}
 use lib.Dec.{eqb, leb, ltb}
-use lib.ListN.{length}
 use lib.IntN.{ℤ}
 use mathlib.Core.Logic.{_⊎_, inl, inr, ⊎-elim}
 use borrow.Author.Tests.{eqb-true, eqb-false, ltb-true, lt-ltb, lt-leb, ltb-false}
-use Rattle.loops.specs.Loop.{pick}
 use Rattle.loops.proofs.Loops.{and-left, and-right}
 use Rattle.table.specs.Limits.{maxAtoms, maxBonds}
 use Rattle.table.specs.Valid.{valid}
 use Rattle.table.proofs.Valid.{facts}
 use Rattle.state.specs.Limits.{maxDepth, bridges}
-use Rattle.walk.specs.Token.{Bond, Tok, apart, along, ring, branch, back}
+use Rattle.walk.specs.Token.{Tok, apart, along, ring, branch, back}
 use Rattle.walk.specs.Emit.{size}
-use Rattle.walk.specs.Walk.{forestOf, relabel, unused, write}
+use Rattle.walk.specs.Walk.{forestOf, relabel, unused}
 use Rattle.walk.specs.Check.{nests}
-use Rattle.walk.proofs.Count.{count, All, none, more, all-map, nobody}
-use Rattle.walk.proofs.Read.{pending}
+use Rattle.walk.proofs.Count.{All, none, more, all-map, nobody}
 use Rattle.walk.proofs.Walk.{Inside}
-use Rattle.walk.proofs.Trip.{size-length, size-relabel, Renumbering, renumbering, inside-unused}
+use Rattle.walk.proofs.Trip.{size-length, size-relabel, renumbering, inside-unused}
 use Rattle.walk.proofs.Bridges.{Low, low-places, places-low}
 use Rattle.writing.specs.Write.{bondList, tokens, fewBridges, shallow}
+use Rattle.roundtrip.specs.Claims.{mostBridges, openAt, depthAfter}
 use Rattle.roundtrip.proofs.Bonds.{inside}
-
--- the numbers 1 to 99: as many bridges may be open at once
-abbrev pub mostBridges : ℕ
-mostBridges = bridges - 1
 
 few-low : (ts : List Tok) → fewBridges ts ≡ true → All (Low mostBridges) ts
 unfolding fewBridges
@@ -48,10 +42,6 @@ low-few (along k w ∷ ts) (more h a) = low-few ts a
 low-few (ring k r ∷ ts) (more h a) = rw (lt-ltb (suc r) bridges (omega arith)) (low-few ts a)
 low-few (branch ∷ ts) (more h a) = low-few ts a
 low-few (back ∷ ts) (more h a) = low-few ts a
-
--- how many bridges are open where the walk comes to its x-th atom: unused bonds that begin before it and do not end before it
-abbrev pub openAt : List ℤ → ℕ → ℕ → ℕ → ℕ
-openAt bonds n m x = count (pending x) (unused n (bondList bonds m))
 
 -- all numbers below a bound are small, or one is not
 over : (f : ℕ → ℕ) (c k : ℕ) → ((x : ℕ) → x < k → f x ≤ c) ⊎ ((x : ℕ) × (c < f x))
@@ -116,15 +106,7 @@ module _ (atoms bonds : List ℤ) (n m : ℕ) (h : valid atoms bonds n m ≡ tru
       go true e = absurd (let k = few-bridges-open e x in omega arith)
       go false e = refl
 
--- ---- 15: how many branches are open after the tokens, d before them
-abbrev pub depthAfter : List Tok → ℕ → ℕ
-depthAfter [] d = d
-depthAfter (apart w ∷ ts) d = depthAfter ts d
-depthAfter (along k w ∷ ts) d = depthAfter ts d
-depthAfter (ring k r ∷ ts) d = depthAfter ts d
-depthAfter (branch ∷ ts) d = depthAfter ts (suc d)
-depthAfter (back ∷ ts) d = depthAfter ts (d - 1)
-
+-- ---- 15
 -- no branch opens inside maxDepth others
 abbrev NoDeeper : List Tok → ℕ → Type 0
 NoDeeper ts d = (a b : List Tok) → ts ≡ a ++ (branch ∷ b) → depthAfter a d < maxDepth

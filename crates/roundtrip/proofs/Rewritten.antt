@@ -1,35 +1,32 @@
 -- The tables that are read are valid, and writing them is accepted with the same bytes. Assumes nothing.
-use mathlib.Core.Path.{_≡_, refl, sym, ap, _∙_, subst}
+use mathlib.Core.Path.{_≡_, refl, sym, ap, _∙_}
 use mathlib.Core.Bool.{Bool, true, false, _&&_, _||_, not}
-use mathlib.Core.List.{List, [], _∷_, _++_, map}
-use Prim.Native.Nat.{ℕ, zero, suc, _+_, _-_, _*_, _<_, _≤_}
+use mathlib.Core.List.{List, [], _∷_, map}
+use Prim.Native.Nat.{ℕ, zero, suc, _<_, _≤_}
 use native.Mathlib.Omega.{arith}
-use lib.Dec.{eqb, leb, ltb}
+use lib.Dec.{eqb, ltb}
 use lib.ListN.{length, getD}
 use lib.IntN.{ℤ, pos, negsuc}
 use borrow.Author.Tests.{eqb-true, eq-eqb, le-leb}
-use Rattle.loops.specs.Loop.{pick, each, upTo}
-use Rattle.loops.proofs.Loops.{and-left, and-right, each-at}
-use Rattle.table.specs.Limits.{maxAtoms, maxBonds, atomCells, bondCells, ELEMENT, SELECTED, ISOTOPE, HYDROGENS, CHARGE, EXTENSION, FIRST, SECOND, KIND}
-use Rattle.table.specs.Cells.{number, inRange, atomCell, bondCell, end1, end2}
-use Rattle.table.specs.Valid.{selectable, selectedOk, sameEnds, fresh, atomOk, bondOk, Valid, enough}
+use Rattle.loops.proofs.Loops.{and-left, and-right, each-at, each-all}
+use Rattle.table.specs.Limits.{maxAtoms, maxBonds, ELEMENT, SELECTED, ISOTOPE, HYDROGENS, CHARGE, EXTENSION, FIRST, SECOND, KIND}
+use Rattle.table.specs.Cells.{number, inRange, atomCell, end1, end2}
+use Rattle.table.specs.Valid.{selectable, selectedOk, sameEnds, fresh, atomOk, bondOk, Valid}
 use Rattle.table.specs.Valid as spec
-use Rattle.table.proofs.Valid.{range-of, BondFine, bond-fine-back}
+use Rattle.table.proofs.Valid.{range-of, bond-fine-back}
 use Rattle.state.specs.Limits.{maxDepth}
 use Rattle.walk.specs.Token.{Bond, Tok, apart, along, ring, branch, back}
 use Rattle.walk.specs.Emit.{pre}
 use Rattle.walk.specs.Walk.{forestOf, renumber, renumbered}
 use Rattle.walk.specs.Check.{ends, nests}
-use Rattle.walk.proofs.Count.{bit, count, All, none, more}
-use Rattle.walk.proofs.Trip.{completed, Returned, round-trip, Renumbering}
+use Rattle.walk.proofs.Count.{bit, count, all-at}
+use Rattle.walk.proofs.Trip.{completed, round-trip}
 use Rattle.walk.proofs.Twice.{Distinct, completed-inside, distinct-map}
 use Rattle.walk.proofs.Natural.{onTok}
 use Rattle.walk.proofs.Made.{completed-made}
 use Rattle.walk.proofs.Order.{atom-below}
-use Rattle.writing.specs.Write.{bondList, tokens, textOf, renumbering, fewBridges, shallow}
-use Rattle.roundtrip.proofs.Cells.{bondCellsOf}
-use Rattle.roundtrip.proofs.Held.{nobond, rowOfBond}
-use Rattle.roundtrip.proofs.Simulation.{each-all}
+use Rattle.writing.specs.Write.{bondList, tokens, fewBridges, shallow}
+use Rattle.roundtrip.proofs.Held.{nobond}
 use Rattle.roundtrip.proofs.Bonds.{inside, small-kinds, distinct}
 use Rattle.roundtrip.proofs.Back.{Molecule, ren, as-many}
 use Rattle.roundtrip.proofs.Again.{cell-here, walkAtom, tokens-again}
@@ -55,11 +52,6 @@ count-two p [] i j k h g f = absurd (omega arith)
 count-two p (b ∷ l) i zero k h g f = absurd (omega arith)
 count-two p (b ∷ l) zero (suc j) k h g f = let e = ap bit g in let r = count-one p l j (omega arith) f in omega arith
 count-two p (b ∷ l) (suc i) (suc j) k h g f = let r = count-two p l i j (omega arith) (omega arith) g f in omega arith
-
-all-at : (P : Bond → Type 0) (bs : List Bond) (i : ℕ) → All P bs → i < length bs → P (getD bs i nobond)
-all-at P [] i none l = absurd (omega arith)
-all-at P (b ∷ bs) zero (more h a) l = h
-all-at P (b ∷ bs) (suc i) (more h a) l = all-at P bs i a (omega arith)
 
 -- other numbers of the atoms change neither bridges nor branches
 few-map : (g : ℕ → ℕ) (ts : List Tok) → fewBridges (map (onTok g) ts) ≡ fewBridges ts
@@ -112,8 +104,8 @@ module _ (atoms bonds : List ℤ) (n m : ℕ) (v : Valid atoms bonds n m) {T U :
   bond-ok : (b : ℕ) → b < m → bondOk U n b ≡ true
   bond-ok b l =
       let x = getD C b nobond in
-      let h = all-at (λ b. (b .lo < b .hi) × (b .hi < n)) C b (completed-inside n (bondList bonds m) (inside v)) (in-list b l) in
-      let k = all-at (λ b. b .kind ≤ 3) C b (completed-made (λ w. Unit {0}) (λ k. k ≤ 3) (omega arith) n (bondList bonds m) (inside v) (small-kinds v)) (in-list b l) in
+      let h = all-at (λ b. (b .lo < b .hi) × (b .hi < n)) nobond C b (completed-inside n (bondList bonds m) (inside v)) (in-list b l) in
+      let k = all-at (λ b. b .kind ≤ 3) nobond C b (completed-made (λ w. Unit {0}) (λ k. k ≤ 3) (omega arith) n (bondList bonds m) (inside v) (small-kinds v)) (in-list b l) in
       let e = first-is b l in
       let f = second-is b l in
       bond-fine-back {t = U} {n = n} {b = b} (record {
@@ -155,9 +147,9 @@ module _ (atoms bonds : List ℤ) (n m : ℕ) (v : Valid atoms bonds n m) {T U :
   valid-again = record {
     few-atoms = v .few-atoms;
     few-bonds = v .few-bonds;
-    atom-rows = each-all (atomOk T) 0 n (λ a k l. row-ok a (omega arith));
-    bond-rows = each-all (bondOk U n) 0 m (λ b k l. bond-ok b (omega arith));
-    apart = each-all (fresh U) 0 m (λ i k l. each-all (λ j. not (sameEnds U i j)) 0 i (λ j a b. ap not (apart-read i j (omega arith) (omega arith))));
+    atom-rows = each-all (atomOk T) n row-ok;
+    bond-rows = each-all (bondOk U n) m bond-ok;
+    apart = each-all (fresh U) m (λ i k. each-all (λ j. not (sameEnds U i j)) i (λ j l. ap not (apart-read i j k l)));
   }
 
   -- and need no more bridges and branches

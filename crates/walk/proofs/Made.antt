@@ -1,17 +1,17 @@
 -- What holds of every atom's payload and of every bond's kind holds in every written token. Assumes nothing.
-use mathlib.Core.Path.{_≡_, refl, sym, ap, _∙_, subst}
+use mathlib.Core.Path.{_≡_, ap}
 use mathlib.Core.Bool.{Bool, true, false, cond}
 use mathlib.Core.List.{List, [], _∷_, _++_, map}
 use Prim.Native.Nat.{ℕ, zero, suc, _+_, _≤_, _<_}
 use native.Mathlib.Omega.{arith}
 use lib.Dec.{eqb, ltb}
-use Rattle.walk.specs.Token.{Bond, bond, eqBond, joined, Tok, apart, along, ring, branch, back}
-use Rattle.walk.specs.Emit.{Forest, leaf, node, size, pre, Slot, lowest, insert, find, release, closeAll, closeToks, openAll, openToks, wrap, rings, ringToks, after, toks, text, tree, trees}
+use Rattle.walk.specs.Token.{Bond, bond, eqBond, Tok, apart, along, ring, branch, back}
+use Rattle.walk.specs.Emit.{Forest, leaf, node, size, pre, Slot, lowest, insert, find, release, closeAll, closeToks, openToks, wrap, rings, ringToks, after, toks, text, tree, trees}
 use Rattle.walk.specs.Walk.{forestOf, place, renumber, keep, sweep, closing, opening, relabel, renumbered, unused, removeAll, write}
 use Rattle.walk.specs.Flat.{kinds}
 use Rattle.walk.proofs.Count.{bit, count, bond-same, All, none, more, all-map, all-append}
 use Rattle.walk.proofs.Walk.{Inside}
-use Rattle.walk.proofs.Trip.{all-has, all-keep, all-removeAll, Renumbering, renumbering, within, completed, Returned, round-trip}
+use Rattle.walk.proofs.Trip.{all-has, all-keep, all-removeAll, renumbering, within, completed, round-trip}
 use Rattle.walk.proofs.Bridges.{all-left, all-right}
 
 -- P of the payload and Q of the kind

@@ -1,17 +1,17 @@
 -- What is summed over the bonds at an atom (its bond sum) is the same after the round trip. Assumes nothing.
-use mathlib.Core.Path.{_≡_, refl, sym, ap, _∙_, subst}
-use mathlib.Core.Bool.{Bool, true, false, _&&_, _||_, cond}
-use mathlib.Core.List.{List, [], _∷_, _++_, map}
-use Prim.Native.Nat.{ℕ, zero, suc, _+_, _≤_, _<_}
+use mathlib.Core.Path.{_≡_, refl, ap, _∙_}
+use mathlib.Core.Bool.{Bool, true, false, _||_, cond}
+use mathlib.Core.List.{List, [], _∷_, map}
+use Prim.Native.Nat.{ℕ, _+_, _<_}
 use native.Mathlib.Omega.{arith}
 use lib.Dec.{eqb, ltb}
 use borrow.Author.Tests.{eq-eqb, ne-eqb, eqb-true, eqb-false}
-use Rattle.walk.specs.Token.{Bond, bond, joined}
-use Rattle.walk.specs.Emit.{Forest, pre}
+use Rattle.walk.specs.Token.{Bond, bond}
+use Rattle.walk.specs.Emit.{pre}
 use Rattle.walk.specs.Walk.{forestOf, place, renumber, renumbered}
-use Rattle.walk.proofs.Count.{All, none, more}
+use Rattle.walk.proofs.Count.{none, more}
 use Rattle.walk.proofs.Walk.{times, Inside}
-use Rattle.walk.proofs.Trip.{place-inj, Renumbering, renumbering, completed}
+use Rattle.walk.proofs.Trip.{place-inj, renumbering, completed}
 use Rattle.walk.proofs.Perm.{Perm, nil, cons, swap, trans, bonds-permuted}
 
 abbrev pub total : (Bond → ℕ) → List Bond → ℕ
