@@ -2,7 +2,7 @@
 use mathlib.Core.Path.{_≡_, refl, sym, ap, _∙_}
 use mathlib.Core.Bool.{Bool, true, false, _&&_, not}
 use mathlib.Core.List.{List, [], _∷_}
-use Prim.Native.Nat.{ℕ, zero, suc, _+_, _≤_, _<_}
+use Prim.Native.Nat.{ℕ, zero, suc, _+_, _-_, _≤_, _<_}
 use native.Mathlib.Omega.{arith}
 use native.Mathlib.Nat.{zero-add}
 use native.Mathlib.Numerals.{add-one}
@@ -18,11 +18,11 @@ use Rattle.matching.specs.Cut.{cnt, odd?, odds, flips, marks}
 abbrev has : List ℕ → List ℕ → ℕ → ℕ → Bool
 has need lab v i = eqb (getD need v 0) 1 && eqb (getD lab v 0) i
 
-pub bit-le : (b : Bool) → countIf b 0 ≤ 1
+bit-le : (b : Bool) → countIf b 0 ≤ 1
 bit-le true = omega arith
 bit-le false = omega arith
 
-pub count-add : (b : Bool) (n : ℕ) → countIf b n ≡ countIf b 0 + n
+count-add : (b : Bool) (n : ℕ) → countIf b n ≡ countIf b 0 + n
 count-add true n = omega arith
 count-add false n = sym (zero-add n)
 
@@ -129,23 +129,39 @@ unfolding marks odds
 marks-odds need lab odd zero h = refl
 marks-odds need lab odd (suc n) h = rw (h (suc n) (omega arith), marks-odds need lab odd n (λ i l. h i (omega arith)))
 
-pub marked-odds : {need lab : List ℕ} {odd : List Bool} (m n : ℕ) → length need ≤ length lab → n < m → odd ≡ run (flips need lab) 0 (length need) (replicate m false) → marks odd n ≡ odds need lab n
-marked-odds {need} {lab} {odd} m n l h e = marks-odds need lab odd n (λ i k. rw e (parities need lab m i l (omega arith)))
+length-run : (need lab : List ℕ) (v m : ℕ) (odd : List Bool) → length (run (flips need lab) v m odd) ≡ length odd
+unfolding run
+length-run need lab v zero odd = refl
+length-run need lab v (suc m) odd = length-run need lab (suc v) m (flips need lab v odd) ∙ length-flips need lab v odd
+
+-- from no marks, m of them
+pub marked-odds : (need lab : List ℕ) {odd : List Bool} (m : ℕ) → length need ≤ length lab → 0 < m → odd ≡ run (flips need lab) 0 (length need) (replicate m false)
+    → marks odd (length odd - 1) ≡ odds need lab (m - 1)
+marked-odds need lab {odd} m l h e =
+    let n : length odd ≡ m = ap length e ∙ length-run need lab 0 (length need) (replicate m false) ∙ length-replicate m false in
+    rw n (marks-odds need lab odd (m - 1) (λ i k. rw e (parities need lab m i l (omega arith))))
 
 -- a count of the marks stands at i
 pub record Marking (odd : List Bool) (i n : ℕ) : Type 0 where
-  pub small : n ≤ i
-  pub same : n ≡ marks odd i
+  pub begun : 1 ≤ i
+  pub upto : i - 1 ≤ length odd - 1
+  pub small : n < i
+  pub same : n ≡ marks odd (i - 1)
 
-pub mark-start : {odd : List Bool} → Marking odd 0 0
+pub mark-start : {odd : List Bool} → Marking odd 1 0
 unfolding marks
-mark-start = record { small = omega arith; same = refl }
+mark-start = record { begun = omega arith; upto = omega arith; small = omega arith; same = refl }
 
-pub mark-step : {odd : List Bool} {i n x : ℕ} → Marking odd i n → x ≡ countIf (getD odd (i + 1) false) 0 → Marking odd (i + 1) (n + x)
+pub mark-step : {odd : List Bool} {i n x : ℕ} → Marking odd i n → i < length odd → x ≡ countIf (getD odd i false) 0 → Marking odd (i + 1) (n + x)
 unfolding marks
-mark-step {odd} {i} {n} {x} m e =
-    let b = bit-le (getD odd (i + 1) false) in
-    let s : marks odd (i + 1) ≡ countIf (getD odd (i + 1) false) (marks odd i) = rw (add-one i) in
-    let a = count-add (getD odd (i + 1) false) (marks odd i) in
+mark-step {odd} {i} {n} {x} m h e =
+    let b = bit-le (getD odd i false) in
+    let d : i ≡ suc (i - 1) = omega arith in
+    let f : (i + 1) - 1 ≡ i = omega arith in
+    let s : marks odd ((i + 1) - 1) ≡ countIf (getD odd i false) (marks odd (i - 1)) = rw f (ap (marks odd) d ∙ ap (λ (k : ℕ). countIf (getD odd k false) (marks odd (i - 1))) (sym d)) in
+    let a = count-add (getD odd i false) (marks odd (i - 1)) in
     let q = m .same in
-    record { small = omega arith; same = omega arith }
+    record { begun = omega arith; upto = omega arith; small = omega arith; same = omega arith }
+
+pub mark-end : {odd : List Bool} {i n : ℕ} → Marking odd i n → length odd ≤ i → n ≡ marks odd (length odd - 1)
+mark-end {odd} {i} m h = let e : i - 1 ≡ length odd - 1 = omega (arith, m .upto) in m .same ∙ ap (marks odd) e

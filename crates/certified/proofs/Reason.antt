@@ -4,10 +4,10 @@ use mathlib.Core.Bool.{Bool, true, false, _&&_, _||_, not}
 use mathlib.Core.List.{List, [], _++_}
 use Prim.Native.Nat.{ℕ, _+_, _-_, _≤_, _<_}
 use native.Mathlib.Omega.{arith}
-use lib.ListN.{length, take, drop, getD, replicate}
+use lib.ListN.{length, take, drop, replicate}
 use Rattle.loops.specs.Loop.{run}
 use Rattle.matching.specs.Model.{Shape, Tables, Ends, Searched, allFrom, bondsFrom, bondAt, freeAt, written, some?}
-use Rattle.matching.specs.Cut.{cnt, odds, fine, allFine, flips, marks}
+use Rattle.matching.specs.Cut.{cnt, fine, allFine, flips, marks}
 use Rattle.matching.proofs.Cut.{cut-matchings}
 use Rattle.search.proofs.Choice.{bonds-step, bonds-end}
 use Rattle.certified.proofs.Count.{marked-odds}
@@ -15,8 +15,8 @@ use Rattle.certified.proofs.Count.{marked-odds}
 pub passed : {f r fr fi : Bool} → f ≡ fr → f ≡ true → r ≡ fi → r ≡ (not fr || fi)
 passed e t k = k ∙ rw (← e, t)
 
-pub unfree : {f fr : Bool} {fi : Bool} → f ≡ fr → f ≡ false → true ≡ (not fr || fi)
-unfree e t = rw (← e, t)
+pub unfree : {f fr : Bool} (fi : Bool) → f ≡ fr → f ≡ false → true ≡ (not fr || fi)
+unfree fi e t = rw (← e, t)
 
 pub ends-at : {ea eb el need : List ℕ} {k j : ℕ} → Tables ea eb el need k → j < length ea → Ends ea eb need j
 ends-at t h = record { first = h; second = omega (arith, t .second); end1 = t .ends1 _ h; end2 = t .ends2 _ h }
@@ -45,12 +45,12 @@ module _ {ea eb el need lab : List ℕ} {k j : ℕ} (t : Tables ea eb el need k)
   fine-end h = sym (p .same ∙ rw (bonds-end ea eb el j h))
 
 -- more odd labels than atoms in the cut
-pub cut-all : {ea eb el need lab : List ℕ} {odd : List Bool} {k s o : ℕ} {f : Bool} (m n : ℕ) → Tables ea eb el need k → length need ≤ length lab → n < m
+pub cut-all : {ea eb el need : List ℕ} (lab : List ℕ) {odd : List Bool} {k s o : ℕ} {f : Bool} (m : ℕ) → Tables ea eb el need k → length need ≤ length lab → 0 < m
     → f ≡ allFine need lab (bondsFrom ea eb el k) → f ≡ true → odd ≡ run (flips need lab) 0 (length need) (replicate m false)
-    → s ≡ cnt need lab 0 → o ≡ marks odd n → s < o → allFrom ea eb el need k ≡ []
-cut-all {ea} {eb} {el} {need} {lab} {k = k} m n t l h a y e c d b =
-    let q = marked-odds m n l h e in
-    cut-matchings (bondsFrom ea eb el k) need lab n (length ea - k) l (sym a ∙ y) (omega arith)
+    → s ≡ cnt need lab 0 → o ≡ marks odd (length odd - 1) → s < o → allFrom ea eb el need k ≡ []
+cut-all {ea} {eb} {el} {need} lab {k = k} m t l h a y e c d b =
+    let q = marked-odds need lab m l h e in
+    cut-matchings (bondsFrom ea eb el k) need lab (m - 1) (length ea - k) l (sym a ∙ y) (omega arith)
 
 pub tables : {ea eb el need row : List ℕ} {k : ℕ} → Shape ea eb el need row k → Tables ea eb el need k
 tables s = record { second = s .second; third = s .third; upto = s .upto; ends1 = s .ends1; ends2 = s .ends2 }

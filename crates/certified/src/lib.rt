@@ -19,8 +19,8 @@ ghost use Rattle.matching.specs.Model.{Shape, Tables, Searched, Ends, allFrom, 
 ghost use Rattle.matching.specs.Cut.{cnt, odds, fine, allFine, flips, marks};
 
 // 1 for an atom v without a partner in the cut, else 0.
-fn in_cut(need: &[u8], lab: &[usize; MAX_ATOMS], v: AtomId) -> usize
-    requires { ⌜ (v .0 < length (now need)) × (v .0 < maxAtoms) ⌝ }
+fn in_cut(need: &[u8], lab: &[usize], v: AtomId) -> usize
+    requires { ⌜ (v .0 < length (now need)) × (v .0 < length (now lab)) ⌝ }
     ensures { λ r. ⌜ r ≡ countIf (eqb (getD (now (need .entry)) (v .0) 0) 1 && eqb (getD (now (lab .entry)) (v .0) 0) 0) 0 ⌝ }
 {
     let at = v.0;
@@ -34,36 +34,37 @@ fn in_cut(need: &[u8], lab: &[usize; MAX_ATOMS], v: AtomId) -> usize
 }
 
 // How many atoms without a partner are in the cut.
-fn cut_size(need: &[u8], lab: &[usize; MAX_ATOMS]) -> usize
-    requires { ⌜ length (now need) ≤ maxAtoms ⌝ }
+fn cut_size(need: &[u8], lab: &[usize]) -> usize
+    requires { ⌜ length (now need) ≤ length (now lab) ⌝ }
     ensures { λ r. ⌜ r ≡ cnt (now (need .entry)) (now (lab .entry)) 0 ⌝ }
 {
     let mut n: usize = 0;
     let mut v: usize = 0;
     while v < need.len() {
-        n = n + in_cut(need, lab, AtomId(v));
+        let x = in_cut(need, lab, AtomId(v));
+        n = n + x;
         v += 1;
     }
     n
 }
 
 // Notes the atom v at its label: odd numbers of atoms are marked.
-fn flip(need: &[u8], lab: &[usize; MAX_ATOMS], odd: &mut [bool; LABELS], v: AtomId)
-    requires { ⌜ (v .0 < length (now need)) × (v .0 < maxAtoms) ⌝ }
+fn flip(need: &[u8], lab: &[usize], odd: &mut [bool], v: AtomId)
+    requires { ⌜ (v .0 < length (now need)) × (v .0 < length (now lab)) ⌝ }
     ensures { λ _. ⌜ now (odd .exit) ≡ flips (now (need .entry)) (now (lab .entry)) (v .0) (now (odd .entry)) ⌝ }
 {
     let at = v.0;
     if need[at] == 1 {
         let l = lab[at];
-        if l < LABELS {
+        if l < odd.len() {
             odd[l] = !odd[l];
         }
     }
 }
 
 // Marks the labels with an odd number of atoms without a partner.
-fn parities(need: &[u8], lab: &[usize; MAX_ATOMS], odd: &mut [bool; LABELS])
-    requires { ⌜ length (now need) ≤ maxAtoms ⌝ }
+fn parities(need: &[u8], lab: &[usize], odd: &mut [bool])
+    requires { ⌜ length (now need) ≤ length (now lab) ⌝ }
     ensures { λ _. ⌜ now (odd .exit) ≡ run (flips (now (need .entry)) (now (lab .entry))) 0 (length (now (need .entry))) (now (odd .entry)) ⌝ }
 {
     let mut v: usize = 0;
@@ -80,42 +81,37 @@ fn one(b: bool) -> usize
 }
 
 // How many of the labels other than 0 are marked.
-fn odd_labels(odd: &[bool; LABELS]) -> usize
-    ensures { λ r. ⌜ r ≡ marks (now (odd .entry)) (maxAtoms + 1) ⌝ }
+fn odd_labels(odd: &[bool]) -> usize
+    ensures { λ r. ⌜ r ≡ marks (now (odd .entry)) (length (now (odd .entry)) - 1) ⌝ }
 {
     let mut n: usize = 0;
-    let mut i: usize = 0;
-    while i < OUTSIDE {
+    let mut i: usize = 1;
+    while i < odd.len() {
+        let x = one(odd[i]);
+        n = n + x;
         i += 1;
-        n = n + one(odd[i]);
     }
     n
 }
 
 // The bond k has an end in the cut, or joins two atoms of one label.
-fn is_fine(ea: &[u16], eb: &[u16], lab: &[usize; MAX_ATOMS], k: BondId) -> bool
+fn is_fine(ea: &[u16], eb: &[u16], lab: &[usize], k: BondId) -> bool
     requires { ⌜ Ends (now ea) (now eb) (now lab) (k .0) ⌝ }
     ensures { λ r. ⌜ r ≡ fine (now (lab .entry)) (bondAt (now (ea .entry)) (now (eb .entry)) [] (k .0)) ⌝ }
 {
-    let at = k.0;
-    let a = ea[at] as usize;
-    let b = eb[at] as usize;
+    let first = search::end_of(ea, k);
+    let second = search::end_of(eb, k);
+    let a = first.0;
+    let b = second.0;
     let la = lab[a];
     let lb = lab[b];
-    la == 0 || lb == 0 || (la == lb && a != b)
+    (la == 0) | (lb == 0) | ((la == lb) & (a != b))
 }
 
 // The bond k is fine, or cannot be chosen.
-fn passes(
-    ea: &[u16],
-    eb: &[u16],
-    el: &[u8],
-    need: &[u8],
-    lab: &[usize; MAX_ATOMS],
-    k: BondId,
-) -> bool
+fn passes(ea: &[u16], eb: &[u16], el: &[u8], need: &[u8], lab: &[usize], k: BondId) -> bool
     requires { ⌜ Ends (now ea) (now eb) (now need) (k .0) ⌝ }
-    requires { ⌜ (k .0 < length (now el)) × (length (now need) ≤ maxAtoms) ⌝ }
+    requires { ⌜ (k .0 < length (now el)) × (length (now need) ≤ length (now lab)) ⌝ }
     ensures { λ r. ⌜ r ≡ (not (freeAt (now (ea .entry)) (now (eb .entry)) (now (el .entry)) (now (need .entry)) (k .0)) || fine (now (lab .entry)) (bondAt (now (ea .entry)) (now (eb .entry)) (now (el .entry)) (k .0))) ⌝ }
 {
     if search::choosable(ea, eb, el, need, k) {
@@ -125,16 +121,9 @@ fn passes(
 }
 
 // All bonds from k on pass.
-fn all_fine(
-    ea: &[u16],
-    eb: &[u16],
-    el: &[u8],
-    need: &[u8],
-    lab: &[usize; MAX_ATOMS],
-    k: BondId,
-) -> bool
+fn all_fine(ea: &[u16], eb: &[u16], el: &[u8], need: &[u8], lab: &[usize], k: BondId) -> bool
     requires { ⌜ Tables (now ea) (now eb) (now el) (now need) (k .0) ⌝ }
-    requires { ⌜ length (now need) ≤ maxAtoms ⌝ }
+    requires { ⌜ length (now need) ≤ length (now lab) ⌝ }
     ensures { λ r. ⌜ r ≡ allFine (now (need .entry)) (now (lab .entry)) (bondsFrom (now (ea .entry)) (now (eb .entry)) (now (el .entry)) (k .0)) ⌝ }
 {
     let mut j = k.0;
@@ -148,7 +137,25 @@ fn all_fine(
 }
 
 // The labels show that the bonds from k on have no matching.
-fn barred(
+fn barred(ea: &[u16], eb: &[u16], el: &[u8], need: &[u8], lab: &[usize], k: BondId) -> bool
+    requires { ⌜ Tables (now ea) (now eb) (now el) (now need) (k .0) ⌝ }
+    ensures { λ r. ⌜ (r ≡ true → allFrom (now (ea .entry)) (now (eb .entry)) (now (el .entry)) (now (need .entry)) (k .0) ≡ []) ⌝ }
+{
+    if lab.len() < need.len() {
+        return false;
+    }
+    if !all_fine(ea, eb, el, need, lab, k) {
+        return false;
+    }
+    let mut odd = [false; LABELS];
+    parities(need, lab, &mut odd);
+    let inside = cut_size(need, lab);
+    let odds = odd_labels(&odd);
+    inside < odds
+}
+
+// The same of labels in an array.
+fn barred_by(
     ea: &[u16],
     eb: &[u16],
     el: &[u8],
@@ -159,15 +166,7 @@ fn barred(
     requires { ⌜ Tables (now ea) (now eb) (now el) (now need) (k .0) ⌝ }
     ensures { λ r. ⌜ (r ≡ true → allFrom (now (ea .entry)) (now (eb .entry)) (now (el .entry)) (now (need .entry)) (k .0) ≡ []) ⌝ }
 {
-    if MAX_ATOMS < need.len() {
-        return false;
-    }
-    if !all_fine(ea, eb, el, need, lab, k) {
-        return false;
-    }
-    let mut odd = [false; LABELS];
-    parities(need, lab, &mut odd);
-    cut_size(need, lab) < odd_labels(&odd)
+    barred(ea, eb, el, need, lab, k)
 }
 
 // The bonds from k on have no matching, for a reason that was found and checked.
@@ -184,7 +183,7 @@ fn hopeless(
 {
     let mut lab = [OUTSIDE; MAX_ATOMS];
     if blossom::propose(ea, eb, el, need, k, mate, &mut lab) {
-        return barred(ea, eb, el, need, &lab, k);
+        return barred_by(ea, eb, el, need, &lab, k);
     }
     false
 }

@@ -1,7 +1,7 @@
 -- 01, Hydrogens and kept atoms: the calls on tables, refusals in the order of 01. A placement is a matching, settling is kekulizing.
 use Prim.Native.Nat.{ℕ, zero, suc, _≤_}
 use mathlib.Core.List.{List}
-use mathlib.Core.Bool.{Bool, _&&_}
+use mathlib.Core.Bool.{Bool, _&&_, false, true}
 use lib.ListN.{length, take, replicate}
 use lib.IntN.{ℤ}
 use lib.Dec.{leb}
@@ -36,6 +36,12 @@ abbrev pub foundCode : Found → ℕ
 foundCode Given = 0
 foundCode End = 255
 foundCode (Refused r) = codeOf r
+
+-- the answer is a matching
+abbrev pub isGiven : Found → Bool
+isGiven Given = true
+isGiven End = false
+isGiven (Refused r) = false
 
 -- a byte as one of the two calls
 abbrev pub callOf : ℕ → Call

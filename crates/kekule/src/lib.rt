@@ -5,8 +5,8 @@ ghost use lib.ListN.{length};
 ghost use Rattle.table.specs.Valid.{Valid};
 ghost use Rattle.matching.specs.Enumeration.{rowCall};
 ghost use Rattle.matching.specs.Model.{reply};
-ghost use Rattle.graph.specs.Graph.{matchingOf};
-ghost use Rattle.kekule.specs.Kekule.{foundOf, foundCode, callOf, out, outOf, roomy, callOn, isMatchingOf, askedOf, tables, kekulized, kekulizedOf, Counted};
+ghost use Rattle.graph.specs.Graph.{matchingOf, matchable};
+ghost use Rattle.kekule.specs.Kekule.{foundOf, foundCode, isGiven, callOf, out, outOf, roomy, callOn, isMatchingOf, askedOf, tables, kekulized, kekulizedOf, Counted};
 ghost use Rattle.kekule.specs.Calls.{state, ranOf, replayed, replayedOf};
 use ids::BondId;
 use matching::Answer;
@@ -102,6 +102,26 @@ pub fn call_valid(
     ensures { λ r. ⌜ out r (now (row .exit)) ≡ outOf (rowCall (matchingOf (now (atoms .entry)) (now (bonds .entry)) n m) m c (now (row .entry))) ⌝ }
 {
     found_of(ask(c, atoms, bonds, n, m, row))
+}
+
+// Whether an answer is a matching.
+fn is_given(f: Found) -> bool
+    ensures { λ r. ⌜ r ≡ isGiven f ⌝ }
+{
+    match f {
+        Found::Given => true,
+        Found::End => false,
+        Found::Refused(_) => false,
+    }
+}
+
+// internal: whether valid tables have a matching.
+pub fn matchable(atoms: &[i32], bonds: &[i32], n: usize, m: usize) -> bool
+    requires { ⌜ Valid (now atoms) (now bonds) n m ⌝ }
+    ensures { λ r. ⌜ r ≡ matchable (now (atoms .entry)) (now (bonds .entry)) n m ⌝ }
+{
+    let mut row = [0u8; MAX_BONDS];
+    is_given(call_valid(Call::First, atoms, bonds, n, m, &mut row))
 }
 
 // One of the two calls: refusals 1 and 13, then the search.

@@ -1,5 +1,5 @@
 -- Bytes laid into a buffer from a place on: those past its end are only counted, as one too many
-use Prim.Native.Nat.{ℕ, zero, suc}
+use Prim.Native.Nat.{ℕ, suc}
 use mathlib.Core.List.{List, [], _∷_}
 use mathlib.Core.Path.{_≡_}
 use lib.ListN.{length, set}

@@ -15,7 +15,6 @@ use Rattle.grammar.specs.declared.Mode.the-variants.{Seq as seq, LetterA as let
 use Rattle.grammar.specs.declared.Out.{Out}
 use Rattle.grammar.specs.declared.State.the-variants.{Start as start, At as at}
 use Rattle.grammar.specs.Machine.{turn}
-use Rattle.grammar.specs.Fold.{keeps, refuses}
 use Rattle.grammar.proofs.Ends.{never}
 use Rattle.table.specs.declared.Atom.{Atom}
 use Rattle.table.specs.Limits.{maxAtoms, maxBonds}
@@ -24,6 +23,7 @@ use Rattle.table.specs.Rows.{withBond}
 use Rattle.state.specs.declared.Fields.{Fields}
 use Rattle.reading.specs.Memory.{Memory, kindOf, afterDot, bareRow, bondRow, bonded, begun, described, drafted}
 use Rattle.reading.specs.Act.{firstByte, atomAct}
+use Rattle.reading.proofs.Cases.{by-test}
 use Rattle.reading.proofs.Sane.{Tables, Steering, HalfRead, Sane, SaneAct}
 use Rattle.reading.proofs.Rows.{rowOk}
 use Rattle.reading.proofs.Tables.{atom-added, atom-described, bond-added}
@@ -99,14 +99,11 @@ first-byte Begins.opening h a b = sane-of bracket (begun-held 0 h a b) (blank-ra
 
 pub atom-act : {p q d i : ℕ} {μ : Memory} (b : ℕ) {o : Out} → Begins (letterOf b) o → Ready p q d i μ → SaneAct p q (turn o d) (suc i) (atomAct b i μ)
 unfolding atomAct
-atom-act {p} {q} {d} {i} {μ} b {o} w h = split (leb maxAtoms (μ .st .atoms)) (bonded μ && leb maxBonds (μ .st .bonds)) refl refl
+atom-act {p} {q} {d} {i} {μ} b {o} w h =
+    by-test (SaneAct p q (turn o d) (suc i)) _ _ _ (λ e. tt) (λ e.
+    by-test (SaneAct p q (turn o d) (suc i)) _ _ _ (λ f. tt) (λ f.
+    first-byte w h (leb-false maxAtoms (μ .st .atoms) e) (λ t. leb-false maxBonds (μ .st .bonds) (room (bonded μ) (leb maxBonds (μ .st .bonds)) f t))))
   where
     room : (t u : Bool) → (t && u) ≡ false → t ≡ true → u ≡ false
     room true u e f = e
     room false u e f = never f
-
-    split : (u v : Bool) → leb maxAtoms (μ .st .atoms) ≡ u → (bonded μ && leb maxBonds (μ .st .bonds)) ≡ v
-        → SaneAct p q (turn o d) (suc i) (pick u (refuses 4 i) (pick v (refuses 5 i) (keeps (firstByte (letterOf b) μ))))
-    split true v e f = tt
-    split false true e f = tt
-    split false false e f = first-byte w h (leb-false maxAtoms (μ .st .atoms) e) (λ t. leb-false maxBonds (μ .st .bonds) (room (bonded μ) (leb maxBonds (μ .st .bonds)) f t))

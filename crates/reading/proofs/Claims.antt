@@ -36,9 +36,13 @@ use Rattle.reading.proofs.Refusals.{Why, why, act-code, code-of, never-
 use Rattle.reading.proofs.Leftmost.{LeftmostOpening, closed-none, leftmost-open, none-open}
 use Rattle.reading.proofs.Outcome.{bytesRead, Fits, atomsOf, accepted, Outcome, outcome}
 
+-- the hydrogens that an atom outside brackets gets: by its element, its selection and its bonds
+abbrev pub impliedAt : Told → ℕ → ℤ
+impliedAt t a = pos (implied (element (t .atoms) a) (selected (t .atoms) a) (bondSum (t .bonds) (t .bondCount) a))
+
 -- the row of the atom a of an accepted text, given what stood in the table after its last byte
 pub record Given (μ : Memory) (t : Told) (a : ℕ) : Type 0 where
-  pub outside : getD (μ .st .outside) a 0 ≡ 1 → atomRow (t .atoms) a ≡ withHydrogens (atomRow (μ .atoms) a) (pos (implied (element (t .atoms) a) (selected (t .atoms) a) (bondSum (t .bonds) (t .bondCount) a)))
+  pub outside : getD (μ .st .outside) a 0 ≡ 1 → atomRow (t .atoms) a ≡ withHydrogens (atomRow (μ .atoms) a) (impliedAt t a)
   pub bracket : (getD (μ .st .outside) a 0 ≡ 1 → ⊥) → atomRow (t .atoms) a ≡ atomRow (μ .atoms) a
 
 module _ (s : List ℕ) (atoms bonds : List ℤ) where
@@ -73,6 +77,7 @@ module _ (s : List ℕ) (atoms bonds : List ℤ) where
 
   -- an accepted text, the memory after its last byte, and the rows
   pub record Accepted (t : Told) : Type 0 where
+    pub fits : Fits s atoms bonds
     pub state : State
     pub memory : Memory
     pub reached : bytesRead s atoms bonds ≡ going state memory
@@ -115,6 +120,7 @@ module _ (s : List ℕ) (atoms bonds : List ℤ) where
       go t (Outcome.accepts {σ} {μ} f e a l m) z =
           let w = read-sane f e in
           record {
+            fits = f;
             state = σ;
             memory = μ;
             reached = e;

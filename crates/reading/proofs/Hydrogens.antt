@@ -21,23 +21,19 @@ use Rattle.table.specs.Rows.{atomRow}
 use Rattle.table.specs.Valid.{atomOk, selectable}
 use Rattle.graph.specs.Graph.{bondSum}
 use Rattle.reading.specs.Read.{hydrogenate, hydrogenated}
+use Rattle.reading.proofs.Cases.{by-test}
 use Rattle.reading.proofs.Rows.{same-atom-row, within, rowOk, atom-ok-row}
 
 module _ (outside : List ℕ) (bonds : List ℤ) (m : ℕ) where
   -- ---- one atom
+  abbrev count : ℕ → List ℤ → ℤ
+  count a t = pos (implied (element t a) (selected t a) (bondSum bonds m a))
+
   one-length : (a : ℕ) (t : List ℤ) → length (hydrogenate outside bonds m a t) ≡ length t
-  one-length a t = split (eqb (getD outside a 0) 1)
-    where
-      split : (v : Bool) → length (pick v (set t (atomPlace a HYDROGENS) (pos (implied (element t a) (selected t a) (bondSum bonds m a)))) t) ≡ length t
-      split true = length-set t (atomPlace a HYDROGENS) (pos (implied (element t a) (selected t a) (bondSum bonds m a)))
-      split false = refl
+  one-length a t = by-test (λ (u : List ℤ). length u ≡ length t) (eqb (getD outside a 0) 1) (set t (atomPlace a HYDROGENS) (count a t)) t (λ e. length-set t (atomPlace a HYDROGENS) (count a t)) (λ e. refl)
 
   one-other : (a : ℕ) (t : List ℤ) (j : ℕ) → (getD outside a 0 ≡ 1 → j ≡ atomPlace a HYDROGENS → ⊥) → getD (hydrogenate outside bonds m a t) j (pos 0) ≡ getD t j (pos 0)
-  one-other a t j n = split (eqb (getD outside a 0) 1) refl
-    where
-      split : (v : Bool) → eqb (getD outside a 0) 1 ≡ v → getD (pick v (set t (atomPlace a HYDROGENS) (pos (implied (element t a) (selected t a) (bondSum bonds m a)))) t) j (pos 0) ≡ getD t j (pos 0)
-      split true e = getD-set-other t (atomPlace a HYDROGENS) j (pos (implied (element t a) (selected t a) (bondSum bonds m a))) (pos 0) (n (eqb-true (getD outside a 0) 1 e))
-      split false e = refl
+  one-other a t j n = by-test (λ (u : List ℤ). getD u j (pos 0) ≡ getD t j (pos 0)) (eqb (getD outside a 0) 1) (set t (atomPlace a HYDROGENS) (count a t)) t (λ e. getD-set-other t (atomPlace a HYDROGENS) j (count a t) (pos 0) (n (eqb-true (getD outside a 0) 1 e))) (λ e. refl)
 
   one-given : (a : ℕ) (t : List ℤ) → getD outside a 0 ≡ 1 → atomPlace a HYDROGENS < length t → atomCell (hydrogenate outside bonds m a t) a HYDROGENS ≡ pos (implied (element t a) (selected t a) (bondSum bonds m a))
   one-given a t e l = rw (eq-eqb (getD outside a 0) 1 e) (getD-set-same t (atomPlace a HYDROGENS) (pos (implied (element t a) (selected t a) (bondSum bonds m a))) (pos 0) l)
@@ -119,19 +115,13 @@ first-small (x ∷ l) h = leb-true x 9 (and-left (leb x 9) (small l) h)
 room-small : (l : List ℕ) (sum : ℕ) → small l ≡ true → firstRoom l sum ≤ 9
 unfolding small firstRoom
 room-small [] sum h = omega arith
-room-small (x ∷ l) sum h = split (leb sum x) (room-small l sum (and-right (leb x 9) (small l) h))
-  where
-    split : (t : Bool) → firstRoom l sum ≤ 9 → pick t (x - sum) (firstRoom l sum) ≤ 9
-    split true r = omega (arith, leb-true x 9 (and-left (leb x 9) (small l) h))
-    split false r = r
+room-small (x ∷ l) sum h =
+    let rest = room-small l sum (and-right (leb x 9) (small l) h) in
+    by-test (λ n. n ≤ 9) (leb sum x) (x - sum) (firstRoom l sum) (λ e. omega (arith, leb-true x 9 (and-left (leb x 9) (small l) h))) (λ e. rest)
 
 pub implied-small : (e selected sum : ℕ) → implied e selected sum ≤ 9
 unfolding implied firstTarget
-implied-small e selected sum = split (eqb selected 1)
-  where
-    split : (t : Bool) → pick t (headOr0 (targets e) - (sum + 1)) (firstRoom (targets e) sum) ≤ 9
-    split true = omega (arith, first-small (targets e) (targets-small e))
-    split false = room-small (targets e) sum (targets-small e)
+implied-small e selected sum = by-test (λ n. n ≤ 9) (eqb selected 1) (headOr0 (targets e) - (sum + 1)) (firstRoom (targets e) sum) (λ q. omega (arith, first-small (targets e) (targets-small e))) (λ q. room-small (targets e) sum (targets-small e))
 
 -- ---- a valid row stays valid
 swap : (a b h k c d e : Bool) → (a && b && h && c && d && e) ≡ true → k ≡ true → (a && b && k && c && d && e) ≡ true

@@ -3,14 +3,13 @@ use Prim.Native.Nat.{ℕ, zero, suc, _+_, _≤_, _<_}
 use native.Mathlib.Omega.{arith}
 use native.Mathlib.Decide.{ℕ-discrete, decLt}
 use mathlib.Core.Path.{_≡_, refl, sym, _∙_}
-use mathlib.Core.Bool.{Bool, true, false}
 use mathlib.Core.Logic.{_⊎_, inl, inr}
 use mathlib.Core.List.{List}
 use lib.ListN.{length, getD, List·getD-eq-default}
-use lib.Dec.{eqb, ltb}
 use borrow.Author.Tests.{eqb-true, eqb-false, ltb-true, ltb-false}
-use Rattle.loops.specs.Loop.{pick, run}
+use Rattle.loops.specs.Loop.{run}
 use Rattle.state.specs.Limits.{bridges, maxText}
+use Rattle.reading.proofs.Cases.{by-test}
 use Rattle.reading.specs.Read.{earlier, leftmost}
 
 -- the bridge number r is open
@@ -31,15 +30,14 @@ module _ (opener offset : List ℕ) where
     pub told : (q ≡ p) ⊎ ((Open opener r) × (getD offset r 0 ≡ q))
 
   one : (r p : ℕ) → One r p (earlier p (getD opener r 0) (getD offset r 0))
-  one r p = split (eqb (getD opener r 0) 0) refl (ltb (getD offset r 0) p) refl
+  one r p =
+      by-test (One r p) _ _ _ (λ e. let z : getD opener r 0 ≡ 0 = eqb-true (getD opener r 0) 0 e in record { below = omega arith; least = λ o. absurd (omega arith); told = inl refl }) (λ e.
+      by-test (One r p) _ _ _
+      (λ f. record { below = omega (arith, ltb-true (getD offset r 0) p f); least = λ o. omega arith; told = inr (positive (eqb-false (getD opener r 0) 0 e), refl) })
+      (λ f. record { below = omega arith; least = λ o. ltb-false (getD offset r 0) p f; told = inl refl }))
     where
-      split : (t : Bool) → eqb (getD opener r 0) 0 ≡ t → (u : Bool) → ltb (getD offset r 0) p ≡ u → One r p (pick t p (pick u (getD offset r 0) p))
-      split true e u f = let z : getD opener r 0 ≡ 0 = eqb-true (getD opener r 0) 0 e in record { below = omega arith; least = λ o. absurd (omega arith); told = inl refl }
-      split false e true f = record { below = omega (arith, ltb-true (getD offset r 0) p f); least = λ o. omega arith; told = inr (positive (eqb-false (getD opener r 0) 0 e), refl) }
-        where
-          positive : (getD opener r 0 ≡ 0 → ⊥) → Open opener r
-          positive n = omega arith
-      split false e false f = record { below = omega arith; least = λ o. ltb-false (getD offset r 0) p f; told = inl refl }
+      positive : (getD opener r 0 ≡ 0 → ⊥) → Open opener r
+      positive n = omega arith
 
   lowest : (c k p : ℕ) → Lowest k c p (run (λ r x. earlier x (getD opener r 0) (getD offset r 0)) k c p)
   unfolding run

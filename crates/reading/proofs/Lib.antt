@@ -1,3 +1,4 @@
+pub mod Cases
 pub mod Sane
 pub mod Rows
 pub mod Tables
@@ -14,3 +15,5 @@ pub mod Refusals
 pub mod Outcome
 pub mod Leftmost
 pub mod Claims
+pub mod Stays
+pub mod Kept

@@ -45,7 +45,7 @@ use Rattle.reading.proofs.InBracket.{Follows, extend-act, charge-act, h
 use Rattle.reading.proofs.Joints.{bridge-act, branch-act, unbranch-act, joint-held, counting-held}
 
 -- ---- an atom, or something else
-or-begins : {l : Letter} {o : Out} (a k : Acts) → Begins l o → orAtom l a k ≡ a
+pub or-begins : {l : Letter} {o : Out} (a k : Acts) → Begins l o → orAtom l a k ≡ a
 or-begins a k (Begins.plain s) = refl
 or-begins a k (Begins.selected s t) = refl
 or-begins a k Begins.letter-a = refl

@@ -1,12 +1,11 @@
 -- Reading the bytes of an atom of valid tables: with or without brackets, its row before its hydrogens. Assumes nothing.
-use mathlib.Core.Path.{_≡_, refl, sym, ap, _∙_, subst}
-use mathlib.Core.Bool.{Bool, true, false, _&&_, _||_, not}
-use mathlib.Core.List.{List, [], _∷_, _++_}
+use mathlib.Core.Path.{_≡_, refl, ap, _∙_}
+use mathlib.Core.Bool.{Bool, true, false, _&&_, _||_}
+use mathlib.Core.List.{List}
 use mathlib.Core.Logic.{_⊎_, inl, inr}
-use Prim.Native.Nat.{ℕ, zero, suc, _+_, _-_, _*_, _<_, _≤_}
+use Prim.Native.Nat.{ℕ, zero, suc, _≤_}
 use native.Mathlib.Omega.{arith}
-use lib.Dec.{eqb, leb, ltb}
-use lib.ListN.{length, getD}
+use lib.Dec.{eqb, leb}
 use lib.IntN.{ℤ, pos, negsuc}
 use lib.Signed.{leZ}
 use borrow.Author.Tests.{eqb-true, leb-true}
@@ -15,23 +14,21 @@ use Rattle.loops.proofs.Loops.{and-left, and-right}
 use Rattle.element.specs.Symbols.{among, letters}
 use Rattle.element.specs.Lookup.{selectedOf, letterOf, bare}
 use Rattle.grammar.specs.declared.Last.the-variants.{Plain as plain}
-use Rattle.grammar.specs.declared.Mode.the-variants.{Seq as seq, Bracket as bracket}
-use Rattle.grammar.specs.declared.Out.{Out}
-use Rattle.grammar.specs.declared.Out.the-variants.{To as to}
 use Rattle.grammar.specs.declared.State.{State}
 use Rattle.grammar.specs.declared.State.the-variants.{At as at}
-use Rattle.grammar.specs.Machine.{turn, atomOr}
+use Rattle.grammar.specs.Machine.{atomOr}
 use Rattle.valence.specs.Valence.{implied}
 use Rattle.graph.specs.Graph.{bondSum}
 use Rattle.table.specs.declared.Atom.{Atom}
+use Rattle.state.specs.declared.Fields.{Fields}
 use Rattle.table.specs.Limits.{ELEMENT, SELECTED, ISOTOPE, HYDROGENS, CHARGE, EXTENSION}
 use Rattle.table.specs.Cells.{number, inRange, atomCell, element, selected, hydrogens}
-use Rattle.table.specs.Valid.{selectable, selectedOk, chargeOk}
-use Rattle.table.proofs.Valid.{AtomFine, range-high, range-pos}
-use Rattle.reading.specs.Memory.{Memory, bareRow, rowOf, blank, begun, drafted}
-use Rattle.writing.specs.Spell.{isotopeBytes, symbolBytes, hydrogenBytes, chargeBytes, extensionBytes, bracketBytes, unbracketed, atomBytes}
-use Rattle.roundtrip.proofs.Feed.{Takes, byte}
-use Rattle.roundtrip.proofs.Bracketed.{fields, Slight, Ends}
+use Rattle.table.specs.Valid.{selectable, selectedOk}
+use Rattle.table.proofs.Valid.{AtomFine, range-high}
+use Rattle.reading.specs.Memory.{Memory, bareRow, rowOf, begun}
+use Rattle.writing.specs.Spell.{symbolBytes, bracketBytes, unbracketed, atomBytes}
+use Rattle.roundtrip.proofs.Feed.{byte}
+use Rattle.roundtrip.proofs.Bracketed.{fields, Slight}
 use Rattle.roundtrip.proofs.Named.{Symbolic, takes-bracket}
 use Rattle.roundtrip.proofs.Letters.{Begins, Room, Atomed, first, takes-letters}
 
@@ -53,10 +50,16 @@ symbolic-of t v f =
     go (suc (suc s)) l h = absurd (omega arith)
 
 module _ (atoms bonds : List ℤ) (m v : ℕ) where
-  -- the row that the bytes of the atom v leave, and whether it stands outside brackets
+  -- the fields of the atom v
+  abbrev pub fieldsAt : Fields
+  fieldsAt = fields (element atoms v) (selected atoms v) (number (atomCell atoms v ISOTOPE)) (hydrogens atoms v) (atomCell atoms v CHARGE) (number (atomCell atoms v EXTENSION))
+
+  -- the row that its bytes leave, and whether it stands outside brackets
+  abbrev pub rowBy : Bool → Atom
+  rowBy x = pick x (bareRow (element atoms v) (selected atoms v)) (rowOf fieldsAt)
+
   unfoldable pub draftRow : Atom
-  draftRow = pick (unbracketed atoms bonds m v) (bareRow (element atoms v) (selected atoms v))
-      (rowOf (fields (element atoms v) (selected atoms v) (number (atomCell atoms v ISOTOPE)) (hydrogens atoms v) (atomCell atoms v CHARGE) (number (atomCell atoms v EXTENSION))))
+  draftRow = rowBy (unbracketed atoms bonds m v)
 
   unfoldable pub outsideFlag : ℕ
   outsideFlag = pick (unbracketed atoms bonds m v) 1 0
@@ -104,15 +107,14 @@ module _ (atoms bonds : List ℤ) (m v : ℕ) where
           absurd (let z : _≡_ {A = ℕ} 0 1 = cc in omega arith)
 
   takes-brackets : AtomFine atoms v → (i : ℕ) (σ : State) (d : ℕ) (μ : Memory) → Begins σ d → Room μ
-      → Atomed i σ d μ (bracketBytes atoms v) (rowOf (fields (element atoms v) (selected atoms v) (number (atomCell atoms v ISOTOPE)) (hydrogens atoms v) (atomCell atoms v CHARGE) (number (atomCell atoms v EXTENSION)))) 0
+      → Atomed i σ d μ (bracketBytes atoms v) (rowOf fieldsAt) 0
   unfolding bracketBytes begun atomOr among letters letterOf selectedOf
   takes-brackets f i σ d μ g r =
-      let E = fields (element atoms v) (selected atoms v) (number (atomCell atoms v ISOTOPE)) (hydrogens atoms v) (atomCell atoms v CHARGE) (number (atomCell atoms v EXTENSION)) in
       let li = range-high (atomCell atoms v ISOTOPE) 999 (f .isotope) in
       let lh = range-high (atomCell atoms v HYDROGENS) 9 (f .hydrogens) in
       let lx = range-high (atomCell atoms v EXTENSION) 9999 (f .extension) in
       let w = takes-bracket (element atoms v) (selected atoms v) (number (atomCell atoms v ISOTOPE)) (hydrogens atoms v) (atomCell atoms v CHARGE) (number (atomCell atoms v EXTENSION)) (symbolic-of atoms v f) (omega arith) (omega arith) (slight-of (atomCell atoms v CHARGE) (f .charge)) (omega arith) in
-      record { last = plain; draft = E; is = byte 91 _ (g .goes 91 .1) refl (g .does 91 i μ refl ∙ first 91 i μ r) (w .is (suc i) d (begun 0 μ)) }
+      record { last = plain; draft = fieldsAt; is = byte 91 _ (g .goes 91 .1) refl (g .does 91 i μ refl ∙ first 91 i μ r) (w .is (suc i) d (begun 0 μ)) }
 
   -- THE ATOM
   pub takes-atom : AtomFine atoms v → (i : ℕ) (σ : State) (d : ℕ) (μ : Memory) → Begins σ d → Room μ → Atomed i σ d μ (atomBytes atoms bonds m v) draftRow outsideFlag
@@ -120,6 +122,6 @@ module _ (atoms bonds : List ℤ) (m v : ℕ) where
   takes-atom f i σ d μ g r = go (unbracketed atoms bonds m v) refl
     where
       go : (x : Bool) → unbracketed atoms bonds m v ≡ x
-          → Atomed i σ d μ (pick x (symbolBytes (element atoms v) (selected atoms v)) (bracketBytes atoms v)) (pick x (bareRow (element atoms v) (selected atoms v)) (rowOf (fields (element atoms v) (selected atoms v) (number (atomCell atoms v ISOTOPE)) (hydrogens atoms v) (atomCell atoms v CHARGE) (number (atomCell atoms v EXTENSION))))) (pick x 1 0)
+          → Atomed i σ d μ (pick x (symbolBytes (element atoms v) (selected atoms v)) (bracketBytes atoms v)) (rowBy x) (pick x 1 0)
       go true e = takes-letters (element atoms v) (selected atoms v) (symbolic-of atoms v f) (bare-of e .letter) i σ d μ g r
       go false e = takes-brackets f i σ d μ g r

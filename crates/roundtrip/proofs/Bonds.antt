@@ -1,30 +1,27 @@
 -- The bonds of valid tables, as the walk's list of bonds: inside, distinct, of kinds 0 to 3. Assumes nothing.
-use mathlib.Core.Path.{_≡_, refl, sym, ap, _∙_, subst}
-use mathlib.Core.Bool.{Bool, true, false, _&&_, _||_, not, cond}
-use mathlib.Core.List.{List, [], _∷_, _++_}
-use Prim.Native.Nat.{ℕ, zero, suc, _+_, _-_, _*_, _<_, _≤_}
+use mathlib.Core.Path.{_≡_, refl, sym, ap, _∙_}
+use mathlib.Core.Bool.{Bool, true, false}
+use mathlib.Core.List.{List, [], _∷_}
+use Prim.Native.Nat.{ℕ, zero, suc, _+_, _<_, _≤_}
 use native.Mathlib.Omega.{arith}
-use lib.Dec.{eqb, leb, ltb}
+use lib.Dec.{eqb}
 use lib.ListN.{length, getD}
 use lib.IntN.{ℤ, pos}
 use borrow.Author.Tests.{eqb-true, eq-eqb}
-use Rattle.loops.specs.Loop.{pick, run, upTo}
+use Rattle.loops.specs.Loop.{upTo}
 use Rattle.loops.proofs.Loops.{and-left, and-right, length-upTo}
 use Rattle.valence.specs.Valence.{order}
-use Rattle.graph.specs.Graph.{touches, share, addShare, bondSum}
 use Rattle.table.specs.Cells.{number, end1, end2, kind, bondCell}
 use Rattle.table.specs.Limits.{FIRST, SECOND, KIND}
 use Rattle.table.specs.Valid.{Valid, sameEnds}
 use Rattle.table.proofs.Valid.{bond-row, kind-small, apart-at}
-use Rattle.walk.specs.Token.{Bond, bond}
+use Rattle.walk.specs.Token.{Bond}
 use Rattle.walk.specs.Check.{ends}
 use Rattle.walk.proofs.Count.{bit, count, All, none, more}
 use Rattle.walk.proofs.Walk.{Inside}
 use Rattle.walk.proofs.Twice.{Distinct}
-use Rattle.walk.proofs.Sums.{total, weightAt}
-use Rattle.walk.proofs.Sums as sums
 use Rattle.writing.specs.Write.{bondAt, bondList}
-use Rattle.roundtrip.proofs.Held.{nobond, rowOfBond, BondTable}
+use Rattle.roundtrip.proofs.Held.{nobond, BondTable}
 
 -- ---- lists by index
 module _ {A : Type 0} where
@@ -100,21 +97,3 @@ listed q t bs h = upTo-list nobond (bondAt t) bs at-place
           where
             named : {z : ℤ} {k : ℕ} → z ≡ pos k → number z ≡ k
             named e = ap number e
-
--- ---- the bond sum of a table is that of its list
-weight-same : (bonds : List ℤ) (a b : ℕ) → share bonds a b ≡ weightAt order a (bondAt bonds b)
-unfolding share touches
-weight-same bonds a b = go (eqb (end1 bonds b) a || eqb (end2 bonds b) a)
-  where
-    go : (x : Bool) → pick x (order (kind bonds b)) 0 ≡ cond x (order (kind bonds b)) 0
-    go true = refl
-    go false = refl
-
-sum-from : (bonds : List ℤ) (a k m s : ℕ) → run (addShare bonds a) k m s ≡ s + total (weightAt order a) (upTo (bondAt bonds) k m)
-unfolding run upTo
-sum-from bonds a k zero s = omega arith
-sum-from bonds a k (suc m) s = sum-from bonds a (suc k) m (s + share bonds a k) ∙ (let e = weight-same bonds a k in omega arith)
-
-pub sum-list : (bonds : List ℤ) (m a : ℕ) → bondSum bonds m a ≡ sums.bondSum order a (bondList bonds m)
-unfolding bondSum
-sum-list bonds m a = sum-from bonds a 0 m 0 ∙ omega arith

@@ -1,14 +1,12 @@
 -- Reading the bytes of a bracket gives its fields: a law for each field, over any mode in which it may stand. Assumes nothing.
-use mathlib.Core.Path.{_≡_, refl, sym, ap, _∙_, subst}
-use mathlib.Core.Bool.{Bool, true, false, _&&_, _||_, not}
+use mathlib.Core.Path.{_≡_, refl, ap, subst}
+use mathlib.Core.Bool.{Bool, true, false}
 use mathlib.Core.List.{List, [], _∷_, _++_}
-use Prim.Native.Nat.{ℕ, zero, suc, _+_, _-_, _*_, _<_, _≤_}
+use Prim.Native.Nat.{ℕ, zero, suc, _+_, _-_, _*_, _<_}
 use native.Mathlib.Omega.{arith}
-use lib.Dec.{eqb, leb, ltb}
 use lib.IntN.{ℤ, pos, negsuc}
-use borrow.Author.Tests.{eq-eqb, ne-eqb}
-use Rattle.loops.specs.Loop.{pick}
-use Rattle.element.specs.Symbols.{among, listed, starts, symbols, marks}
+use borrow.Author.Tests.{ne-eqb}
+use Rattle.element.specs.Symbols.{among}
 use Rattle.grammar.specs.Grammar.{nonzero, digits, several, signs, Digits, none, more, Number, number}
 use Rattle.grammar.specs.declared.Last.the-variants.{Plain as plain}
 use Rattle.grammar.specs.declared.Mode.{Mode}
@@ -24,7 +22,7 @@ use Rattle.reading.specs.Bracket.{digit, signed}
 use Rattle.reading.specs.Act.{act, modeAct}
 use Rattle.writing.specs.Spell.{digitByte, decimal, hydrogenBytes, sizeBytes, chargeBytes, extensionBytes}
 use Rattle.roundtrip.proofs.Feed.{Takes, stays, byte}
-use Rattle.roundtrip.proofs.Decimal.{value, digit-of, is-several, Spelled, spelled-long}
+use Rattle.roundtrip.proofs.Decimal.{value, digit-of, is-several, spelled-long}
 
 abbrev pub fields : ℕ → ℕ → ℕ → ℕ → ℤ → ℕ → Fields
 fields e s i h c x = record { element = e; selected = s; isotope = i; hydrogens = h; charge = c; extension = x }

@@ -1,15 +1,15 @@
 -- A number written in decimal is a number of the grammar with the same value. Assumes nothing.
 use mathlib.Core.Path.{_≡_, refl, sym, ap, _∙_, subst}
 use mathlib.Core.Bool.{Bool, true, false}
-use mathlib.Core.List.{List, [], _∷_, _++_}
-use Prim.Native.Nat.{ℕ, zero, suc, _+_, _-_, _*_, _/_, _%_, _<_, _≤_}
+use mathlib.Core.List.{List, [], _∷_}
+use Prim.Native.Nat.{ℕ, suc, _+_, _-_, _*_, _/_, _%_, _<_, _≤_}
 use native.Mathlib.Omega.{arith}
-use lib.Dec.{ltb, leb}
+use lib.Dec.{ltb}
 use borrow.Author.Tests.{ltb-true, ltb-false, lt-ltb, le-ltb}
-use Rattle.loops.specs.Loop.{pick, each}
+use Rattle.loops.specs.Loop.{each}
 use Rattle.loops.proofs.Loops.{each-at}
 use Rattle.element.specs.Symbols.{among}
-use Rattle.grammar.specs.Grammar.{nonzero, digits, several, Digits, none, more, Number, number}
+use Rattle.grammar.specs.Grammar.{nonzero, digits, several, none, more, Number, number}
 use Rattle.reading.specs.Bracket.{digit}
 use Rattle.writing.specs.Spell.{digitByte, decimal}
 

@@ -1,10 +1,10 @@
 -- After the last byte: no bridge is open, and the atoms outside brackets get their hydrogens. Assumes nothing.
-use mathlib.Core.Path.{_≡_, refl, sym, ap, _∙_, subst}
-use mathlib.Core.Bool.{Bool, true, false, _&&_, _||_, not, cond}
-use mathlib.Core.List.{List, [], _∷_, _++_}
-use Prim.Native.Nat.{ℕ, zero, suc, _+_, _-_, _*_, _<_, _≤_}
+use mathlib.Core.Path.{_≡_, refl, ap, _∙_, subst}
+use mathlib.Core.Bool.{Bool, true, false}
+use mathlib.Core.List.{List, [], _∷_}
+use Prim.Native.Nat.{ℕ, zero, suc, _+_, _*_, _<_, _≤_}
 use native.Mathlib.Omega.{arith}
-use lib.Dec.{eqb, leb, ltb}
+use lib.Dec.{eqb}
 use lib.ListN.{length, getD, set, length-set}
 use lib.Seq.{getD-set-same, getD-set-other}
 use lib.IntN.{ℤ, pos}
@@ -13,7 +13,7 @@ use Rattle.loops.specs.Loop.{pick, run}
 use Rattle.valence.specs.Valence.{implied}
 use Rattle.graph.specs.Graph.{bondSum}
 use Rattle.table.specs.Limits.{atomCells, ELEMENT, SELECTED, HYDROGENS}
-use Rattle.table.specs.Cells.{number, atomPlace, atomCell, element, selected}
+use Rattle.table.specs.Cells.{atomPlace, atomCell, element, selected}
 use Rattle.state.specs.Limits.{maxText, bridges}
 use Rattle.reading.specs.Read.{hydrogenate, hydrogenated, earlier, leftmost}
 use Rattle.walk.specs.Token.{Hook, vacant, at, hookAt, shut}

@@ -1,15 +1,14 @@
 -- Laws of the fold over the bytes of a text. Assumes nothing.
-use mathlib.Core.Path.{_≡_, refl, sym, ap, _∙_}
-use mathlib.Core.Bool.{Bool, true, false}
+use mathlib.Core.Path.{_≡_, refl, ap, _∙_}
+use mathlib.Core.Bool.{true}
 use mathlib.Core.List.{List, [], _∷_, _++_}
-use Prim.Native.Nat.{ℕ, zero, suc, _+_}
+use Prim.Native.Nat.{ℕ, suc, _+_}
 use native.Mathlib.Omega.{arith}
 use native.Mathlib.Nat.{add-zero}
 use lib.ListN.{length}
-use Rattle.loops.specs.Loop.{pick}
 use Rattle.grammar.specs.declared.State.{State}
 use Rattle.grammar.specs.Machine.{step, alive}
-use Rattle.grammar.specs.Fold.{Act, keeps, Reading, going, halted, after, feed, read}
+use Rattle.grammar.specs.Fold.{keeps, Reading, going, feed, read}
 use Rattle.reading.specs.Memory.{Memory}
 use Rattle.reading.specs.Act.{act}
 

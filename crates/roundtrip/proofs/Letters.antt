@@ -1,33 +1,30 @@
 -- Reading the bytes of an atom outside brackets. Assumes nothing.
 use mathlib.Core.Path.{_≡_, refl, sym, ap, _∙_, subst}
-use mathlib.Core.Bool.{Bool, true, false, _&&_, _||_, not}
-use mathlib.Core.List.{List, [], _∷_, _++_}
-use mathlib.Core.Logic.{_⊎_, ⊎-elim}
-use Prim.Native.Nat.{ℕ, zero, suc, _+_, _-_, _*_, _<_, _≤_}
+use mathlib.Core.Bool.{Bool, true, false, _&&_}
+use mathlib.Core.List.{List, [], _∷_}
+use mathlib.Core.Logic.{⊎-elim}
+use Prim.Native.Nat.{ℕ, suc, _+_, _*_, _≤_}
 use native.Mathlib.Omega.{arith}
-use lib.Dec.{eqb, leb, ltb}
-use lib.ListN.{length, getD}
-use lib.IntN.{ℤ, pos}
-use Rattle.loops.specs.Loop.{pick}
+use lib.Dec.{leb}
+use lib.ListN.{length}
 use Rattle.element.specs.declared.Letter.{Letter}
 use Rattle.element.specs.declared.Letter.the-variants.{Plain, Selected, Half, Bracket, Nothing}
-use Rattle.element.specs.Symbols.{among, listed, starts, sameBytes, symbols, letters}
+use Rattle.element.specs.Symbols.{among, sameBytes, symbols, letters}
 use Rattle.element.specs.Lookup.{indexFrom, numberOf, selectedOf, letterOf, bare, bytesOf, selectedBytes}
 use Rattle.grammar.specs.Grammar.{nonzero, bondSymbols}
 use Rattle.grammar.proofs.Ends as bytes
 use Rattle.grammar.specs.declared.Last.{Last}
 use Rattle.grammar.specs.declared.Last.the-variants.{Plain as plain, AfterC as afterC, AfterB as afterB}
 use Rattle.grammar.specs.declared.Mode.{Mode}
-use Rattle.grammar.specs.declared.Mode.the-variants.{Seq as seq, Bond as bond, Dot as dot, Inside as inside, LetterA as letterA, LetterT as letterT, Bracket as bracket}
+use Rattle.grammar.specs.declared.Mode.the-variants.{Seq as seq, Bond as bond, Dot as dot, Inside as inside, LetterA as letterA, LetterT as letterT}
 use Rattle.grammar.specs.declared.Out.{Out}
 use Rattle.grammar.specs.declared.Out.the-variants.{Stop as stop, To as to}
 use Rattle.grammar.specs.declared.State.{State}
 use Rattle.grammar.specs.declared.State.the-variants.{Start as start, At as at}
-use Rattle.grammar.specs.Machine.{turn, step, next, atomOr, bridgeOr, alive}
+use Rattle.grammar.specs.Machine.{turn, step, next, atomOr, bridgeOr}
 use Rattle.grammar.specs.Fold.{keeps}
 use Rattle.table.specs.declared.Atom.{Atom}
 use Rattle.table.specs.Limits.{maxAtoms, maxBonds, atomCells}
-use Rattle.table.specs.Rows.{withAtom}
 use Rattle.table.specs.Valid.{selectable}
 use Rattle.state.specs.declared.Fields.{Fields}
 use Rattle.reading.specs.Memory.{Memory, bareRow, blank, bonded, begun, described, drafted}

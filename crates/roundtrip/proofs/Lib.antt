@@ -12,3 +12,9 @@ pub mod Tokens
 pub mod Written
 pub mod Bonds
 pub mod Ending
+pub mod Back
+pub mod Again
+pub mod Rewritten
+pub mod Limits
+pub mod Claims
+pub mod Kekulized

@@ -2,23 +2,20 @@
 use mathlib.Core.Path.{_≡_, refl, sym, ap, _∙_, subst}
 use mathlib.Core.Bool.{Bool, true, false, _&&_, _||_, not}
 use mathlib.Core.List.{List, [], _∷_, _++_}
-use Prim.Native.Nat.{ℕ, zero, suc, _+_, _-_, _*_, _<_, _≤_}
+use Prim.Native.Nat.{ℕ, zero, suc, _+_, _*_, _<_}
 use native.Mathlib.Omega.{arith}
-use lib.Dec.{eqb, leb, ltb}
-use lib.ListN.{getD}
-use lib.IntN.{ℤ, pos, negsuc}
-use borrow.Author.Tests.{eq-eqb, ne-eqb, eqb-true, not-true}
+use lib.Dec.{eqb}
+use lib.IntN.{ℤ, pos}
+use borrow.Author.Tests.{ne-eqb, eqb-true, not-true}
 use mathlib.Core.Logic.{_⊎_, ⊎-elim}
 use Rattle.loops.specs.Loop.{pick, each}
 use Rattle.loops.proofs.Loops.{each-at, and-left, and-right}
 use Rattle.element.specs.Symbols.{among, listed, starts, sameBytes, symbols, marks}
 use Rattle.element.specs.Lookup.{indexFrom, numberOf, selectedOf, bytesOf, selectedBytes}
-use Rattle.grammar.specs.Grammar.{nonzero, digits, signs, several, Digits, none, more, Number, number}
-use Rattle.grammar.proofs.Ends.{All}
+use Rattle.grammar.specs.Grammar.{nonzero, digits, signs, Digits, none, more, Number, number}
 use Rattle.grammar.proofs.Ends as bytes
-use Rattle.grammar.specs.declared.Last.the-variants.{Plain as plain}
 use Rattle.grammar.specs.declared.Mode.{Mode}
-use Rattle.grammar.specs.declared.Mode.the-variants.{Seq as seq, Bracket as bracket, Isotope as isotope, Symbol1 as symbol1, Symbolled as symbolled}
+use Rattle.grammar.specs.declared.Mode.the-variants.{Bracket as bracket, Isotope as isotope, Symbol1 as symbol1, Symbolled as symbolled}
 use Rattle.grammar.specs.declared.Out.{Out}
 use Rattle.grammar.specs.declared.Out.the-variants.{Stop as stop, To as to}
 use Rattle.grammar.specs.Machine.{next, symbolOr, closing, extending, charging, hydrating}
@@ -29,8 +26,8 @@ use Rattle.reading.specs.Memory.{Memory, drafted}
 use Rattle.reading.specs.Bracket.{digit}
 use Rattle.reading.specs.Bracket as spec
 use Rattle.reading.specs.Act.{modeAct}
-use Rattle.writing.specs.Spell.{decimal, isotopeBytes, symbolBytes, hydrogenBytes, chargeBytes, extensionBytes}
-use Rattle.roundtrip.proofs.Decimal.{value, Spelled, spelled}
+use Rattle.writing.specs.Spell.{isotopeBytes, symbolBytes, hydrogenBytes, chargeBytes, extensionBytes}
+use Rattle.roundtrip.proofs.Decimal.{value, spelled}
 use Rattle.roundtrip.proofs.Bracketed.{fields, Ends, Moves, via, Hydrates, hydrates-symbolled, Slight, takes-hydrogens}
 
 -- a mode in which a symbol may begin

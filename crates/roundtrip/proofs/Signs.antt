@@ -1,17 +1,16 @@
 -- Reading the bytes between atoms: bond symbols, dots and bridges. Assumes nothing.
-use mathlib.Core.Path.{_≡_, refl, sym, ap, _∙_, subst}
+use mathlib.Core.Path.{_≡_, refl, ap, _∙_, subst}
 use mathlib.Core.Bool.{Bool, true, false}
 use mathlib.Core.List.{List, [], _∷_, _++_}
 use Prim.Native.Nat.{ℕ, zero, suc, _+_, _-_, _*_, _/_, _%_, _<_, _≤_}
 use native.Mathlib.Omega.{arith}
-use lib.Dec.{eqb, leb, ltb}
+use lib.Dec.{ltb}
 use lib.ListN.{length}
 use borrow.Author.Tests.{ltb-true, ltb-false, le-ltb, lt-ltb}
 use Rattle.loops.specs.Loop.{pick}
-use Rattle.element.specs.declared.Letter.{Letter}
 use Rattle.element.specs.Symbols.{among, letters}
 use Rattle.element.specs.Lookup.{letterOf, selectedOf}
-use Rattle.grammar.specs.Grammar.{nonzero, digits, bondSymbols}
+use Rattle.grammar.specs.Grammar.{nonzero, bondSymbols}
 use Rattle.grammar.proofs.Ends as over
 use Rattle.grammar.specs.declared.Last.{Last}
 use Rattle.grammar.specs.declared.Last.the-variants.{Plain as plain}

@@ -1,33 +1,29 @@
 -- The memory of a reading of bytes holds what a reading of tokens holds; atoms, branches and bridges keep it so. Assumes nothing.
-use mathlib.Core.Path.{_≡_, refl, sym, ap, _∙_, subst}
+use mathlib.Core.Path.{_≡_, refl, ap, _∙_}
 use mathlib.Core.Bool.{Bool, true, false, _&&_, _||_, not, cond}
 use mathlib.Core.List.{List, [], _∷_, _++_}
 use Prim.Native.Nat.{ℕ, zero, suc, _+_, _-_, _*_, _<_, _≤_}
 use native.Mathlib.Omega.{arith}
-use native.Mathlib.Numerals.{add-one}
-use lib.Dec.{eqb, leb, ltb}
+use lib.Dec.{eqb, ltb}
 use lib.ListN.{length, getD, set, length-append}
-use lib.IntN.{ℤ, pos}
-use borrow.Author.Tests.{eqb-true, eqb-false, eq-eqb, ne-eqb, ltb-true, ltb-false, lt-ltb, le-ltb, lt-leb}
-use Rattle.loops.specs.Loop.{pick, each}
-use Rattle.loops.proofs.Loops.{and-left, and-right}
+use borrow.Author.Tests.{eqb-true, eqb-false, eq-eqb, ne-eqb, ltb-true, ltb-false, lt-leb}
+use Rattle.loops.specs.Loop.{pick}
+use Rattle.loops.proofs.Loops.{each-all}
 use Rattle.grammar.specs.Fold.{keeps}
 use Rattle.table.specs.declared.Atom.{Atom}
-use Rattle.table.specs.declared.Bond as table
 use Rattle.table.specs.Limits.{maxAtoms, maxBonds, atomCells, bondCells, FIRST, SECOND}
 use Rattle.table.specs.Cells.{number, end1, end2}
-use Rattle.table.specs.Rows.{withAtom, withBond}
+use Rattle.table.specs.Rows.{withAtom}
 use Rattle.state.specs.declared.Fields.{Fields}
 use Rattle.state.specs.Limits.{maxDepth, bridges}
 use Rattle.state.specs.State.{opened, closed, bridged, joined}
 use Rattle.reading.specs.Memory.{Memory, nothing, kindOf, between, bonded, begun, described, drafted, moved, awaiting, counting, joins, joinedAlready, closeRefusal}
 use Rattle.reading.specs.Memory as bytes
-use Rattle.reading.specs.Act.{bridgeBond, bridgeAct, branchAct, orRefuse}
+use Rattle.reading.specs.Act.{bridgeBond, bridgeAct}
 use Rattle.walk.specs.Token.{Bond, bond, Hook, vacant, at, hookAt, hang, meet, St, st, bridge}
 use Rattle.walk.specs.Token as token
 use Rattle.walk.specs.Check.{ends, some, clash, refusedBridge}
-use Rattle.walk.proofs.Count.{All, none, more, all-map}
-use Rattle.roundtrip.proofs.Cells.{bondCellsOf}
+use Rattle.walk.proofs.Count.{All, more, all-map, all-at}
 use Rattle.roundtrip.proofs.Held.{openerOf, symbolOf, Bridging, bridging-set, Branching, branching-push, branching-pop, AtomTable, atom-add, nobond, rowOfBond, BondTable, bond-add}
 
 -- row v, flag v: the row and the flag that the bytes of the atom v leave; p and q: the cells of the tables
@@ -47,12 +43,6 @@ abbrev pub Holds : (ℕ → Atom) → (ℕ → ℕ) → ℕ → ℕ → St → M
 Holds row flag p q (st xs bs h n hs stk) μ = Sim row flag p q xs bs h n hs stk μ
 
 -- ---- Bool tests of the two layers
--- what passed at each number passed everywhere
-each-all : (f : ℕ → Bool) (k m : ℕ) → ((j : ℕ) → k ≤ j → j < k + m → f j ≡ true) → each f k m ≡ true
-unfolding each
-each-all f k zero h = refl
-each-all f k (suc m) h = rw (h k (omega arith) (omega arith)) (each-all f (suc k) m (λ j a b. h j (omega arith) (omega arith)))
-
 or-false : (a b : Bool) → (a || b) ≡ false → (a ≡ false) × (b ≡ false)
 or-false true b h = (absurd (let z : _≡_ {A = ℕ} 0 1 = cc in omega arith), absurd (let z : _≡_ {A = ℕ} 0 1 = cc in omega arith))
 or-false false b h = (refl, h)
@@ -61,11 +51,6 @@ some-at : (f : Bond → Bool) (bs : List Bond) (i : ℕ) → some f bs ≡ false
 some-at f [] i h l = absurd (omega arith)
 some-at f (b ∷ bs) zero h l = or-false (f b) (some f bs) h .0
 some-at f (b ∷ bs) (suc i) h l = some-at f bs i (or-false (f b) (some f bs) h .1) (omega arith)
-
-all-at : (P : Bond → Type 0) (bs : List Bond) (i : ℕ) → All P bs → i < length bs → P (getD bs i nobond)
-all-at P [] i none l = absurd (omega arith)
-all-at P (b ∷ bs) zero (more h a) l = h
-all-at P (b ∷ bs) (suc i) (more h a) l = all-at P bs i a (omega arith)
 
 clash-same : (j k : ℕ) → clash j k ≡ false → bytes.clash j k ≡ false
 clash-same j zero h = go (not (eqb j 0))
@@ -229,11 +214,11 @@ module _ (row : ℕ → Atom) (flag : ℕ → ℕ) (p q : ℕ) (proom : atomCell
   unfolding joins
   no-join u i a g =
       rw (first-end i a, second-end i a)
-      (not-joins u h (getD bs i nobond) (all-at (λ b. b .lo < b .hi) bs i (s .bonding .ordered) a) (some-at (ends (token.joined u h 0 .lo) (token.joined u h 0 .hi)) bs i g a))
+      (not-joins u h (getD bs i nobond) (all-at (λ b. b .lo < b .hi) nobond bs i (s .bonding .ordered) a) (some-at (ends (token.joined u h 0 .lo) (token.joined u h 0 .hi)) bs i g a))
 
   not-already : (u : ℕ) → some (ends (token.joined u h 0 .lo) (token.joined u h 0 .hi)) bs ≡ false → joinedAlready (μ .bonds) (length bs) u h ≡ false
   unfolding joinedAlready
-  not-already u g = ap not (each-all (λ i. not (joins (μ .bonds) u h i)) 0 (length bs) (λ i a b. ap not (no-join u i (omega arith) g)))
+  not-already u g = ap not (each-all (λ i. not (joins (μ .bonds) u h i)) (length bs) (λ i a. ap not (no-join u i a g)))
 
   opens : (o : ℕ) → hookAt hs r ≡ vacant → Bridged row flag p q (st xs bs h n (hang hs r (at h k)) stk) r o μ
   unfolding bridgeAct joined

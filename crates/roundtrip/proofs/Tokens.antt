@@ -1,15 +1,13 @@
 -- Reading the bytes of tokens holds what reading the tokens holds. Assumes nothing.
-use mathlib.Core.Path.{_≡_, refl, sym, ap, _∙_, subst}
+use mathlib.Core.Path.{_≡_, refl}
 use mathlib.Core.Bool.{Bool, true, false, _&&_, not, cond}
 use mathlib.Core.List.{List, [], _∷_, _++_}
-use Prim.Native.Nat.{ℕ, zero, suc, _+_, _-_, _*_, _<_, _≤_}
+use Prim.Native.Nat.{ℕ, suc, _+_, _*_, _<_, _≤_}
 use native.Mathlib.Omega.{arith}
-use lib.Dec.{eqb, leb, ltb}
+use lib.Dec.{eqb, leb}
 use lib.ListN.{length}
 use lib.IntN.{ℤ}
-use borrow.Author.Tests.{ne-eqb, eqb-true, ltb-true, lt-leb, not-true}
-use Rattle.loops.specs.Loop.{pick}
-use Rattle.loops.proofs.Loops.{and-left, and-right}
+use borrow.Author.Tests.{ne-eqb, lt-leb}
 use Rattle.element.specs.Symbols.{among, letters}
 use Rattle.element.specs.Lookup.{letterOf, selectedOf}
 use Rattle.grammar.specs.Grammar.{nonzero, bondSymbols}
@@ -19,23 +17,21 @@ use Rattle.grammar.specs.declared.Mode.the-variants.{Seq as seq, Inside as insi
 use Rattle.grammar.specs.declared.State.{State}
 use Rattle.grammar.specs.declared.State.the-variants.{At as at}
 use Rattle.grammar.specs.Machine.{step, next, atomOr, bridgeOr}
-use Rattle.grammar.specs.Fold.{keeps}
 use Rattle.table.specs.Limits.{maxAtoms, maxBonds, atomCells, bondCells}
 use Rattle.table.proofs.Valid.{AtomFine}
 use Rattle.state.specs.Limits.{maxDepth, bridges}
 use Rattle.state.specs.State.{opened, closed}
-use Rattle.reading.specs.Memory.{Memory, nothing, dotted, kindOf, afterDot, bonded, begun, described, drafted, moved, awaiting, counting}
+use Rattle.reading.specs.Memory.{Memory, nothing, dotted, kindOf, bonded, begun, moved, awaiting, counting}
 use Rattle.reading.specs.Act.{act, modeAct, branchAct}
-use Rattle.walk.specs.Token.{Bond, bond, Tok, apart, along, ring, branch, back, Hook, hookAt, St, st, bridge}
+use Rattle.walk.specs.Token.{Bond, Tok, apart, along, ring, branch, back, Hook, hookAt, St, st, bridge}
 use Rattle.walk.specs.Token as token
-use Rattle.walk.specs.Check.{refusedBridge, refusal, Res, fine, refused, orNumber, reading, grammar}
-use Rattle.walk.proofs.Count.{All, none, more}
-use Rattle.writing.specs.Spell.{atomBytes, kindBytes, bridgeBytes, tokenBytes, restBytes}
+use Rattle.walk.specs.Check.{refusedBridge}
+use Rattle.writing.specs.Spell.{atomBytes, kindBytes, bridgeBytes}
 use Rattle.roundtrip.proofs.Feed.{Takes, stays, joins, byte}
-use Rattle.roundtrip.proofs.Letters.{Begins, Room, Atomed}
+use Rattle.roundtrip.proofs.Letters.{Begins, Room}
 use Rattle.roundtrip.proofs.Atoms.{draftRow, outsideFlag, takes-atom}
-use Rattle.roundtrip.proofs.Simulation.{Sim, Holds, sim-await, sim-count, sim-apart, sim-along, sim-branch, sim-back, Bridged, sim-ring}
-use Rattle.roundtrip.proofs.Signs.{Stance, after, fresh, Jointed, takes-dot, waiting, waiting-kind, takes-kind, Ringed, takes-ring}
+use Rattle.roundtrip.proofs.Simulation.{Holds, sim-await, sim-count, sim-apart, sim-along, sim-branch, sim-back, sim-ring}
+use Rattle.roundtrip.proofs.Signs.{Stance, after, fresh, takes-dot, waiting, waiting-kind, takes-kind, takes-ring}
 
 -- a token that the writer may emit for valid tables of n atoms
 abbrev pub Good : ℕ → Tok → Type 0

@@ -1,11 +1,11 @@
 -- Reading the bytes of a written text whole holds what reading its tokens holds. Assumes nothing.
-use mathlib.Core.Path.{_≡_, refl, sym, ap, _∙_, subst}
-use mathlib.Core.Bool.{Bool, true, false, _&&_, not, cond}
+use mathlib.Core.Path.{_≡_, refl, ap, _∙_, subst}
+use mathlib.Core.Bool.{Bool, true, false}
 use mathlib.Core.List.{List, [], _∷_, _++_}
-use Prim.Native.Nat.{ℕ, zero, suc, _+_, _-_, _*_, _<_, _≤_}
+use Prim.Native.Nat.{ℕ, zero, suc, _+_, _*_, _<_, _≤_}
 use native.Mathlib.Omega.{arith}
-use lib.Dec.{eqb, leb, ltb}
-use lib.ListN.{length, getD, replicate, length-replicate, getD-replicate, List·getD-eq-default}
+use lib.Dec.{eqb, ltb}
+use lib.ListN.{length, getD, length-replicate, getD-replicate, List·getD-eq-default}
 use lib.IntN.{ℤ, pos}
 use borrow.Author.Tests.{eqb-true, ltb-true, ltb-false}
 use Rattle.loops.proofs.Loops.{and-left, and-right}
@@ -20,15 +20,15 @@ use Rattle.state.specs.Limits.{maxDepth, bridges}
 use Rattle.state.specs.State.{started}
 use Rattle.reading.specs.Memory.{Memory, nothing}
 use Rattle.reading.specs.Read.{zeros, beginning}
-use Rattle.walk.specs.Token.{Bond, Tok, apart, along, ring, branch, back, Hook, hookAt, St, st, start}
+use Rattle.walk.specs.Token.{Tok, apart, along, ring, branch, back, Hook, hookAt, St, st, start}
 use Rattle.walk.specs.Token as token
-use Rattle.walk.specs.Check.{refusal, Res, fine, refused, orNumber, reading, grammar, accepted}
+use Rattle.walk.specs.Check.{refusal, fine, orNumber, reading, grammar, accepted}
 use Rattle.walk.proofs.Count.{All, none, more}
 use Rattle.writing.specs.Spell.{atomBytes, tokenBytes, restBytes, tokensBytes}
 use Rattle.roundtrip.proofs.Feed.{Takes, stays, joins}
 use Rattle.roundtrip.proofs.Letters.{begins-start}
 use Rattle.roundtrip.proofs.Atoms.{draftRow, outsideFlag}
-use Rattle.roundtrip.proofs.Simulation.{Sim, Holds}
+use Rattle.roundtrip.proofs.Simulation.{Holds}
 use Rattle.roundtrip.proofs.Signs.{Stance, after, fresh}
 use Rattle.roundtrip.proofs.Tokens.{Good, nextOf, depthOf, room-first, room-both, room-depth, Is, Stepped, atom-apart, step-apart, step-along, step-ring, step-branch, step-back}
 

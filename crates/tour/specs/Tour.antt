@@ -98,3 +98,10 @@ pub record Grown (n p : ℕ) (F : List ℕ → Forest) (x y : Sheet) : Type 0 wh
 -- a root: the atom a, if it was not visited
 unfoldable pub rootForest : List ℤ → ℕ → ℕ → ℕ → List ℕ → Forest
 rootForest bonds n m a s = tour (walk (bondList bonds m) n) (way a 0 ∷ []) s
+
+-- the arrays of a whole walk
+pub record Walked (bonds : List ℤ) (n m : ℕ) (o v u k : List ℕ) : Type 0 where
+  pub order : (x : ℕ) → x < n → getD o x 0 ≡ getD (pre (forestOf n (bondList bonds m))) x 0
+  pub number : (a : ℕ) → a < n → getD v a 0 ≡ suc (place (pre (forestOf n (bondList bonds m))) a)
+  pub up : (x : ℕ) → x < n → getD u x 0 ≡ getD (ups (forestOf n (bondList bonds m)) 0 0) x 0
+  pub kind : (x : ℕ) → x < n → getD k x 0 ≡ getD (kinds (forestOf n (bondList bonds m))) x 0

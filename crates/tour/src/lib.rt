@@ -1,9 +1,9 @@
 // The walk of a molecule, depth first, into arrays by walk number.
 ghost use mathlib.Core.Path.{_≡_};
 ghost use Prim.Native.Nat.{suc, _+_, _-_, _<_, _≤_};
-ghost use lib.ListN.{set};
+ghost use lib.ListN.{length, replicate, set};
 ghost use Rattle.table.specs.Limits.{maxAtoms, maxBonds};
-ghost use Rattle.tour.specs.Tour.{touching, firstFrom, otherEnd, grow, rootForest, BondsFit, Room, sheet, Grown};
+ghost use Rattle.tour.specs.Tour.{touching, firstFrom, otherEnd, grow, rootForest, BondsFit, Room, sheet, Grown, Walked};
 use ids::AtomId;
 use ids::BondId;
 use table::FIRST;
@@ -119,4 +119,67 @@ fn visit(
         count + 1,
     );
     visit(bonds, n, m, order, number, up, kind, v, hub, b + 1, next)
+}
+
+// A root of the walk, if the atom was not visited, with all that is reached from it. The number of atoms visited then.
+fn root(
+    bonds: &[i32],
+    n: usize,
+    m: usize,
+    order: &mut [u16],
+    number: &mut [u16],
+    up: &mut [u16],
+    kind: &mut [u8],
+    a: AtomId,
+    count: usize,
+) -> usize
+    requires { ⌜ BondsFit (now bonds) n m ⌝ }
+    requires { ⌜ Room (now order) (now number) (now up) (now kind) ⌝ }
+    requires { ⌜ a .0 < n ⌝ }
+    ensures { λ r. ⌜ Grown n 0 (rootForest (now (bonds .entry)) n m (a .0)) (sheet (now (order .entry)) (now (number .entry)) (now (up .entry)) (now (kind .entry)) count) (sheet (now (order .exit)) (now (number .exit)) (now (up .exit)) (now (kind .exit)) r) ⌝ }
+{
+    let v = a.0;
+    if number[v] != 0 {
+        return count;
+    }
+    if n <= count {
+        return count;
+    }
+    add(order, number, up, kind, AtomId(v), 0, 0, count);
+    visit(
+        bonds,
+        n,
+        m,
+        order,
+        number,
+        up,
+        kind,
+        AtomId(v),
+        count,
+        0,
+        count + 1,
+    )
+}
+
+// internal: the walk of a molecule, by walk number: the atom, its parent's walk number plus 1 (0 for a root) and the kind of the bond to it; and each atom's walk number plus 1.
+pub fn walk(
+    bonds: &[i32],
+    n: usize,
+    m: usize,
+    order: &mut [u16],
+    number: &mut [u16],
+    up: &mut [u16],
+    kind: &mut [u8],
+)
+    requires { ⌜ BondsFit (now bonds) n m ⌝ }
+    requires { ⌜ Room (now order) (now number) (now up) (now kind) ⌝ }
+    requires { ⌜ now number ≡ replicate (length (now number)) 0 ⌝ }
+    ensures { λ _. ⌜ Walked (now (bonds .entry)) n m (now (order .exit)) (now (number .exit)) (now (up .exit)) (now (kind .exit)) ⌝ }
+{
+    let mut count = 0;
+    let mut a = 0;
+    while a < n {
+        count = root(bonds, n, m, order, number, up, kind, AtomId(a), count);
+        a += 1;
+    }
 }

@@ -1,20 +1,19 @@
 -- The walk over the bonds that were read finds the same forest, numbered in preorder. Assumes nothing.
 use mathlib.Core.Path.{_≡_, refl, sym, ap, _∙_, subst}
-use mathlib.Core.Bool.{Bool, true, false, _&&_, _||_, cond, not}
-use mathlib.Core.List.{List, [], _∷_, _++_, map, append-assoc, append-nil}
+use mathlib.Core.Bool.{Bool, true, false, _&&_, _||_, cond}
+use mathlib.Core.List.{List, [], _∷_, _++_, map, append-assoc}
 use Prim.Native.Nat.{ℕ, zero, suc, _+_, _≤_, _<_}
 use native.Mathlib.Omega.{arith}
-use native.Mathlib.Nat.{zero-add}
-use lib.Dec.{eqb, ltb, leb}
+use lib.Dec.{eqb, ltb}
 use lib.ListN.{length, length-append}
-use borrow.Author.Tests.{eq-eqb, ne-eqb, eqb-true, eqb-false, lt-ltb, ltb-true, ltb-false, leb-true, leb-false, le-leb, lt-leb, le-ltb}
-use Rattle.walk.specs.Token.{Bond, bond, eqBond, joined, Hook, St, st, run, start, shut}
-use Rattle.walk.specs.Emit.{Forest, leaf, node, size, pre, text, done, doneAll, tree, trees}
-use Rattle.walk.specs.Walk.{Way, way, member, ways, tour, walk, roots, forestOf, place, renumber, remove, removeAll, keepIf, keep, sweep, closing, opening, relabel, renumbered, unused, write}
-use Rattle.walk.proofs.Count.{bit, count, count-append, and-left, and-right, never, eqb-same, bond-same, bond-eq, All, none, more, all-map, all-append, nobody, all-of}
-use Rattle.walk.proofs.Read.{Back, Tri, below, same, above, tri, closes-at, ClosesAt}
-use Rattle.walk.proofs.Walk.{times, range, Once, once-cast, once-add, absent, present, member-append, Dfs, end, skip, visit, Bounded, Inside, ways-bounded, roots-bounded, forest-dfs, dfs-same}
-use Rattle.walk.proofs.Trip.{dfs-all, placed, place-lt, place-inj, size-length, all-has, all-removeAll}
+use borrow.Author.Tests.{ne-eqb, eqb-true, eqb-false, ltb-true, ltb-false}
+use Rattle.walk.specs.Token.{Bond, bond, eqBond}
+use Rattle.walk.specs.Emit.{Forest, leaf, node, size, pre, done, doneAll}
+use Rattle.walk.specs.Walk.{Way, way, member, ways, roots, place, renumber}
+use Rattle.walk.proofs.Count.{bit, count, count-append, eqb-same, bond-same, All, none, more, all-map, all-append}
+use Rattle.walk.proofs.Read.{Back, below, closes-at, ClosesAt}
+use Rattle.walk.proofs.Walk.{times, range, Once, Dfs, end, skip, visit, Inside}
+use Rattle.walk.proofs.Trip.{dfs-all, placed, place-inj, size-length, all-has}
 
 -- the forest with its preorder numbers for atoms
 abbrev pub number : Forest → ℕ → Forest

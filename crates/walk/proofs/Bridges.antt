@@ -1,18 +1,17 @@
 -- The bridge numbers stay below a bound exactly if no more bridges are ever open at once. Assumes nothing.
-use mathlib.Core.Path.{_≡_, refl, sym, ap, _∙_, subst}
-use mathlib.Core.Bool.{Bool, true, false, _&&_, _||_, cond, not}
-use mathlib.Core.List.{List, [], _∷_, _++_, map, append-assoc, append-nil}
+use mathlib.Core.Path.{_≡_, refl, ap, _∙_, subst}
+use mathlib.Core.Bool.{Bool, true, false, cond}
+use mathlib.Core.List.{List, [], _∷_, _++_}
 use Prim.Native.Nat.{ℕ, zero, suc, _+_, _≤_, _<_}
 use native.Mathlib.Omega.{arith}
-use native.Mathlib.Nat.{zero-add}
 use lib.ListN.{length}
 use lib.Dec.{eqb, ltb}
 use borrow.Author.Tests.{eqb-true, eqb-false, ltb-true, ltb-false}
 use Rattle.walk.specs.Token.{Bond, eqBond, Tok, apart, along, ring, branch, back}
 use Rattle.walk.specs.Emit.{Forest, leaf, node, size, Slot, free, held, lowest, insert, find, release, closeAll, closeToks, openAll, openToks, wrap, rings, ringToks, after, toks, text}
 use Rattle.walk.specs.Walk.{forestOf, relabel, closing, opening, unused, write}
-use Rattle.walk.proofs.Count.{bit, count, count-append, All, none, more, all-append}
-use Rattle.walk.proofs.Read.{Back, Inv, openOf, pending, inv-rings, inv-after, open-count, close-count, closes-within, Within, first-in, close-within, insert-count}
+use Rattle.walk.proofs.Count.{bit, count, All, none, more, all-append}
+use Rattle.walk.proofs.Read.{Back, Inv, openOf, pending, inv-rings, inv-after, open-count, closes-within, Within, first-in, close-within, insert-count}
 use Rattle.walk.proofs.Whole.{inv-start}
 use Rattle.walk.proofs.Walk.{Inside}
 use Rattle.walk.proofs.Trip.{back-of, inside-unused}

@@ -1,22 +1,21 @@
 -- What is written is read without a refusal, if it is within the limits. Assumes nothing.
 use mathlib.Core.Path.{_≡_, refl, sym, ap, _∙_, subst}
 use mathlib.Core.Bool.{Bool, true, false, _&&_, _||_, cond, not}
-use mathlib.Core.List.{List, [], _∷_, _++_, map, append-assoc, append-nil}
-use Prim.Native.Nat.{ℕ, zero, suc, _+_, _≤_, _<_}
+use mathlib.Core.List.{List, [], _∷_, _++_, map}
+use Prim.Native.Nat.{ℕ, suc, _+_, _≤_, _<_}
 use native.Mathlib.Omega.{arith}
-use native.Mathlib.Nat.{zero-add}
-use lib.Dec.{eqb, ltb, leb}
-use lib.ListN.{length, length-append, getD}
-use borrow.Author.Tests.{eq-eqb, ne-eqb, eqb-true, eqb-false, lt-ltb, ltb-true, ltb-false, leb-true, leb-false, le-leb, lt-leb, le-ltb}
-use Rattle.walk.specs.Token.{Bond, bond, eqBond, joined, Tok, apart, along, ring, branch, back, Hook, vacant, at, hookAt, hang, meet, bridge, step, St, st, run, start, shut}
-use Rattle.walk.specs.Emit.{Forest, leaf, node, size, pre, Slot, lowest, insert, find, release, closeAll, closeToks, openAll, openToks, wrap, rings, ringToks, after, text, toks, done, doneAll, hubAfter, endHub}
+use lib.Dec.{eqb, ltb}
+use lib.ListN.{length}
+use borrow.Author.Tests.{eq-eqb, ne-eqb, eqb-true, lt-ltb}
+use Rattle.walk.specs.Token.{Bond, bond, joined, Tok, apart, along, ring, branch, back, Hook, vacant, at, hookAt, meet, bridge, step, St, st, run, start}
+use Rattle.walk.specs.Emit.{Forest, leaf, node, size, pre, Slot, lowest, insert, find, release, closeAll, closeToks, openToks, wrap, rings, ringToks, after, text, toks, done, hubAfter, endHub}
 use Rattle.walk.specs.Walk.{forestOf, renumber, closing, opening, relabel, renumbered, unused, write}
-use Rattle.walk.specs.Check.{ends, some, clash, refusedBridge, refusal, Res, fine, refused, orNumber, reading, nests}
-use Rattle.walk.proofs.Count.{bit, count, count-append, and-left, and-right, never, eqb-same, bond-same, bond-eq, All, none, more, all-map, all-append, nobody, all-of}
-use Rattle.walk.proofs.Read.{run-append, Back, Inv, hook, hooks, openOf, hang-at, lowest-vacant, bridged, read-closes, read-opens, read-rings, read-body, read-wrap, read-kids, inv-rings, inv-after, closes-at, closes-within, opens-at}
+use Rattle.walk.specs.Check.{ends, some, clash, refusedBridge, refusal, fine, orNumber, reading, nests}
+use Rattle.walk.proofs.Count.{bit, count, count-append, and-left, and-right, never, All, none, more, all-map, nobody}
+use Rattle.walk.proofs.Read.{Back, Inv, hooks, hang-at, lowest-vacant, bridged, read-closes, read-rings, read-body, read-wrap, read-kids, inv-rings, inv-after, closes-at, closes-within, opens-at}
 use Rattle.walk.proofs.Whole.{inv-start}
-use Rattle.walk.proofs.Walk.{times, Once, Inside}
-use Rattle.walk.proofs.Trip.{back-of, Renumbering, renumbering, inside-unused, completed, Returned, round-trip}
+use Rattle.walk.proofs.Walk.{Inside}
+use Rattle.walk.proofs.Trip.{back-of, renumbering, inside-unused, completed, round-trip}
 use Rattle.walk.proofs.Twice.{Distinct, count-map, distinct-map, completed-inside}
 
 -- the symbols at the ends of the bridges agree
@@ -189,7 +188,7 @@ some-count p (b ∷ l) h = go (p b) h (some-count p l)
     go true h f = absurd (omega arith)
     go false h f = f (omega arith)
 
-length-count : (l : List Bond) → length l ≡ count (λ b. true) l
+pub length-count : (l : List Bond) → length l ≡ count (λ b. true) l
 length-count [] = refl
 length-count (b ∷ l) = omega (arith, length-count l)
 

@@ -1,13 +1,13 @@
 -- Counting: two lists hold the same if every test counts the same in both
-use mathlib.Core.Path.{_≡_, refl, sym, ap, _∙_}
-use mathlib.Core.Bool.{Bool, true, false, _&&_, cond, not}
-use mathlib.Core.List.{List, [], _∷_, _++_, map}
-use Prim.Native.Nat.{ℕ, zero, suc, _+_, _≤_, _<_}
+use mathlib.Core.Path.{_≡_, refl, ap}
+use mathlib.Core.Bool.{Bool, true, false, _&&_, not}
+use mathlib.Core.List.{List, [], _∷_, _++_}
+use Prim.Native.Nat.{ℕ, zero, suc, _+_, _<_}
 use native.Mathlib.Omega.{arith}
-use native.Mathlib.Nat.{zero-add}
-use lib.Dec.{eqb, ltb}
-use borrow.Author.Tests.{eq-eqb, ne-eqb, eqb-true, eqb-false}
-use Rattle.walk.specs.Token.{Bond, bond, eqBond}
+use lib.Dec.{eqb}
+use lib.ListN.{length, getD}
+use borrow.Author.Tests.{eq-eqb, eqb-true}
+use Rattle.walk.specs.Token.{Bond, eqBond}
 
 abbrev pub bit : Bool → ℕ
 bit true = 1
@@ -33,6 +33,12 @@ module _ {A : Type 0} where
   pub all-append : (P : A → Type 0) (l m : List A) → All P l → All P m → All P (l ++ m)
   all-append P [] m none b = b
   all-append P (x ∷ l) m (more h a) b = more h (all-append P l m a b)
+
+  -- what holds of each holds at each place
+  pub all-at : (P : A → Type 0) (d : A) (l : List A) (i : ℕ) → All P l → i < length l → P (getD l i d)
+  all-at P d [] i none h = absurd (omega arith)
+  all-at P d (x ∷ l) zero (more g a) h = g
+  all-at P d (x ∷ l) (suc i) (more g a) h = all-at P d l i a (omega arith)
 
   -- a test that counts nobody
   pub nobody : (p q : A → Bool) (N : List A) → All (λ b. (p b && q b) ≡ false) N → count (λ b. p b && q b) N ≡ 0

@@ -1,15 +1,15 @@
 -- The round trip in one statement. Assumes nothing.
-use mathlib.Core.Path.{_≡_, refl, sym, ap, _∙_, subst}
-use mathlib.Core.Bool.{Bool, true, false}
-use mathlib.Core.List.{List, [], _∷_, _++_, map}
-use Prim.Native.Nat.{ℕ, zero, suc, _+_, _≤_, _<_}
+use mathlib.Core.Path.{_≡_, refl, sym, ap, _∙_}
+use mathlib.Core.Bool.{true}
+use mathlib.Core.List.{List, [], map}
+use Prim.Native.Nat.{ℕ, _≤_}
 use lib.ListN.{length}
-use Rattle.walk.specs.Token.{Bond, Tok, Hook, St, st, run, start, shut}
-use Rattle.walk.specs.Emit.{Forest, pre}
+use Rattle.walk.specs.Token.{Bond, Hook, St, st, start, shut}
+use Rattle.walk.specs.Emit.{pre}
 use Rattle.walk.specs.Walk.{forestOf, renumber, renumbered, write}
-use Rattle.walk.specs.Check.{Res, fine, reading, nests, accepted}
+use Rattle.walk.specs.Check.{fine, reading, nests, accepted}
 use Rattle.walk.proofs.Walk.{range, Inside}
-use Rattle.walk.proofs.Trip.{Renumbering, renumbering, completed, Returned, round-trip}
+use Rattle.walk.proofs.Trip.{Renumbering, renumbering, completed, round-trip}
 use Rattle.walk.proofs.Twice.{Distinct, atomsOf, bondsOf, countOf, rewrite, write-read-write, order-again}
 use Rattle.walk.proofs.Checked.{read-written}
 use Rattle.walk.proofs.Grammar.{written-grammar}

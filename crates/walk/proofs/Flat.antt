@@ -1,13 +1,12 @@
 -- The rows in walk order give the tokens of the forest. Assumes nothing.
-use mathlib.Core.Path.{_≡_, refl, sym, ap, _∙_, subst}
-use mathlib.Core.Bool.{Bool, true, false, _&&_, cond}
-use mathlib.Core.List.{List, [], _∷_, _++_, map, append-assoc, append-nil}
-use Prim.Native.Nat.{ℕ, zero, suc, _+_, _≤_, _<_}
+use mathlib.Core.Path.{_≡_, refl, sym, ap, _∙_}
+use mathlib.Core.Bool.{Bool}
+use mathlib.Core.List.{List, [], _∷_, _++_, append-assoc}
+use Prim.Native.Nat.{ℕ, suc, _+_}
 use native.Mathlib.Omega.{arith}
-use Rattle.walk.specs.Token.{Bond, bond, Tok, apart, along, ring, branch, back}
+use Rattle.walk.specs.Token.{Bond, Tok, apart, along, branch, back}
 use Rattle.walk.specs.Emit.{Forest, leaf, node, size, Slot, wrap, rings, ringToks, after, toks, text}
-use Rattle.walk.specs.Walk.{forestOf, relabel, closing, opening, unused, write}
-use Rattle.walk.specs.Flat.{Stand, root, first, later, Row, row, some?, rows, rootRows, child, lead, flat}
+use Rattle.walk.specs.Flat.{Stand, root, first, later, Row, some?, rows, rootRows, child, lead, flat}
 
 -- a branch is left before the next child
 abbrev leaving : Forest → List Tok

@@ -1,10 +1,10 @@
 -- What is written is in the grammar of tokens. Assumes nothing.
-use mathlib.Core.Path.{_≡_, refl, sym, ap, _∙_, subst}
-use mathlib.Core.Bool.{Bool, true, false, _&&_, _||_, cond, not}
-use mathlib.Core.List.{List, [], _∷_, _++_, map, append-assoc, append-nil}
-use Prim.Native.Nat.{ℕ, zero, suc, _+_, _≤_, _<_}
-use Rattle.walk.specs.Token.{Bond, Tok, apart, along, ring, branch, back}
-use Rattle.walk.specs.Emit.{Forest, leaf, node, size, Slot, closeAll, closeToks, openAll, openToks, insert, release, wrap, rings, ringToks, after, toks, text}
+use mathlib.Core.Path.{_≡_, refl, ap, _∙_}
+use mathlib.Core.Bool.{true, false}
+use mathlib.Core.List.{List, [], _∷_, _++_, append-assoc}
+use Prim.Native.Nat.{ℕ, zero, suc, _+_}
+use Rattle.walk.specs.Token.{Bond, Tok, along, back}
+use Rattle.walk.specs.Emit.{Forest, leaf, node, size, Slot, closeAll, closeToks, openToks, insert, release, wrap, rings, ringToks, after, toks, text}
 use Rattle.walk.specs.Walk.{forestOf, relabel, closing, opening, unused, write}
 use Rattle.walk.specs.Check.{grammar, accepted}
 

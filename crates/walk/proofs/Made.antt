@@ -1,17 +1,17 @@
 -- What holds of every atom's payload and of every bond's kind holds in every written token. Assumes nothing.
-use mathlib.Core.Path.{_≡_, refl, sym, ap, _∙_, subst}
+use mathlib.Core.Path.{_≡_, ap}
 use mathlib.Core.Bool.{Bool, true, false, cond}
 use mathlib.Core.List.{List, [], _∷_, _++_, map}
 use Prim.Native.Nat.{ℕ, zero, suc, _+_, _≤_, _<_}
 use native.Mathlib.Omega.{arith}
 use lib.Dec.{eqb, ltb}
-use Rattle.walk.specs.Token.{Bond, bond, eqBond, joined, Tok, apart, along, ring, branch, back}
-use Rattle.walk.specs.Emit.{Forest, leaf, node, size, pre, Slot, lowest, insert, find, release, closeAll, closeToks, openAll, openToks, wrap, rings, ringToks, after, toks, text, tree, trees}
+use Rattle.walk.specs.Token.{Bond, bond, eqBond, Tok, apart, along, ring, branch, back}
+use Rattle.walk.specs.Emit.{Forest, leaf, node, size, pre, Slot, lowest, insert, find, release, closeAll, closeToks, openToks, wrap, rings, ringToks, after, toks, text, tree, trees}
 use Rattle.walk.specs.Walk.{forestOf, place, renumber, keep, sweep, closing, opening, relabel, renumbered, unused, removeAll, write}
 use Rattle.walk.specs.Flat.{kinds}
 use Rattle.walk.proofs.Count.{bit, count, bond-same, All, none, more, all-map, all-append}
 use Rattle.walk.proofs.Walk.{Inside}
-use Rattle.walk.proofs.Trip.{all-has, all-keep, all-removeAll, Renumbering, renumbering, within}
+use Rattle.walk.proofs.Trip.{all-has, all-keep, all-removeAll, renumbering, within, completed, round-trip}
 use Rattle.walk.proofs.Bridges.{all-left, all-right}
 
 -- P of the payload and Q of the kind
@@ -115,3 +115,12 @@ module _ (P Q : ℕ → Type 0) (zeroth : Q 0) where
       let t : All K (trees F 0) = all-counted (trees F 0) (λ b h. all-has K R r b (let q = w b in omega arith)) in
       text-made (closing n N) (opening n N) (λ x. all-sweep (λ b. b .hi) (keep (λ b. eqb (b .lo) x) N) 0 n (all-keep K (λ b. eqb (b .lo) x) N (all-removeAll K (trees F 0) R r))) pay F 0 []
       (all-map (λ v. v < n) (λ v. P (pay v)) p (pre F) (renumbering n bs i .inside)) (trees-kinds F 0 t)
+
+  -- the same of the bonds as they are completed
+  pub completed-made : (n : ℕ) (bs : List Bond) → Inside n bs → All K bs → All K (completed n bs)
+  unfolding renumbered
+  completed-made n bs i a =
+      let R = map (renumber (pre (forestOf n bs))) bs in
+      let r : All K R = all-renumber (pre (forestOf n bs)) bs a in
+      let c : (p : Bond → Bool) → count p (completed n bs) ≡ count p R = round-trip n (λ v. v) bs i .bonds in
+      all-counted (completed n bs) (λ b h. all-has K R r b (let q = c (eqBond b) in omega arith))

@@ -1,9 +1,9 @@
 -- Tokens of other payloads are the tokens of the atoms' numbers, payload by payload. Assumes nothing.
-use mathlib.Core.Path.{_≡_, refl, sym, ap, _∙_, subst}
+use mathlib.Core.Path.{_≡_, refl, sym, ap, _∙_}
 use mathlib.Core.List.{List, [], _∷_, _++_, map}
-use Prim.Native.Nat.{ℕ, zero, suc, _+_}
+use Prim.Native.Nat.{ℕ, suc, _+_}
 use Rattle.walk.specs.Token.{Bond, Tok, apart, along, ring, branch, back}
-use Rattle.walk.specs.Emit.{Forest, leaf, node, size, Slot, lowest, insert, find, release, closeAll, closeToks, openAll, openToks, wrap, rings, ringToks, after, toks, text}
+use Rattle.walk.specs.Emit.{Forest, leaf, node, size, Slot, lowest, insert, find, release, closeAll, closeToks, openToks, wrap, rings, ringToks, after, toks, text}
 use Rattle.walk.specs.Walk.{forestOf, relabel, closing, opening, unused, write}
 use Rattle.walk.proofs.Trip.{size-relabel}
 

@@ -1,14 +1,14 @@
 -- Lists that every test counts alike are permutations of each other. Assumes nothing.
-use mathlib.Core.Path.{_≡_, refl, sym, ap, _∙_, subst}
-use mathlib.Core.Bool.{Bool, true, false, _&&_, cond}
-use mathlib.Core.List.{List, [], _∷_, _++_, map}
-use Prim.Native.Nat.{ℕ, zero, suc, _+_, _≤_, _<_}
+use mathlib.Core.Path.{_≡_, refl, ap, subst}
+use mathlib.Core.Bool.{Bool, true, false, cond}
+use mathlib.Core.List.{List, [], _∷_}
+use Prim.Native.Nat.{ℕ, _+_, _<_}
 use native.Mathlib.Omega.{arith}
-use Rattle.walk.specs.Token.{Bond, bond, eqBond, St, st, run, start}
-use Rattle.walk.specs.Walk.{remove, renumbered, write}
-use Rattle.walk.proofs.Count.{bit, count, count-append, bond-same, bond-eq}
+use Rattle.walk.specs.Token.{Bond, eqBond}
+use Rattle.walk.specs.Walk.{remove, renumbered}
+use Rattle.walk.proofs.Count.{bit, count, bond-same, bond-eq}
 use Rattle.walk.proofs.Walk.{Inside}
-use Rattle.walk.proofs.Trip.{remove-count, completed, Returned, round-trip}
+use Rattle.walk.proofs.Trip.{remove-count, completed, round-trip}
 
 pub data Perm : List Bond → List Bond → Type 0 where
   nil : Perm [] []

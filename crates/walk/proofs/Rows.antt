@@ -1,12 +1,11 @@
 -- The rows of a forest from its lists of atoms, kinds and parents in walk order. Assumes nothing.
-use mathlib.Core.Path.{_≡_, refl, sym, ap, _∙_, subst}
-use mathlib.Core.Bool.{Bool, true, false, _&&_, _||_, cond}
-use mathlib.Core.List.{List, [], _∷_, _++_, map, append-assoc, append-nil}
-use Prim.Native.Nat.{ℕ, zero, suc, _+_, _≤_, _<_}
+use mathlib.Core.Path.{_≡_, refl, sym, ap, _∙_}
+use mathlib.Core.Bool.{Bool, true, false, _||_}
+use mathlib.Core.List.{List, [], _∷_, _++_, append-assoc, append-nil}
+use Prim.Native.Nat.{ℕ, suc, _+_, _≤_}
 use native.Mathlib.Omega.{arith}
-use lib.Dec.{eqb}
-use borrow.Author.Tests.{eq-eqb, ne-eqb, eqb-true, eqb-false}
-use Rattle.walk.specs.Token.{Bond, Tok}
+use borrow.Author.Tests.{ne-eqb}
+use Rattle.walk.specs.Token.{Bond}
 use Rattle.walk.specs.Emit.{Forest, leaf, node, size, pre, Slot, text}
 use Rattle.walk.specs.Walk.{member}
 use Rattle.walk.specs.Flat.{Stand, root, first, later, Row, row, some?, rows, rootRows, flat, kinds, ups, standOf, rowsOf}

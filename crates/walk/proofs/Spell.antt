@@ -1,12 +1,12 @@
 -- Following the signs of tokens is running the tokens. Assumes nothing.
-use mathlib.Core.Path.{_≡_, refl, sym, ap, _∙_, subst}
-use mathlib.Core.List.{List, [], _∷_, _++_, map, append-assoc, append-nil}
+use mathlib.Core.Path.{_≡_, refl, ap, _∙_}
+use mathlib.Core.List.{List, [], _∷_, _++_}
 use Prim.Native.Nat.{ℕ, zero, suc, _+_, _≤_, _<_}
 use native.Mathlib.Omega.{arith}
 use Rattle.walk.specs.Token.{Bond, Tok, apart, along, ring, branch, back, Hook, vacant, at, hookAt, bridge, St, st, step, run, start}
 use Rattle.walk.specs.Emit.{Forest, leaf, node, size, rings, ringToks, after, toks, text}
 use Rattle.walk.specs.Walk.{forestOf, relabel, closing, opening, unused, write}
-use Rattle.walk.specs.Spell.{Sign, anAtom, symbol, dot, digit, paren, unparen, Pend, nothing, dotted, bonded, Half, half, nextOf, plainAtom, atomAfter, bridgeAfter, signStep, follow, spell, spellAll, signs}
+use Rattle.walk.specs.Spell.{Sign, nothing, Half, half, nextOf, plainAtom, signStep, follow, spell, spellAll, signs}
 
 follow-append : (a b : List Sign) (x : Half) → follow (a ++ b) x ≡ follow b (follow a x)
 follow-append [] b x = refl

@@ -1,17 +1,17 @@
 -- What is summed over the bonds at an atom (its bond sum) is the same after the round trip. Assumes nothing.
-use mathlib.Core.Path.{_≡_, refl, sym, ap, _∙_, subst}
-use mathlib.Core.Bool.{Bool, true, false, _&&_, _||_, cond}
-use mathlib.Core.List.{List, [], _∷_, _++_, map}
-use Prim.Native.Nat.{ℕ, zero, suc, _+_, _≤_, _<_}
+use mathlib.Core.Path.{_≡_, refl, ap, _∙_}
+use mathlib.Core.Bool.{Bool, true, false, _||_, cond}
+use mathlib.Core.List.{List, [], _∷_, map}
+use Prim.Native.Nat.{ℕ, _+_, _<_}
 use native.Mathlib.Omega.{arith}
 use lib.Dec.{eqb, ltb}
 use borrow.Author.Tests.{eq-eqb, ne-eqb, eqb-true, eqb-false}
-use Rattle.walk.specs.Token.{Bond, bond, joined}
-use Rattle.walk.specs.Emit.{Forest, pre}
+use Rattle.walk.specs.Token.{Bond, bond}
+use Rattle.walk.specs.Emit.{pre}
 use Rattle.walk.specs.Walk.{forestOf, place, renumber, renumbered}
-use Rattle.walk.proofs.Count.{All, none, more}
+use Rattle.walk.proofs.Count.{none, more}
 use Rattle.walk.proofs.Walk.{times, Inside}
-use Rattle.walk.proofs.Trip.{place-inj, Renumbering, renumbering, completed}
+use Rattle.walk.proofs.Trip.{place-inj, renumbering, completed}
 use Rattle.walk.proofs.Perm.{Perm, nil, cons, swap, trans, bonds-permuted}
 
 abbrev pub total : (Bond → ℕ) → List Bond → ℕ
@@ -45,7 +45,7 @@ module _ (n : ℕ) (order : List ℕ) (all : (v : ℕ) → v < n → 0 < times v
   or-turn false true = refl
   or-turn false false = refl
 
-  weight-place : (b : Bond) → (b .lo < b .hi) × (b .hi < n) → weightAt wt (place order v) (renumber order b) ≡ weightAt wt v b
+  pub weight-place : (b : Bond) → (b .lo < b .hi) × (b .hi < n) → weightAt wt (place order v) (renumber order b) ≡ weightAt wt v b
   weight-place b i = go (ltb (place order (b .lo)) (place order (b .hi)))
     where
       e1 : eqb (place order (b .lo)) (place order v) ≡ eqb (b .lo) v
@@ -58,7 +58,7 @@ module _ (n : ℕ) (order : List ℕ) (all : (v : ℕ) → v < n → 0 < times v
       go true = λ j. cond (e1 j || e2 j) (wt (b .kind)) 0
       go false = (λ j. cond (e2 j || e1 j) (wt (b .kind)) 0) ∙ ap (λ (x : Bool). cond x (wt (b .kind)) 0) (or-turn (eqb (b .hi) v) (eqb (b .lo) v))
 
-  sum-place : (bs : List Bond) → Inside n bs → bondSum wt (place order v) (map (renumber order) bs) ≡ bondSum wt v bs
+  pub sum-place : (bs : List Bond) → Inside n bs → bondSum wt (place order v) (map (renumber order) bs) ≡ bondSum wt v bs
   sum-place [] none = refl
   sum-place (b ∷ bs) (more i a) = λ j. weight-place b i j + sum-place bs a j
 

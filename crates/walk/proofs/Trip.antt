@@ -1,20 +1,19 @@
 -- Reading what was written gives the molecule under the walk's renumbering. Assumes nothing.
 use mathlib.Core.Path.{_≡_, refl, sym, ap, _∙_, subst}
-use mathlib.Core.Bool.{Bool, true, false, _&&_, _||_, cond, not}
+use mathlib.Core.Bool.{Bool, true, false, _&&_, cond}
 use mathlib.Core.List.{List, [], _∷_, _++_, map, append-assoc, append-nil}
 use Prim.Native.Nat.{ℕ, zero, suc, _+_, _≤_, _<_}
 use native.Mathlib.Omega.{arith}
-use native.Mathlib.Nat.{zero-add}
-use lib.Dec.{eqb, ltb, leb}
+use lib.Dec.{eqb, ltb}
 use lib.ListN.{length, length-append}
-use borrow.Author.Tests.{eq-eqb, ne-eqb, eqb-true, eqb-false, lt-ltb, ltb-true, ltb-false, leb-true, leb-false, le-leb, lt-leb, le-ltb}
-use Rattle.walk.specs.Token.{Bond, bond, eqBond, joined, Hook, St, st, run, start, shut}
-use Rattle.walk.specs.Emit.{Forest, leaf, node, size, pre, text, done, doneAll, tree, trees}
-use Rattle.walk.specs.Walk.{Way, way, member, ways, tour, walk, roots, forestOf, place, renumber, remove, removeAll, keepIf, keep, sweep, closing, opening, relabel, renumbered, unused, write}
-use Rattle.walk.proofs.Count.{bit, count, count-append, and-left, and-right, never, eqb-same, bond-same, bond-eq, All, none, more, all-map, all-append, nobody, all-of}
+use borrow.Author.Tests.{eq-eqb, ne-eqb, eqb-true, eqb-false, lt-ltb, le-ltb}
+use Rattle.walk.specs.Token.{Bond, bond, eqBond, Hook, st, run, start, shut}
+use Rattle.walk.specs.Emit.{Forest, leaf, node, size, pre, done, doneAll, tree, trees}
+use Rattle.walk.specs.Walk.{Way, way, member, ways, roots, forestOf, place, renumber, remove, removeAll, keepIf, keep, sweep, closing, opening, relabel, renumbered, unused, write}
+use Rattle.walk.proofs.Count.{bit, count, count-append, eqb-same, bond-same, bond-eq, All, none, more, all-map, all-append, nobody}
 use Rattle.walk.proofs.Read.{Back, Tri, below, same, above, tri}
-use Rattle.walk.proofs.Whole.{before-suc, and-sum, and-true, and-false, count-all, Readback, readback}
-use Rattle.walk.proofs.Walk.{times, Once, once-cast, once-add, absent, present, member-append, Dfs, end, skip, visit, Bounded, Inside, ways-bounded, roots-bounded, forest-dfs, dfs-same}
+use Rattle.walk.proofs.Whole.{before-suc, and-sum, and-true, and-false, count-all, readback}
+use Rattle.walk.proofs.Walk.{times, Once, once-cast, once-add, present, Dfs, end, skip, visit, Bounded, Inside, ways-bounded, roots-bounded, forest-dfs}
 
 -- each atom once
 pub dfs-once : (bs : List Bond) {cs : List Way} {s : List ℕ} {f : Forest} → Dfs bs cs s f → Once s → Once (s ++ pre f)

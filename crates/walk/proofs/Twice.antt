@@ -1,22 +1,22 @@
 -- Writing what was read from a written text gives the same tokens. Assumes nothing.
-use mathlib.Core.Path.{_≡_, refl, sym, ap, _∙_, subst, fun-ext}
-use mathlib.Core.Bool.{Bool, true, false, _&&_, _||_, cond, not}
+use mathlib.Core.Path.{_≡_, refl, sym, ap, _∙_, fun-ext}
+use mathlib.Core.Bool.{Bool, true, false, _&&_, cond}
 use mathlib.Core.List.{List, [], _∷_, _++_, map, append-assoc, append-nil}
 use Prim.Native.Nat.{ℕ, zero, suc, _+_, _≤_, _<_}
 use native.Mathlib.Omega.{arith}
 use native.Mathlib.Nat.{zero-add}
-use lib.Dec.{eqb, ltb, leb}
+use lib.Dec.{eqb, ltb}
 use lib.ListN.{length, length-append, getD}
-use borrow.Author.Tests.{eq-eqb, ne-eqb, eqb-true, eqb-false, lt-ltb, ltb-true, ltb-false, leb-true, leb-false, le-leb, lt-leb, le-ltb}
-use Rattle.walk.specs.Token.{Bond, bond, eqBond, joined, Tok, Hook, St, st, run, start, shut}
+use borrow.Author.Tests.{eq-eqb, eqb-true, eqb-false, lt-ltb}
+use Rattle.walk.specs.Token.{Bond, bond, eqBond, Tok, St, st, run, start}
 use Rattle.walk.specs.Emit.{Forest, leaf, node, size, pre, text, done, doneAll, tree, trees}
-use Rattle.walk.specs.Walk.{Way, way, member, ways, tour, walk, roots, forestOf, place, renumber, remove, removeAll, keepIf, keep, sweep, closing, opening, relabel, renumbered, unused, write}
+use Rattle.walk.specs.Walk.{forestOf, place, renumber, removeAll, keep, sweep, closing, opening, relabel, renumbered, unused, write}
 use Rattle.walk.specs.Check.{ends}
-use Rattle.walk.proofs.Count.{bit, count, count-append, and-left, and-right, never, eqb-same, bond-same, bond-eq, All, none, more, all-map, all-append, nobody, all-of}
-use Rattle.walk.proofs.Read.{Back, Tri, below, same, above, tri}
-use Rattle.walk.proofs.Walk.{times, range, Once, Dfs, Bounded, Inside, forest-dfs, dfs-same}
-use Rattle.walk.proofs.Trip.{placed, place-lt, place-inj, size-length, keep-count, remove-all, all-removeAll, back-of, Renumbering, renumbering, within, inside-renumbered, inside-unused, completed, Returned, round-trip}
-use Rattle.walk.proofs.Again.{number, size-number, pre-number, all-both, Deep, Plain, deep-part, dfs-deep, dfs-plain, roots-plain, roots-dfs, closes-inside, done-inside, inside-mono, inside-append}
+use Rattle.walk.proofs.Count.{bit, count, and-left, and-right, bond-same, bond-eq, All, none, more, all-map}
+use Rattle.walk.proofs.Read.{Back}
+use Rattle.walk.proofs.Walk.{times, range, Inside, forest-dfs, dfs-same}
+use Rattle.walk.proofs.Trip.{place-inj, size-length, keep-count, remove-all, all-removeAll, back-of, renumbering, within, inside-unused, completed, round-trip}
+use Rattle.walk.proofs.Again.{number, size-number, pre-number, Deep, deep-part, dfs-deep, dfs-plain, roots-plain, roots-dfs, closes-inside, done-inside, inside-mono, inside-append}
 
 doneAll-inside : (N : List Bond) (c o : ℕ → List Bond) (k : Back N c o) (G : Forest) (m : ℕ) → Inside (m + size G) (doneAll c o G m)
 doneAll-inside N c o k leaf m = none
@@ -66,7 +66,7 @@ place-range a (suc d) v h g = go (eqb v a) refl (place-range (suc a) d v)
     go true y f = let z = eqb-true v a y in omega arith
     go false y f = let z = eqb-false v a y in let r = f (omega arith) (omega arith) in omega arith
 
-place-same : (n v : ℕ) → v < n → place (range 0 n) v ≡ v
+pub place-same : (n v : ℕ) → v < n → place (range 0 n) v ≡ v
 place-same n v h = let r = place-range 0 n v (omega arith) (omega arith) in omega arith
 
 renumber-same : (n : ℕ) (l : List Bond) → Inside n l → map (renumber (range 0 n)) l ≡ l

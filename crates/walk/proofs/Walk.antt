@@ -1,17 +1,15 @@
 -- The walk visits each atom once, and its tree's bonds are bonds of the molecule. Assumes nothing.
-use mathlib.Core.Path.{_≡_, refl, sym, ap, _∙_, subst}
-use mathlib.Core.Bool.{Bool, true, false, _&&_, _||_, cond, not}
-use mathlib.Core.List.{List, [], _∷_, _++_, map, append-assoc, append-nil}
+use mathlib.Core.Path.{_≡_, refl, sym, ap, subst}
+use mathlib.Core.Bool.{Bool, true, false, _||_, cond, not}
+use mathlib.Core.List.{List, [], _∷_, _++_}
 use Prim.Native.Nat.{ℕ, zero, suc, _+_, _≤_, _<_}
 use native.Mathlib.Omega.{arith}
-use native.Mathlib.Nat.{zero-add}
-use lib.Dec.{eqb, ltb, leb}
-use lib.ListN.{length}
-use borrow.Author.Tests.{eq-eqb, ne-eqb, eqb-true, eqb-false, lt-ltb, ltb-true, ltb-false, leb-true, leb-false, le-leb, lt-leb, le-ltb}
-use Rattle.walk.specs.Token.{Bond, bond, eqBond, joined}
-use Rattle.walk.specs.Emit.{Forest, leaf, node, size, pre, tree, trees}
-use Rattle.walk.specs.Walk.{Way, way, member, ways, tour, walk, roots, forestOf, place, renumber, remove, removeAll, keepIf, keep, sweep, closing, opening, relabel, renumbered, unused, write}
-use Rattle.walk.proofs.Count.{bit, count, count-append, and-left, and-right, never, eqb-same, bond-same, bond-eq, All, none, more, all-map, all-append, nobody, all-of}
+use lib.Dec.{eqb}
+use borrow.Author.Tests.{eqb-true, eqb-false}
+use Rattle.walk.specs.Token.{Bond}
+use Rattle.walk.specs.Emit.{Forest, leaf, node, pre}
+use Rattle.walk.specs.Walk.{Way, way, member, ways, tour, walk, roots, forestOf}
+use Rattle.walk.proofs.Count.{bit, count, count-append, never, eqb-same, All, none, more}
 
 -- how often v stands in the list
 abbrev pub times : ℕ → List ℕ → ℕ

@@ -1,16 +1,16 @@
 -- The whole text of a forest with further bonds, read: every bond once, nothing left open. Assumes nothing.
 use mathlib.Core.Path.{_≡_, refl, sym, ap, _∙_}
-use mathlib.Core.Bool.{Bool, true, false, _&&_, cond, not}
-use mathlib.Core.List.{List, [], _∷_, _++_, map, append-assoc, append-nil}
-use Prim.Native.Nat.{ℕ, zero, suc, _+_, _≤_, _<_}
+use mathlib.Core.Bool.{Bool, true, false, _&&_}
+use mathlib.Core.List.{List, [], _∷_, _++_}
+use Prim.Native.Nat.{ℕ, suc, _+_, _<_}
 use native.Mathlib.Omega.{arith}
 use native.Mathlib.Nat.{zero-add}
-use lib.Dec.{eqb, ltb, leb}
-use borrow.Author.Tests.{eq-eqb, ne-eqb, eqb-true, eqb-false, lt-ltb, ltb-true, ltb-false, leb-true, leb-false, le-leb, lt-leb, le-ltb}
-use Rattle.walk.specs.Token.{Bond, bond, eqBond, Tok, apart, along, ring, branch, back, Hook, vacant, at, hookAt, hang, meet, St, st, joined, bridge, step, run, shut, start}
-use Rattle.walk.specs.Emit.{Forest, leaf, node, size, pre, Slot, free, held, after, toks, text, done, doneAll, hubAfter, endHub, lastHub, tree, trees}
-use Rattle.walk.proofs.Count.{bit, count, count-append, and-left, and-right, never, eqb-same, bond-same, bond-eq, All, none, more, all-map, all-append, nobody, all-of}
-use Rattle.walk.proofs.Read.{Back, Inv, hook, hooks, openOf, pending, inv-after, read-text}
+use lib.Dec.{eqb, ltb}
+use borrow.Author.Tests.{eqb-true, eqb-false, lt-ltb, ltb-true, ltb-false, lt-leb, le-ltb}
+use Rattle.walk.specs.Token.{Bond, Hook, st, run, shut, start}
+use Rattle.walk.specs.Emit.{Forest, leaf, node, size, pre, Slot, free, held, after, text, done, doneAll, lastHub, tree, trees}
+use Rattle.walk.proofs.Count.{bit, count, count-append, All, none, more, all-map, nobody}
+use Rattle.walk.proofs.Read.{Back, Inv, hooks, openOf, pending, inv-after, read-text}
 
 -- the bonds that are closed before the atom n begins
 abbrev before : ℕ → Bond → Bool

@@ -1,11 +1,10 @@
--- Reading with refusals: the plain step, and a number where a token is refused (4 to 9); the grammar of tokens (3)
-use mathlib.Core.Path.{_≡_, refl}
+-- 01, When a call says no: reading tokens with the refusals 4 to 9, and the grammar of tokens (3)
 use mathlib.Core.Bool.{Bool, true, false, _&&_, _||_, cond, not}
-use mathlib.Core.List.{List, [], _∷_, _++_, map}
-use Prim.Native.Nat.{ℕ, zero, suc, _+_}
+use mathlib.Core.List.{List, [], _∷_}
+use Prim.Native.Nat.{ℕ, zero, suc}
 use lib.Dec.{eqb, ltb}
 use lib.ListN.{length}
-use Rattle.walk.specs.Token.{Bond, bond, eqBond, Tok, apart, along, ring, branch, back, Hook, vacant, at, hookAt, hang, meet, St, st, joined, step, run}
+use Rattle.walk.specs.Token.{Bond, Tok, apart, along, ring, branch, back, Hook, vacant, at, hookAt, St, st, joined, step}
 
 abbrev pub ends : ℕ → ℕ → Bond → Bool
 ends a c b = eqb (b .lo) a && eqb (b .hi) c
@@ -14,7 +13,7 @@ abbrev pub some : (Bond → Bool) → List Bond → Bool
 some p [] = false
 some p (b ∷ l) = p b || some p l
 
--- the symbols at a bridge's ends differ
+-- 9: "the symbols at a bridge's ends differ"
 abbrev pub clash : ℕ → ℕ → Bool
 clash j zero = false
 clash zero (suc k) = false
@@ -30,11 +29,13 @@ orNumber (suc c) r = refused (suc c)
 
 -- the most atoms, bonds and open branches
 module _ (am bm dm : ℕ) where
+  -- a bridge that closes: 5, 7, 8, 9 in this order
   abbrev pub refusedBridge : Hook → ℕ → List Bond → ℕ → ℕ
   refusedBridge vacant k bs h = 0
   refusedBridge (at u j) k bs h =
       cond (ltb (length bs) bm) (cond (eqb u h) 7 (cond (some (ends (joined u h 0 .lo) (joined u h 0 .hi)) bs) 8 (cond (clash j k) 9 0))) 5
 
+  -- the refusal of a token, or 0: 4 comes before 5; 6 at a branch
   abbrev pub refusal : Tok → St → ℕ
   refusal (apart w) (st xs bs h n hs stk) = cond (ltb n am) 0 4
   refusal (along k w) (st xs bs h n hs stk) = cond (ltb n am) (cond (ltb (length bs) bm) 0 5) 4
@@ -46,7 +47,7 @@ module _ (am bm dm : ℕ) where
   reading [] s = fine s
   reading (t ∷ ts) s = let r : Res = reading ts (step t s) in orNumber (refusal t s) r
 
-  -- no branch opens inside dm others; d branches are open
+  -- 15: no branch opens inside dm others; d branches are open
   abbrev pub nests : List Tok → ℕ → Bool
   nests [] d = true
   nests (apart w ∷ ts) d = nests ts d
@@ -71,6 +72,7 @@ grammar (back ∷ ts) zero fresh = false
 grammar (back ∷ ts) (suc d) true = false
 grammar (back ∷ ts) (suc d) false = grammar ts d false
 
+-- a text is empty or one sequence
 abbrev pub accepted : List Tok → Bool
 accepted [] = true
 accepted (t ∷ ts) = grammar (t ∷ ts) 0 true

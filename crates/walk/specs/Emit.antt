@@ -1,9 +1,7 @@
--- Emission: the tokens of any forest with any further bonds between its nodes (numbered in preorder)
-use mathlib.Core.Path.{_≡_, refl}
-use mathlib.Core.Bool.{Bool, true, false, _&&_, cond}
-use mathlib.Core.List.{List, [], _∷_, _++_, map}
-use Prim.Native.Nat.{ℕ, zero, suc, _+_}
-use lib.Dec.{eqb, ltb}
+-- 01, Writing: the tokens of any forest with any further bonds between its nodes (numbered in preorder), which become bridges
+use mathlib.Core.Bool.{cond}
+use mathlib.Core.List.{List, [], _∷_, _++_}
+use Prim.Native.Nat.{ℕ, suc, _+_}
 use Rattle.walk.specs.Token.{Bond, bond, eqBond, Tok, apart, along, ring, branch, back}
 
 -- first child and next sibling: an atom, the kind of the bond to its parent, its children, its later siblings
@@ -25,7 +23,7 @@ pub data Slot : Type 0 where
   free : Slot
   held : Bond → Slot
 
--- the lowest free place; the place that holds b
+-- "An opening takes the lowest bridge number that is not open": the lowest free place; the place that holds b
 abbrev pub lowest : List Slot → ℕ
 lowest [] = 0
 lowest (free ∷ t) = 0
@@ -50,6 +48,7 @@ abbrev pub closeAll : List Bond → List Slot → List Slot
 closeAll [] t = t
 closeAll (b ∷ c) t = closeAll c (release b t)
 
+-- closings bear no symbol: "the symbol stands at the opening end only"
 abbrev pub closeToks : List Bond → List Slot → List Tok
 closeToks [] t = []
 closeToks (b ∷ c) t = ring 0 (find b t) ∷ closeToks c (release b t)
@@ -62,13 +61,14 @@ abbrev pub openToks : List Bond → List Slot → List Tok
 openToks [] t = []
 openToks (b ∷ o) t = ring (b .kind) (lowest t) ∷ openToks o (insert b t)
 
--- all children but the last stand in branches
+-- "All children but the last stand in branches"
 abbrev pub wrap : Forest → List Tok → List Tok
 wrap leaf x = x
 wrap (node w k f g) x = branch ∷ (x ++ (back ∷ []))
 
 -- c n and o n: the bonds that close and that open at the atom n
 module _ (c o : ℕ → List Bond) where
+  -- "At an atom closings come first, then openings"; "a number closed at this atom is free" for an opening
   abbrev pub rings : ℕ → List Slot → List Slot
   rings n t = openAll (o n) (closeAll (c n) t)
 
@@ -84,12 +84,12 @@ module _ (c o : ℕ → List Bond) where
   toks leaf n t = []
   toks (node w k f g) n t = wrap g (along k w ∷ (ringToks n t ++ toks f (suc n) (rings n t))) ++ toks g (suc n + size f) (after f (suc n) (rings n t))
 
-  -- the components, each begun by an atom that is joined to nothing
+  -- "for each further piece of the molecule": the components, each begun by an atom that is joined to nothing
   abbrev pub text : Forest → ℕ → List Slot → List Tok
   text leaf n t = []
   text (node w k f g) n t = apart w ∷ ((ringToks n t ++ toks f (suc n) (rings n t)) ++ text g (suc n + size f) (after f (suc n) (rings n t)))
 
-  -- the bonds as they are completed
+  -- the bonds as they are completed: "with the child atom, or with the bridge that closes"
   abbrev pub done : Forest → ℕ → ℕ → List Bond
   done leaf h n = []
   done (node w k f g) h n = bond h n k ∷ (c n ++ (done f n (suc n) ++ done g h (suc n + size f)))

@@ -1,10 +1,9 @@
 -- Emission by rows in walk order, with no tree and no stack: what stands before an atom depends on two flags of its row
-use mathlib.Core.Path.{_≡_, refl}
-use mathlib.Core.Bool.{Bool, true, false, _&&_, cond}
-use mathlib.Core.List.{List, [], _∷_, _++_, map}
+use mathlib.Core.Bool.{Bool, true, false, cond}
+use mathlib.Core.List.{List, [], _∷_, _++_}
 use Prim.Native.Nat.{ℕ, zero, suc, _+_}
 use lib.Dec.{eqb}
-use Rattle.walk.specs.Token.{Bond, bond, Tok, apart, along, ring, branch, back}
+use Rattle.walk.specs.Token.{Bond, Tok, apart, along, branch, back}
 use Rattle.walk.specs.Emit.{Forest, leaf, node, size, Slot, rings, ringToks}
 use Rattle.walk.specs.Walk.{member}
 

@@ -1,8 +1,7 @@
 -- Tokens as signs: a bond symbol and a dot stand by themselves, and wait for the atom or the bridge that follows
-use mathlib.Core.Path.{_≡_, refl}
-use mathlib.Core.List.{List, [], _∷_, _++_, map}
-use Prim.Native.Nat.{ℕ, zero, suc, _+_}
-use Rattle.walk.specs.Token.{Bond, Tok, apart, along, ring, branch, back, St, st, step, run}
+use mathlib.Core.List.{List, [], _∷_, _++_}
+use Prim.Native.Nat.{ℕ, zero, suc}
+use Rattle.walk.specs.Token.{Tok, apart, along, ring, branch, back, St, st, step}
 
 pub data Sign : Type 0 where
   anAtom : ℕ → Sign

@@ -1,11 +1,10 @@
--- The walk: depth first, from the lowest atom not yet visited, along bonds in ascending number; and what is written
-use mathlib.Core.Path.{_≡_, refl}
-use mathlib.Core.Bool.{Bool, true, false, _&&_, _||_, cond}
+-- 01, Writing: the walk (depth first, from the lowest atom not yet visited, along bonds in ascending number), and what is written
+use mathlib.Core.Bool.{Bool, true, false, _||_, cond}
 use mathlib.Core.List.{List, [], _∷_, _++_, map}
-use Prim.Native.Nat.{ℕ, zero, suc, _+_}
-use lib.Dec.{eqb, ltb}
-use Rattle.walk.specs.Token.{Bond, bond, eqBond, Tok, apart, along, ring, branch, back, joined, run, start, St, st}
-use Rattle.walk.specs.Emit.{Forest, leaf, node, size, pre, text, tree, trees}
+use Prim.Native.Nat.{ℕ, zero, suc}
+use lib.Dec.{eqb}
+use Rattle.walk.specs.Token.{Bond, eqBond, Tok, joined}
+use Rattle.walk.specs.Emit.{Forest, leaf, node, pre, text, trees}
 
 -- a bond as it is tried from an atom: the other end and the kind
 pub record Way : Type 0 where
@@ -19,12 +18,12 @@ abbrev pub member : ℕ → List ℕ → Bool
 member v [] = false
 member v (x ∷ l) = eqb v x || member v l
 
--- the bonds at v, in ascending number
+-- "from an atom along bonds in ascending number": the bonds at v
 abbrev pub ways : ℕ → List Bond → List Way
 ways v [] = []
 ways v (b ∷ bs) = cond (eqb (b .lo) v) (way (b .hi) (b .kind) ∷ ways v bs) (cond (eqb (b .hi) v) (way (b .lo) (b .kind) ∷ ways v bs) (ways v bs))
 
--- try the ways in turn; k visits an atom's children; s: the atoms visited, in order
+-- "to atoms not yet visited, each child's part finished before the next bond is tried": the ways in turn; k visits an atom's children; s: the atoms visited, in order
 abbrev pub tour : (ℕ → List ℕ → Forest) → List Way → List ℕ → Forest
 tour k [] s = leaf
 tour k (x ∷ cs) s =
@@ -37,6 +36,7 @@ abbrev pub walk : List Bond → ℕ → ℕ → List ℕ → Forest
 walk bs zero v s = leaf
 walk bs (suc d) v s = tour (walk bs d) (ways v bs) s
 
+-- "The walk begins at the lowest atom not yet visited, and for each further piece of the molecule .. begins again"
 abbrev pub roots : ℕ → ℕ → List Way
 roots a zero = []
 roots a (suc n) = way a 0 ∷ roots (suc a) n
@@ -44,7 +44,7 @@ roots a (suc n) = way a 0 ∷ roots (suc a) n
 unfoldable pub forestOf : ℕ → List Bond → Forest
 forestOf n bs = tour (walk bs n) (roots 0 n) []
 
--- the walk number of an atom
+-- "The renumbering gives each atom's walk number"
 abbrev pub place : List ℕ → ℕ → ℕ
 place [] v = 0
 place (x ∷ l) v = cond (eqb v x) 0 (suc (place l v))
@@ -74,7 +74,7 @@ abbrev pub sweep : (Bond → ℕ) → List Bond → ℕ → ℕ → List Bond
 sweep key l a zero = []
 sweep key l a (suc d) = keep (λ b. eqb (key b) a) l ++ sweep key l (suc a) d
 
--- the bonds that close at n and that open at n, each by ascending number of the other end; m: the number of atoms
+-- the bonds that close at n and that open at n, "each by ascending walk number of the other end"; m: the number of atoms
 abbrev pub closing : ℕ → List Bond → ℕ → List Bond
 closing m l n = sweep (λ b. b .lo) (keep (λ b. eqb (b .hi) n) l) 0 m
 
@@ -85,7 +85,7 @@ abbrev pub relabel : (ℕ → ℕ) → Forest → Forest
 relabel pay leaf = leaf
 relabel pay (node w k f g) = node (pay w) k (relabel pay f) (relabel pay g)
 
--- the bonds in walk numbers; those that the walk does not use; what is written of n atoms with the payloads pay and the bonds bs
+-- the bonds in walk numbers; "Bonds the walk does not use"; what is written of n atoms with the payloads pay and the bonds bs
 unfoldable pub renumbered : ℕ → List Bond → List Bond
 renumbered n bs = map (renumber (pre (forestOf n bs))) bs
 
@@ -94,11 +94,3 @@ unused n bs = removeAll (trees (forestOf n bs) 0) (renumbered n bs)
 
 unfoldable pub write : ℕ → (ℕ → ℕ) → List Bond → List Tok
 write n pay bs = text (closing n (unused n bs)) (opening n (unused n bs)) (relabel pay (forestOf n bs)) 0 []
-
--- two rings that share a bond, with atoms out of order
-sample : List Bond
-sample = bond 0 3 1 ∷ bond 1 2 0 ∷ bond 2 3 2 ∷ bond 0 1 0 ∷ bond 3 4 0 ∷ bond 0 4 3 ∷ []
-
-sample-text : write 6 (λ v. v) sample ≡ apart 0 ∷ ring 0 0 ∷ ring 3 1 ∷ along 1 3 ∷ branch ∷ along 2 2 ∷ along 0 1 ∷ ring 0 0 ∷ back ∷ along 0 4 ∷ ring 0 1 ∷ apart 5 ∷ []
-unfolding write forestOf unused renumbered sample
-sample-text = refl

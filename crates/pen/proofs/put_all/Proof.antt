@@ -1,15 +1,11 @@
 use Prim.Native.Nat.{_-_}
 use mathlib.Core.Path.{_≡_, refl, _∙_}
 use lib.ListN.{length}
-use native.Mathlib.Omega.{arith}
 use borrow.Author.Needs.{needs}
 use Rattle.pen.specs.Pen.{pen}
 use Rattle.pen.proofs.Laws.{Laying, laying-start, laying-step, laid-all}
 use Rattle.pen.proofs.put_all.Statement.{statement}
 use Rattle.pen.proofs.put_all.Tie as tie
-use Rattle.pen.proofs.put_all.Reads as reads
-use Rattle.pen.proofs.put_all.Lts as lts
-use Rattle.pen.proofs.put.Reads as put-reads
 
 abbrev Inv-loop : tie.InvT-loop
 Inv-loop out₀ at s to₀ i₀ out to i = Laying (λ b. b) s i (pen out₀ at) (pen out to) × (length out ≡ length out₀)

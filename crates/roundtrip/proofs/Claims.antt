@@ -1,0 +1,148 @@
+-- The round trip (demand 2): reading what was written, and writing what was read, for all valid tables that writing does not refuse. Assumes nothing.
+use mathlib.Core.Path.{_≡_, refl, sym, ap, _∙_, subst}
+use mathlib.Core.Bool.{Bool, true, false}
+use mathlib.Core.List.{List, [], _∷_, map}
+use Prim.Native.Nat.{ℕ, _-_, _<_}
+use native.Mathlib.Omega.{arith}
+use lib.Dec.{leb}
+use lib.ListN.{length, getD, take, replicate}
+use lib.Seq.{take-append-seam}
+use lib.IntN.{ℤ, pos}
+use Rattle.loops.specs.Loop.{pick}
+use Rattle.loops.proofs.Loops.{length-upTo, upTo-at}
+use Rattle.graph.specs.Graph.{matchable}
+use Rattle.valence.specs.Valence.{delocalized}
+use Rattle.table.specs.Cells.{atomCell, selected}
+use Rattle.table.specs.Valid.{valid, Valid, enough}
+use Rattle.table.proofs.Valid.{facts, facts-back, enough-facts}
+use Rattle.state.specs.Limits.{maxText}
+use Rattle.reading.specs.Read.{Told, refused, placed, readOf}
+use Rattle.walk.specs.Token.{Bond, joined}
+use Rattle.walk.specs.Emit.{pre}
+use Rattle.walk.specs.Walk.{forestOf, place, renumber, renumbered}
+use Rattle.walk.proofs.Count.{none, more}
+use Rattle.walk.proofs.Walk.{Inside}
+use Rattle.walk.proofs.Trip.{completed}
+use Rattle.walk.proofs.Perm.{Perm, bonds-permuted}
+use Rattle.walk.proofs.Order.{place-below, atom-below, atom-place, place-atom}
+use Rattle.writing.specs.Write.{bondList, tokens, textOf, renumbering, fewBridges, shallow, lent, writeValid, writeOf}
+use Rattle.writing.specs.Write as write
+use Rattle.roundtrip.specs.Claims.{Writable, numbered, renamed, accepted, Same, RoundTrip, Permutes}
+use Rattle.roundtrip.proofs.Bonds.{inside}
+use Rattle.roundtrip.proofs.Back.{Molecule, ReadBack, ren, read-back, matchable-same, localized-matchable}
+use Rattle.roundtrip.proofs.Again.{text-again, identity-again}
+use Rattle.roundtrip.proofs.Rewritten.{valid-again, few-again, shallow-again}
+
+-- ---- what writing answers
+-- what is not refused is written
+pub writes : {atoms bonds : List ℤ} {n m : ℕ} → Writable atoms bonds n m → (out ren : List ℕ) → lent atoms bonds out ren ≡ true → writeOf atoms bonds n m out ren ≡ write.accepted (textOf atoms bonds n m) (renumbering bonds n m) out ren
+unfolding writeOf writeValid
+writes w out ren l = rw (l, w .tables, w .bridges, w .branches, w .bytes)
+
+all-pass : (t : write.Told) (out ren : List ℕ) (l a b c d : Bool) → pick l (pick a (pick b (pick c (pick d t (write.refused 16 out ren)) (write.refused 15 out ren)) (write.refused 14 out ren)) (write.refused 13 out ren)) (write.short out ren) .code ≡ 0
+    → (l ≡ true) × ((a ≡ true) × ((b ≡ true) × ((c ≡ true) × (d ≡ true))))
+all-pass t out ren true true true true true h = (refl, (refl, (refl, (refl, refl))))
+all-pass t out ren true true true true false h = absurd (omega arith)
+all-pass t out ren true true true false d h = absurd (omega arith)
+all-pass t out ren true true false c d h = absurd (omega arith)
+all-pass t out ren true false b c d h = absurd (omega arith)
+all-pass t out ren false a b c d h = absurd (omega arith)
+
+-- and what is written was not refused: nothing was too short, and the tables are valid
+pub written : (atoms bonds : List ℤ) (n m : ℕ) (out ren : List ℕ) → writeOf atoms bonds n m out ren .code ≡ 0 → Writable atoms bonds n m × (lent atoms bonds out ren ≡ true)
+unfolding writeOf writeValid
+written atoms bonds n m out ren h =
+    let r = all-pass (write.accepted (textOf atoms bonds n m) (renumbering bonds n m) out ren) out ren (lent atoms bonds out ren) (valid atoms bonds n m) (fewBridges (tokens bonds n m)) (shallow (tokens bonds n m)) (leb (length (textOf atoms bonds n m)) maxText) h in
+    (record { tables = r .1 .0; bridges = r .1 .1 .0; branches = r .1 .1 .1 .0; bytes = r .1 .1 .1 .1 }, r .0)
+
+-- the text stands at the front of the output
+pub written-output : {atoms bonds : List ℤ} {n m : ℕ} → Writable atoms bonds n m → (out ren : List ℕ) → lent atoms bonds out ren ≡ true → take (writeOf atoms bonds n m out ren .size) (writeOf atoms bonds n m out ren .output) ≡ textOf atoms bonds n m
+written-output {atoms} {bonds} {n} {m} w out ren l =
+    ap (λ (t : write.Told). take (t .size) (t .output)) (writes w out ren l) ∙ take-append-seam (textOf atoms bonds n m) (replicate (length out - length (textOf atoms bonds n m)) 0)
+
+-- ---- the renumbering
+number-place : (bonds : List ℤ) (n m v : ℕ) → v < n → numbered (renumbering bonds n m) v ≡ place (pre (forestOf n (bondList bonds m))) v
+unfolding renumbering
+number-place bonds n m v l = upTo-at (place (pre (forestOf n (bondList bonds m)))) n v 0 l
+
+-- THE RENUMBERING is a permutation of the atom numbers
+pub renumbering-permutes : (atoms bonds : List ℤ) (n m : ℕ) → valid atoms bonds n m ≡ true → Permutes n (renumbering bonds n m)
+unfolding renumbering
+renumbering-permutes atoms bonds n m h =
+    let walked = pre (forestOf n (bondList bonds m)) in
+    let r = ren atoms bonds n m (facts atoms bonds n m h) in
+    let e : (v : ℕ) → v < n → numbered (renumbering bonds n m) v ≡ place walked v = number-place bonds n m in
+    record {
+      long = length-upTo (place walked) 0 n;
+      below = λ v l. (let a = e v l in let b = place-below r v l in omega arith);
+      injective = λ v w l k q. sym (atom-place r v l) ∙ ap (λ (x : ℕ). getD walked x 0) (sym (e v l) ∙ q ∙ e w k) ∙ atom-place r w k;
+      onto = λ a l. (getD walked a 0, (atom-below r a l, e (getD walked a 0) (atom-below r a l) ∙ place-atom r a l));
+    }
+
+-- ---- the bonds
+renamed-list : (bonds : List ℤ) (n m : ℕ) (bs : List Bond) → Inside n bs → map (renumber (pre (forestOf n (bondList bonds m)))) bs ≡ map (renamed (renumbering bonds n m)) bs
+renamed-list bonds n m [] none = refl
+renamed-list bonds n m (b ∷ bs) (more h a) =
+    let e : place (pre (forestOf n (bondList bonds m))) (b .lo) ≡ numbered (renumbering bonds n m) (b .lo) = sym (number-place bonds n m (b .lo) (omega arith)) in
+    let f : place (pre (forestOf n (bondList bonds m))) (b .hi) ≡ numbered (renumbering bonds n m) (b .hi) = sym (number-place bonds n m (b .hi) (h .1)) in
+    λ i. joined (e i) (f i) (b .kind) ∷ renamed-list bonds n m bs a i
+
+same-of : (atoms bonds : List ℤ) (n m : ℕ) (T U : List ℤ) (p q : ℕ) → Valid atoms bonds n m → Molecule atoms bonds n m T U p q → Same atoms bonds n m T U
+unfolding renumbered
+same-of atoms bonds n m T U p q v M =
+    let bs = bondList bonds m in
+    let perm : Perm (completed n bs) (map (renumber (pre (forestOf n bs))) bs) = bonds-permuted n bs (inside v) in
+    record {
+      cells = λ w f l k. ap (λ (a : ℕ). atomCell T a f) (number-place bonds n m w l) ∙ M .cells w f l k;
+      permuted = subst (λ (l : List Bond). Perm l (map (renamed (renumbering bonds n m)) bs)) (sym (M .listed)) (subst (Perm (completed n bs)) (renamed-list bonds n m bs (inside v)) perm);
+      atoms-after = M .atoms-after;
+      bonds-after = M .bonds-after;
+    }
+
+module _ (atoms bonds : List ℤ) (n m : ℕ) (w : Writable atoms bonds n m) (A B : List ℤ) (long : enough A B ≡ true) where
+  v : Valid atoms bonds n m
+  v = facts atoms bonds n m (w .tables)
+
+  back : ReadBack atoms bonds n m A B
+  back = read-back atoms bonds n m v A B (enough-facts A B long) (w .bridges) (w .branches)
+
+  reads : readOf (textOf atoms bonds n m) A B ≡ placed (back .atoms) (back .bonds) n m
+  unfolding readOf
+  reads = rw (long, w .bytes) (back .reads)
+
+  again : {T U : List ℤ} → Molecule atoms bonds n m T U (length A) (length B) → Writable T U n m
+  again M = record {
+    tables = facts-back (valid-again atoms bonds n m v M);
+    bridges = few-again atoms bonds n m v M ∙ w .bridges;
+    branches = shallow-again atoms bonds n m v M ∙ w .branches;
+    bytes = ap (λ (s : List ℕ). leb (length s) maxText) (text-again atoms bonds n m v M) ∙ w .bytes;
+  }
+
+  -- DEMAND 2: a molecule that has a matching is read back, and written again
+  pub round-trip : matchable atoms bonds n m ≡ true → RoundTrip atoms bonds n m A B
+  round-trip h =
+      let M = back .molecule in
+      let e : matchable (back .atoms) (back .bonds) n m ≡ true = matchable-same atoms bonds n m v M ∙ h in
+      record {
+        T = back .atoms;
+        U = back .bonds;
+        told = reads ∙ ap (λ (x : Bool). pick x (accepted n m (back .atoms) (back .bonds)) (refused 11 0 (back .atoms) (back .bonds))) e;
+        same = same-of atoms bonds n m (back .atoms) (back .bonds) (length A) (length B) v M;
+        atoms-long = M .atoms-long;
+        bonds-long = M .bonds-long;
+        still-valid = facts-back (valid-again atoms bonds n m v M);
+        again = λ out ren l. writes (again M) out ren l ∙ (λ i. write.accepted (text-again atoms bonds n m v M i) (identity-again atoms bonds n m v M i) out ren);
+      }
+
+  -- DEMAND 2: the text of one that has none is refused as 11
+  pub no-matching-read : matchable atoms bonds n m ≡ false → readOf (textOf atoms bonds n m) A B ≡ refused 11 0 A B
+  no-matching-read h =
+      let M = back .molecule in
+      let e : matchable (back .atoms) (back .bonds) n m ≡ false = matchable-same atoms bonds n m v M ∙ h in
+      reads ∙ ap (λ (x : Bool). pick x (accepted n m (back .atoms) (back .bonds)) (refused 11 0 (back .atoms) (back .bonds))) e
+      ∙ (λ i. record { code = 11; offset = 0; atomCount = 0; bondCount = 0; atoms = replicate (M .atoms-long i) (pos 0); bonds = replicate (M .bonds-long i) (pos 0) })
+
+  -- a molecule in which no atom is selected, as a kekulized one, needs no more
+  pub unselected-round-trip : ((a : ℕ) → a < n → selected atoms a ≡ 0) → RoundTrip atoms bonds n m A B
+  unfolding delocalized
+  unselected-round-trip h = round-trip (localized-matchable atoms bonds n m (λ a l. rw (h a l)))
