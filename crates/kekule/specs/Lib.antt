@@ -1,3 +1,2 @@
 pub mod Kekule
 pub mod Calls
-pub mod Pairing
