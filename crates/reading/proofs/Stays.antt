@@ -9,7 +9,7 @@ use lib.ListN.{length, getD}
 use lib.Seq.{getD-set-same, getD-set-other}
 use lib.IntN.{ℤ}
 use lib.Dec.{eqb, leb}
-use borrow.Author.Tests.{leb-false}
+use borrow.Author.Tests.{leb-false, eqb-true}
 use Rattle.loops.specs.Loop.{pick}
 use Rattle.element.specs.declared.Letter.{Letter}
 use Rattle.element.specs.declared.Letter.the-variants.{Nothing}
@@ -75,6 +75,12 @@ writing charged = half-bracket
 writing colon = half-bracket
 writing (extension k) = half-bracket
 
+-- the byte b is the second letter of the atom just read
+abbrev pub Second : Last → ℕ → Type 0
+Second plain b = ⊥
+Second afterC b = b ≡ 108
+Second afterB b = b ≡ 114
+
 -- it is not among the first n
 abbrev pub After : ℕ → Writing → Memory → Type 0
 After n no-row μ = Unit {0}
@@ -136,6 +142,11 @@ complete-any : (τ : State) (n : ℕ) (ν : Memory) → n ≤ ν .st .atoms → 
 complete-any dead n ν a l f = tt
 complete-any start n ν a l f = a
 complete-any (at m d) n ν a l f = (a, after-any (writing m) n ν l f)
+
+half : (x : Last) (b n : ℕ) (μ : Memory) → After n (writing (seq x)) μ → Second x b → n ≤ μ .st .hub .0
+half plain b n μ l z = absurd z
+half afterC b n μ l z = l
+half afterB b n μ l z = l
 
 -- ---- an atom begins
 module _ {p q d i n k : ℕ} {μ : Memory} (h : Ready p q d i μ) (na : n ≤ μ .st .atoms) (kb : k ≤ μ .st .bonds) where
@@ -263,18 +274,18 @@ module _ {p q d i n k : ℕ} {μ : Memory} (h : Held p q d i μ) (na : n ≤ μ 
         same = record { rows = λ a l. ap (λ t. atomRow t a) ea; flags = λ a l. ap (λ s. getD (s .outside) a 0) es; bonds = λ b l. ap (λ t. bondRow t b) eb };
       }
 
-  second-left : (e : ℕ) → n ≤ μ .st .hub .0 → (t : Bool) → Leaves n k μ (turn (pick t (to (seq plain)) stop) d) (secondLetter e μ)
-  second-left e l true v = record { complete = (na, tt); bonds = kb; same = described-same (bareRow e 0) (h .tables) l (h .hub) }
-  second-left e l false v = never v
+  by-letter : (e : ℕ) (t : Bool) → (t ≡ true → n ≤ μ .st .hub .0) → Leaves n k μ (turn (pick t (to (seq plain)) stop) d) (secondLetter e μ)
+  by-letter e true l v = record { complete = (na, tt); bonds = kb; same = described-same (bareRow e 0) (h .tables) (l refl) (h .hub) }
+  by-letter e false l v = never v
 
-  goes-left : (x : Last) → After n (writing (seq x)) μ → (b : ℕ) → Leaves n k μ (turn (machine.goesOn x b) d) (goesOn x μ)
-  goes-left plain l b v = never v
-  goes-left afterC l b v = second-left 17 l (eqb b 108) v
-  goes-left afterB l b v = second-left 35 l (eqb b 114) v
+  goes-left : (x : Last) (b : ℕ) → (Second x b → n ≤ μ .st .hub .0) → Leaves n k μ (turn (machine.goesOn x b) d) (goesOn x μ)
+  goes-left plain b l v = never v
+  goes-left afterC b l v = by-letter 17 (eqb b 108) (λ e. l (eqb-true b 108 e)) v
+  goes-left afterB b l v = by-letter 35 (eqb b 114) (λ e. l (eqb-true b 114 e)) v
 
-  seq-left : (x : Last) → After n (writing (seq x)) μ → (b : ℕ) → Leaves n k μ (turn (next (seq x) b) d) (modeAct (seq x) b i μ)
+  seq-left : (x : Last) (b : ℕ) → (Second x b → n ≤ μ .st .hub .0) → Leaves n k μ (turn (next (seq x) b) d) (modeAct (seq x) b i μ)
   unfolding next modeAct bridgeOr
-  seq-left x l b = or-left (ready h) na kb b _ _ (split (among b nonzero) (eqb b 37) (among b bondSymbols) (eqb b 46) (eqb b 40) (eqb b 41))
+  seq-left x b l = or-left (ready h) na kb b _ _ (split (among b nonzero) (eqb b 37) (among b bondSymbols) (eqb b 46) (eqb b 40) (eqb b 41))
     where
       split : (t1 t2 t3 t4 t5 t6 : Bool)
           → Leaves n k μ
@@ -286,7 +297,7 @@ module _ {p q d i n k : ℕ} {μ : Memory} (h : Held p q d i μ) (na : n ≤ μ 
       split false false false true t5 t6 v = quiet dot refl _ refl refl refl
       split false false false false true t6 v = branch-left
       split false false false false false true v = down-left d v
-      split false false false false false false v = goes-left x l b v
+      split false false false false false false v = goes-left x b l v
 
   bond-left : (b : ℕ) → Leaves n k μ (turn (next bond b) d) (modeAct bond b i μ)
   unfolding next modeAct bridgeOr
@@ -343,14 +354,14 @@ module _ {p q d i n k : ℕ} {μ : Memory} (h : Held p q d i μ) (na : n ≤ μ 
 module _ (n k : ℕ) {p q i : ℕ} {μ : Memory} where
   mode-left : (m : Mode) {d : ℕ} → Sane p q (at m d) i μ → Complete n (at m d) μ → k ≤ μ .st .bonds → (b : ℕ) → Leaves n k μ (turn (next m b) d) (modeAct m b i μ)
   unfolding next modeAct
-  mode-left (seq x) w c kb b v = seq-left (held-of w) (c .0) kb x (c .1) b v
+  mode-left (seq x) w c kb b v = seq-left (held-of w) (c .0) kb x b (half x b n μ (c .1)) v
   mode-left bond w c kb b v = bond-left (held-of w) (c .0) kb b v
   mode-left dot w c kb b v = only-left (ready (held-of w)) (c .0) kb b v
   mode-left inside w c kb b v = inside-left (held-of w) (c .0) kb b v
   mode-left percent w c kb b v = percent-left (held-of w) (c .0) kb b v
   mode-left percent1 w c kb b v = percent1-left (held-of w) (c .0) kb b v
-  mode-left letterA w c kb b v = second-left (held-of w) (c .0) kb 85 (c .1) (eqb b 116) v
-  mode-left letterT w c kb b v = second-left (held-of w) (c .0) kb 117 (c .1) (eqb b 115) v
+  mode-left letterA w c kb b v = by-letter (held-of w) (c .0) kb 85 (eqb b 116) (λ e. c .1) v
+  mode-left letterT w c kb b v = by-letter (held-of w) (c .0) kb 117 (eqb b 115) (λ e. c .1) v
   mode-left bracket {d} w c kb b v = draft-left (held-of w) (c .0) kb (turn (next bracket b) d) (c .1) _
   mode-left (isotope j) {d} w c kb b v = draft-left (held-of w) (c .0) kb (turn (next (isotope j) b) d) (c .1) _
   mode-left (symbol1 a) {d} w c kb b v =
@@ -408,3 +419,19 @@ module _ (p q n k : ℕ) (κ : Memory) where
 pub stays : {p q i : ℕ} {σ τ : State} {μ ν : Memory} (n : ℕ) (s : List ℕ) → Sane p q σ i μ → Complete n σ μ → read act i (going σ μ) s ≡ going τ ν → Left n (μ .st .bonds) μ τ ν
 stays {p} {q} {i} {σ} {τ} {μ} {ν} n s w c e =
     subst (LeftReading n (μ .st .bonds) μ) e (read-left p q n (μ .st .bonds) μ s i (going σ μ) w (record { complete = c; bonds = omega arith; same = same-itself n (μ .st .bonds) μ }))
+
+-- so do all atoms read so far where the next byte is not a second letter
+pub letter-stays : {p q i d : ℕ} {x : Last} {τ : State} {μ ν : Memory} (s : List ℕ) → Sane p q (at (seq x) d) i μ → (Second x (getD s 0 0) → ⊥) → read act i (going (at (seq x) d) μ) s ≡ going τ ν
+    → Same (μ .st .atoms) (μ .st .bonds) μ ν
+unfolding read feed step act
+letter-stays {τ = τ} {μ = μ} {ν = ν} [] w n e = let z : μ ≡ ν = cc in subst (Same (μ .st .atoms) (μ .st .bonds) μ) z (same-itself (μ .st .atoms) (μ .st .bonds) μ)
+letter-stays {p} {q} {i} {d} {x} {τ} {μ} {ν} (b ∷ s) w n e =
+    subst (LeftReading (μ .st .atoms) (μ .st .bonds) μ) e
+      (read-left p q (μ .st .atoms) (μ .st .bonds) μ s (suc i) (feed act i (going (at (seq x) d) μ) b) (sane-feed p q i (going (at (seq x) d) μ) w b) (split (alive (turn (next (seq x) b) d)) refl))
+      .same
+  where
+    split : (t : Bool) → alive (turn (next (seq x) b) d) ≡ t → LeftReading (μ .st .atoms) (μ .st .bonds) μ (pick t (after (turn (next (seq x) b) d) (modeAct (seq x) b i μ)) (halted 3 i))
+    split true v =
+        left-after (μ .st .atoms) (μ .st .bonds) μ (turn (next (seq x) b) d) (modeAct (seq x) b i μ)
+          (seq-left (held-of w) (omega arith) (omega arith) x b (λ z. absurd (n z)) v)
+    split false v = tt
