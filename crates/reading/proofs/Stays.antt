@@ -24,7 +24,7 @@ use Rattle.grammar.specs.declared.Out.{Out}
 use Rattle.grammar.specs.declared.Out.the-variants.{Stop as stop, To as to, Up as up, Down as down}
 use Rattle.grammar.specs.declared.State.{State}
 use Rattle.grammar.specs.declared.State.the-variants.{Dead as dead, Start as start, At as at}
-use Rattle.grammar.specs.Machine.{alive, turn, step, next, atomOr, bridgeOr}
+use Rattle.grammar.specs.Machine.{alive, accepting, turn, step, next, atomOr, bridgeOr}
 use Rattle.grammar.specs.Machine as machine
 use Rattle.grammar.specs.Fold.{keeps, refuses, Reading, going, halted, after, feed, read}
 use Rattle.grammar.proofs.Ends.{never}
@@ -420,15 +420,27 @@ pub stays : {p q i : ℕ} {σ τ : State} {μ ν : Memory} (n : ℕ) (s : List �
 stays {p} {q} {i} {σ} {τ} {μ} {ν} n s w c e =
     subst (LeftReading n (μ .st .bonds) μ) e (read-left p q n (μ .st .bonds) μ s i (going σ μ) w (record { complete = c; bonds = omega arith; same = same-itself n (μ .st .bonds) μ }))
 
+-- a text read to its end has the atoms that were complete
+pub counted : (n : ℕ) (τ : State) (ν : Memory) → accepting τ ≡ true → Complete n τ ν → n ≤ ν .st .atoms
+unfolding accepting
+counted n dead ν a c = never a
+counted n start ν a c = c
+counted n (at m d) ν a c = c .0
+
 -- so do all atoms read so far where the next byte is not a second letter
-pub letter-stays : {p q i d : ℕ} {x : Last} {τ : State} {μ ν : Memory} (s : List ℕ) → Sane p q (at (seq x) d) i μ → (Second x (getD s 0 0) → ⊥) → read act i (going (at (seq x) d) μ) s ≡ going τ ν
-    → Same (μ .st .atoms) (μ .st .bonds) μ ν
+pub record Stayed (μ : Memory) (τ : State) (ν : Memory) : Type 0 where
+  pub same : Same (μ .st .atoms) (μ .st .bonds) μ ν
+  pub count : accepting τ ≡ true → μ .st .atoms ≤ ν .st .atoms
+
+pub letter-stays : {p q i d : ℕ} {x : Last} {τ : State} {μ ν : Memory} (s : List ℕ) → Sane p q (at (seq x) d) i μ → (Second x (getD s 0 0) → ⊥) → read act i (going (at (seq x) d) μ) s ≡ going τ ν → Stayed μ τ ν
 unfolding read feed step act
-letter-stays {τ = τ} {μ = μ} {ν = ν} [] w n e = let z : μ ≡ ν = cc in subst (Same (μ .st .atoms) (μ .st .bonds) μ) z (same-itself (μ .st .atoms) (μ .st .bonds) μ)
+letter-stays {τ = τ} {μ = μ} {ν = ν} [] w n e =
+    let z : μ ≡ ν = cc in
+    subst (Stayed μ τ) z (record { same = same-itself (μ .st .atoms) (μ .st .bonds) μ; count = λ a. omega arith })
 letter-stays {p} {q} {i} {d} {x} {τ} {μ} {ν} (b ∷ s) w n e =
-    subst (LeftReading (μ .st .atoms) (μ .st .bonds) μ) e
-      (read-left p q (μ .st .atoms) (μ .st .bonds) μ s (suc i) (feed act i (going (at (seq x) d) μ) b) (sane-feed p q i (going (at (seq x) d) μ) w b) (split (alive (turn (next (seq x) b) d)) refl))
-      .same
+    let l = subst (LeftReading (μ .st .atoms) (μ .st .bonds) μ) e
+      (read-left p q (μ .st .atoms) (μ .st .bonds) μ s (suc i) (feed act i (going (at (seq x) d) μ) b) (sane-feed p q i (going (at (seq x) d) μ) w b) (split (alive (turn (next (seq x) b) d)) refl)) in
+    record { same = l .same; count = λ a. counted (μ .st .atoms) τ ν a (l .complete) }
   where
     split : (t : Bool) → alive (turn (next (seq x) b) d) ≡ t → LeftReading (μ .st .atoms) (μ .st .bonds) μ (pick t (after (turn (next (seq x) b) d) (modeAct (seq x) b i μ)) (halted 3 i))
     split true v =
