@@ -17,8 +17,8 @@ use Rattle.grammar.specs.declared.Last.the-variants.{Plain as plain, AfterC as 
 use Rattle.grammar.specs.declared.Mode.{Mode}
 use Rattle.grammar.specs.declared.Mode.the-variants.{Seq as seq, Bond as bond, Dot as dot, Inside as inside, Percent as percent, Percent1 as percent1, LetterA as letterA, LetterT as letterT, Bracket as bracket, Isotope as isotope, Symbol1 as symbol1, Symbolled as symbolled, Hydrogen as hydrogen, Hydrogens as hydrogens, Sign as sign, Charged as charged, Colon as colon, Extension as extension}
 use Rattle.grammar.specs.declared.State.{State}
-use Rattle.grammar.specs.declared.State.the-variants.{Dead as dead, Start as start, At as at}
-use Rattle.grammar.specs.Machine.{alive, accepting, step, next, symbolOr}
+use Rattle.grammar.specs.declared.State.the-variants.{Start as start, At as at}
+use Rattle.grammar.specs.Machine.{alive, step, next, symbolOr}
 use Rattle.grammar.specs.Machine as machine
 use Rattle.grammar.specs.Fold.{Reading, going, halted, keeps, feed, read}
 use Rattle.grammar.proofs.Ends.{never}
@@ -35,7 +35,7 @@ use Rattle.reading.proofs.Hydrogens.{withHydrogens}
 use Rattle.reading.proofs.Step.{sane-beginning, sane-going}
 use Rattle.reading.proofs.Stays.{half-bracket, writing, After, Complete, Left, stays, Second, Same, counted, letter-stays}
 use Rattle.reading.proofs.Outcome.{bytesRead, Fits}
-use Rattle.reading.proofs.Claims.{impliedAt, Given, Accepted, read-accepted}
+use Rattle.reading.proofs.Accepted.{impliedAt, Given, Accepted, read-accepted}
 
 -- ---- `]`
 

@@ -14,6 +14,10 @@ pub mod Valid
 pub mod Refusals
 pub mod Outcome
 pub mod Leftmost
-pub mod Claims
+pub mod Accepted
+pub mod Texts
+pub mod First
+pub mod Ending
 pub mod Stays
 pub mod Kept
+pub mod Claims
