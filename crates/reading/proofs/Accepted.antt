@@ -12,7 +12,7 @@ use Rattle.grammar.specs.declared.State.the-variants.{Start as start}
 use Rattle.grammar.specs.Machine.{accepting}
 use Rattle.grammar.specs.Fold.{going, halted}
 use Rattle.grammar.proofs.Fold.{Halts, read-halts}
-use Rattle.table.specs.Limits.{atomCells, ELEMENT, SELECTED, HYDROGENS}
+use Rattle.table.specs.Limits.{atomCells, bondCells, ELEMENT, SELECTED, HYDROGENS}
 use Rattle.table.specs.Cells.{atomPlace, element, selected}
 use Rattle.table.specs.Rows.{atomRow}
 use Rattle.table.specs.Valid.{Valid}
@@ -23,7 +23,7 @@ use Rattle.reading.specs.Act.{act}
 use Rattle.reading.specs.Read.{Told, zeros, short, beginning, readOf}
 use Rattle.reading.proofs.Sane.{Sane, SaneReading}
 use Rattle.reading.proofs.Step.{sane-text}
-use Rattle.reading.proofs.Hydrogens.{withHydrogens, hydrogenated-other, row-given, row-kept}
+use Rattle.reading.proofs.Hydrogens.{withHydrogens, hydrogenated-length, hydrogenated-other, row-given, row-kept}
 use Rattle.reading.proofs.Valid.{sane-valid}
 use Rattle.reading.proofs.Refusals.{act-code}
 use Rattle.reading.proofs.Leftmost.{none-open}
@@ -77,7 +77,9 @@ module _ (s : List ℕ) (atoms bonds : List ℤ) where
     pub ends : accepting state ≡ true
     pub counts : (t .atomCount ≡ memory .st .atoms) × (t .bondCount ≡ memory .st .bonds) × (t .bonds ≡ memory .bonds)
     pub rows : (a : ℕ) → a < t .atomCount → Given memory t a
-    pub unused : (k : ℕ) → atomCells * t .atomCount ≤ k → getD (t .atoms) k (pos 0) ≡ pos 0
+    pub lengths : (length (t .atoms) ≡ length atoms) × (length (t .bonds) ≡ length bonds)
+    pub unused-atoms : (k : ℕ) → atomCells * t .atomCount ≤ k → getD (t .atoms) k (pos 0) ≡ pos 0
+    pub unused-bonds : (k : ℕ) → bondCells * t .bondCount ≤ k → getD (t .bonds) k (pos 0) ≡ pos 0
     pub no-open-bridge : (r : ℕ) → getD (memory .st .opener) r 0 ≡ 0
     pub matched : matchable (t .atoms) (t .bonds) (t .atomCount) (t .bondCount) ≡ true
 
@@ -120,7 +122,9 @@ module _ (s : List ℕ) (atoms bonds : List ℤ) where
             ends = a;
             counts = (refl, refl, refl);
             rows = given w;
-            unused = λ k h. hydrogenated-other (μ .st .outside) (μ .bonds) (μ .st .bonds) (μ .st .atoms) (μ .atoms) k (λ x lx ex jx. omega arith) ∙ w .tables .atoms-clear k h;
+            lengths = (hydrogenated-length (μ .st .outside) (μ .bonds) (μ .st .bonds) (μ .st .atoms) (μ .atoms) ∙ w .tables .atom-length, w .tables .bond-length);
+            unused-bonds = w .tables .bonds-clear;
+            unused-atoms = λ k h. hydrogenated-other (μ .st .outside) (μ .bonds) (μ .st .bonds) (μ .st .atoms) (μ .atoms) k (λ x lx ex jx. omega arith) ∙ w .tables .atoms-clear k h;
             no-open-bridge = none-open (μ .st .opener) (μ .st .offset) (w .steering .opener-length) (early f w) l;
             matched = m;
           }

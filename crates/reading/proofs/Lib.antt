@@ -15,6 +15,7 @@ pub mod Refusals
 pub mod Outcome
 pub mod Leftmost
 pub mod Accepted
+pub mod Refused
 pub mod Texts
 pub mod First
 pub mod Ending

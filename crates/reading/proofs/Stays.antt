@@ -439,11 +439,11 @@ letter-stays {τ = τ} {μ = μ} {ν = ν} [] w n e =
     subst (Stayed μ τ) z (record { same = same-itself (μ .st .atoms) (μ .st .bonds) μ; count = λ a. omega arith })
 letter-stays {p} {q} {i} {d} {x} {τ} {μ} {ν} (b ∷ s) w n e =
     let l = subst (LeftReading (μ .st .atoms) (μ .st .bonds) μ) e
-      (read-left p q (μ .st .atoms) (μ .st .bonds) μ s (suc i) (feed act i (going (at (seq x) d) μ) b) (sane-feed p q i (going (at (seq x) d) μ) w b) (split (alive (turn (next (seq x) b) d)) refl)) in
+    (read-left p q (μ .st .atoms) (μ .st .bonds) μ s (suc i) (feed act i (going (at (seq x) d) μ) b) (sane-feed p q i (going (at (seq x) d) μ) w b) (split (alive (turn (next (seq x) b) d)) refl)) in
     record { same = l .same; count = λ a. counted (μ .st .atoms) τ ν a (l .complete) }
   where
     split : (t : Bool) → alive (turn (next (seq x) b) d) ≡ t → LeftReading (μ .st .atoms) (μ .st .bonds) μ (pick t (after (turn (next (seq x) b) d) (modeAct (seq x) b i μ)) (halted 3 i))
     split true v =
         left-after (μ .st .atoms) (μ .st .bonds) μ (turn (next (seq x) b) d) (modeAct (seq x) b i μ)
-          (seq-left (held-of w) (omega arith) (omega arith) x b (λ z. absurd (n z)) v)
+        (seq-left (held-of w) (omega arith) (omega arith) x b (λ z. absurd (n z)) v)
     split false v = tt
