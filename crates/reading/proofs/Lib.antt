@@ -8,6 +8,7 @@ pub mod Letters
 pub mod Atoms
 pub mod InBracket
 pub mod Joints
+pub mod Dispatch
 pub mod Step
 pub mod Hydrogens
 pub mod Valid

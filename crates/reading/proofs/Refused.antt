@@ -1,7 +1,7 @@
 -- What a refusal leaves behind: nothing changed after 1, and zeros with zero counts after any other. Assumes nothing.
 use Prim.Native.Nat.{ℕ, _<_}
 use native.Mathlib.Omega.{arith}
-use mathlib.Core.Path.{_≡_, refl, sym, ap, _∙_}
+use mathlib.Core.Path.{_≡_, refl, ap, _∙_}
 use mathlib.Core.Bool.{true, false}
 use mathlib.Core.Logic.{_↔_}
 use mathlib.Core.List.{List}
@@ -12,10 +12,10 @@ use Rattle.grammar.specs.declared.State.{State}
 use Rattle.table.specs.Valid.{enough}
 use Rattle.state.specs.Limits.{maxText}
 use Rattle.reading.specs.Memory.{Memory}
-use Rattle.reading.specs.Read.{Told, zeros, refused, short, readOf}
+use Rattle.reading.specs.Read.{Told, zeros, refused, readOf}
 use Rattle.reading.proofs.Sane.{Sane}
 use Rattle.reading.proofs.Hydrogens.{hydrogenated-length}
-use Rattle.reading.proofs.Outcome.{bytesRead, Fits, atomsOf, Outcome, outcome}
+use Rattle.reading.proofs.Outcome.{atomsOf, Outcome, outcome}
 use Rattle.reading.proofs.Accepted.{halt-code, read-sane}
 
 module _ (s : List ℕ) (atoms bonds : List ℤ) where

@@ -3,29 +3,26 @@ use Prim.Native.Nat.{ℕ, zero, suc, _+_, _-_, _*_, _≤_, _<_}
 use native.Mathlib.Omega.{arith}
 use mathlib.Core.Path.{_≡_, refl, sym, ap, subst, _∙_}
 use mathlib.Core.Bool.{Bool, true, false, _&&_}
-use mathlib.Core.Logic.{inl, ⊎-elim}
+use mathlib.Core.Logic.{inl}
 use mathlib.Core.List.{List, [], _∷_}
 use lib.ListN.{length, getD}
 use lib.Seq.{getD-set-same, getD-set-other}
 use lib.IntN.{ℤ}
 use lib.Dec.{eqb, leb}
-use borrow.Author.Tests.{leb-false, eqb-true}
+use borrow.Author.Tests.{leb-false}
 use Rattle.loops.specs.Loop.{pick}
 use Rattle.element.specs.declared.Letter.{Letter}
-use Rattle.element.specs.declared.Letter.the-variants.{Nothing}
 use Rattle.element.specs.Symbols.{among, listed, symbols}
 use Rattle.element.specs.Lookup.{letterOf}
-use Rattle.grammar.specs.Grammar.{nonzero, digits, several, bondSymbols, signs}
+use Rattle.grammar.specs.Grammar.{digits, several, signs}
 use Rattle.grammar.specs.declared.Last.{Last}
 use Rattle.grammar.specs.declared.Last.the-variants.{Plain as plain, AfterC as afterC, AfterB as afterB}
 use Rattle.grammar.specs.declared.Mode.{Mode}
 use Rattle.grammar.specs.declared.Mode.the-variants.{Seq as seq, Bond as bond, Dot as dot, Inside as inside, Percent as percent, Percent1 as percent1, LetterA as letterA, LetterT as letterT, Bracket as bracket, Isotope as isotope, Symbol1 as symbol1, Symbolled as symbolled, Hydrogen as hydrogen, Hydrogens as hydrogens, Sign as sign, Charged as charged, Colon as colon, Extension as extension}
 use Rattle.grammar.specs.declared.Out.{Out}
-use Rattle.grammar.specs.declared.Out.the-variants.{Stop as stop, To as to, Up as up, Down as down}
 use Rattle.grammar.specs.declared.State.{State}
 use Rattle.grammar.specs.declared.State.the-variants.{Dead as dead, Start as start, At as at}
-use Rattle.grammar.specs.Machine.{alive, accepting, turn, step, next, atomOr, bridgeOr}
-use Rattle.grammar.specs.Machine as machine
+use Rattle.grammar.specs.Machine.{alive, accepting, turn, step, next}
 use Rattle.grammar.specs.Fold.{keeps, refuses, Reading, going, halted, after, feed, read}
 use Rattle.grammar.proofs.Ends.{never}
 use Rattle.table.specs.declared.Atom.{Atom}
@@ -34,16 +31,16 @@ use Rattle.table.specs.Limits.{maxAtoms, maxBonds, atomCells, bondCells}
 use Rattle.table.specs.Rows.{atomRow, bondRow, withAtom, withBond}
 use Rattle.state.specs.Limits.{maxDepth}
 use Rattle.state.specs.State.{opened, closed, bridged, joined}
-use Rattle.reading.specs.Memory.{Memory, kindOf, rowOf, bareRow, bonded, begun, described, moved, counting, drafted, closeRefusal}
-use Rattle.reading.specs.Bracket.{digit}
-use Rattle.reading.specs.Act.{Acts, firstByte, orAtom, atomAct, bridgeBond, orRefuse, bridgeAct, branchAct, jointAct, secondLetter, goesOn, closing, charging, hydrating, modeAct, act}
+use Rattle.reading.specs.Memory.{Memory, kindOf, rowOf, bareRow, bonded, begun, described, moved, drafted, closeRefusal}
+use Rattle.reading.specs.Act.{Acts, firstByte, atomAct, bridgeBond, orRefuse, bridgeAct, branchAct, closing, charging, hydrating, modeAct, act}
 use Rattle.reading.proofs.Cases.{by-test}
 use Rattle.reading.proofs.Sane.{Tables, Sane, SaneReading}
 use Rattle.reading.proofs.Rows.{with-atom-other, same-atom-row, with-bond-other, same-bond-row}
-use Rattle.reading.proofs.Letters.{Begins, begins}
+use Rattle.reading.proofs.Letters.{Begins}
 use Rattle.reading.proofs.Atoms.{Ready, Held, ready, ready-start, held-of}
 use Rattle.reading.proofs.Joints.{allowed}
-use Rattle.reading.proofs.Step.{or-begins, sane-feed}
+use Rattle.reading.proofs.Dispatch.{Second, Outside, in-sequence, in-bond, in-branch, in-percent, in-percent1, only-atom, second-letter}
+use Rattle.reading.proofs.Step.{sane-feed}
 
 -- ---- which atom's row may still be written
 
@@ -74,12 +71,6 @@ writing sign = half-bracket
 writing charged = half-bracket
 writing colon = half-bracket
 writing (extension k) = half-bracket
-
--- the byte b is the second letter of the atom just read
-abbrev pub Second : Last → ℕ → Type 0
-Second plain b = ⊥
-Second afterC b = b ≡ 108
-Second afterB b = b ≡ 114
 
 -- it is not among the first n
 abbrev pub After : ℕ → Writing → Memory → Type 0
@@ -210,24 +201,6 @@ module _ {p q d i n k : ℕ} {μ : Memory} (h : Ready p q d i μ) (na : n ≤ μ
       room true u e f = e
       room false u e f = never f
 
-  or-left : (b : ℕ) (o : Out) (a : Acts) → Leaves n k μ (turn o d) a → Leaves n k μ (turn (atomOr b o) d) (orAtom (letterOf b) (atomAct b i μ) a)
-  or-left b o a other = ⊎-elim first second (begins b o)
-    where
-      first : Begins (letterOf b) (atomOr b o) → Leaves n k μ (turn (atomOr b o) d) (orAtom (letterOf b) (atomAct b i μ) a)
-      first w v = rw (or-begins (atomAct b i μ) a w) (atom-left b w)
-
-      second : (letterOf b ≡ Nothing) × (atomOr b o ≡ o) → Leaves n k μ (turn (atomOr b o) d) (orAtom (letterOf b) (atomAct b i μ) a)
-      second e = rw (e .0, e .1) other
-
-  only-left : (b : ℕ) → Leaves n k μ (turn (atomOr b stop) d) (atomAct b i μ)
-  only-left b = ⊎-elim first second (begins b stop)
-    where
-      first : Begins (letterOf b) (atomOr b stop) → Leaves n k μ (turn (atomOr b stop) d) (atomAct b i μ)
-      first w v = atom-left b w
-
-      second : (letterOf b ≡ Nothing) × (atomOr b stop ≡ stop) → Leaves n k μ (turn (atomOr b stop) d) (atomAct b i μ)
-      second e v = never (rw (e .1) at v)
-
 -- ---- after the first atom
 module _ {p q d i n k : ℕ} {μ : Memory} (h : Held p q d i μ) (na : n ≤ μ .st .atoms) (kb : k ≤ μ .st .bonds) where
   bridge-left : (r o : ℕ) → LeftAct n k μ (at (seq plain) d) (bridgeAct r o μ)
@@ -260,10 +233,9 @@ module _ {p q d i n k : ℕ} {μ : Memory} (h : Held p q d i μ) (na : n ≤ μ 
       deeper : Left n k μ (at inside (suc d)) (moved (opened (μ .st)) μ)
       deeper = record { complete = (na, tt); bonds = kb; same = record { rows = λ a l. refl; flags = λ a l. refl; bonds = λ b l. refl } }
 
-  down-left : (e : ℕ) → Leaves n k μ (turn down e) (keeps (moved (closed (μ .st)) μ))
+  down-left : (e : ℕ) → d ≡ suc e → Left n k μ (at (seq plain) e) (moved (closed (μ .st)) μ)
   unfolding closed
-  down-left zero v = never v
-  down-left (suc e) v = record { complete = (na, tt); bonds = kb; same = record { rows = λ a l. refl; flags = λ a l. refl; bonds = λ b l. refl } }
+  down-left e q = record { complete = (na, tt); bonds = kb; same = record { rows = λ a l. refl; flags = λ a l. refl; bonds = λ b l. refl } }
 
   -- a step to a mode in which no row is being written, with the tables as they are
   quiet : (m : Mode) → writing m ≡ no-row → (ν : Memory) → ν .atoms ≡ μ .atoms → ν .bonds ≡ μ .bonds → ν .st ≡ μ .st → Left n k μ (at m d) ν
@@ -274,64 +246,25 @@ module _ {p q d i n k : ℕ} {μ : Memory} (h : Held p q d i μ) (na : n ≤ μ 
         same = record { rows = λ a l. ap (λ t. atomRow t a) ea; flags = λ a l. ap (λ s. getD (s .outside) a 0) es; bonds = λ b l. ap (λ t. bondRow t b) eb };
       }
 
-  by-letter : (e : ℕ) (t : Bool) → (t ≡ true → n ≤ μ .st .hub .0) → Leaves n k μ (turn (pick t (to (seq plain)) stop) d) (secondLetter e μ)
-  by-letter e true l v = record { complete = (na, tt); bonds = kb; same = described-same (bareRow e 0) (h .tables) (l refl) (h .hub) }
-  by-letter e false l v = never v
+  second-left : n ≤ μ .st .hub .0 → (e : ℕ) → Left n k μ (at (seq plain) d) (described (bareRow e 0) μ)
+  second-left l e = record { complete = (na, tt); bonds = kb; same = described-same (bareRow e 0) (h .tables) l (h .hub) }
 
-  goes-left : (x : Last) (b : ℕ) → (Second x b → n ≤ μ .st .hub .0) → Leaves n k μ (turn (machine.goesOn x b) d) (goesOn x μ)
-  goes-left plain b l v = never v
-  goes-left afterC b l v = by-letter 17 (eqb b 108) (λ e. l (eqb-true b 108 e)) v
-  goes-left afterB b l v = by-letter 35 (eqb b 114) (λ e. l (eqb-true b 114 e)) v
+  -- each step outside brackets
+  outside : (b : ℕ) → Outside (LeftAct n k μ) d i μ b
+  outside b =
+      record {
+        atom = λ o w. atom-left (ready h) na kb b w;
+        bridge = λ r o hr ho. bridge-left r o;
+        symbol = quiet bond refl _ refl refl refl;
+        joint = quiet dot refl _ refl refl refl;
+        branch = branch-left;
+        unbranch = down-left;
+        sign = quiet percent refl μ refl refl refl;
+        tens = λ t l u. quiet percent1 refl _ refl refl refl;
+      }
 
   seq-left : (x : Last) (b : ℕ) → (Second x b → n ≤ μ .st .hub .0) → Leaves n k μ (turn (next (seq x) b) d) (modeAct (seq x) b i μ)
-  unfolding next modeAct bridgeOr
-  seq-left x b l = or-left (ready h) na kb b _ _ (split (among b nonzero) (eqb b 37) (among b bondSymbols) (eqb b 46) (eqb b 40) (eqb b 41))
-    where
-      split : (t1 t2 t3 t4 t5 t6 : Bool)
-          → Leaves n k μ
-          (turn (pick t1 (to (seq plain)) (pick t2 (to percent) (pick t3 (to bond) (pick t4 (to dot) (pick t5 up (pick t6 down (machine.goesOn x b))))))) d)
-          (pick t1 (bridgeAct (digit b) i μ) (pick t2 (keeps μ) (pick t3 (jointAct b μ) (pick t4 (jointAct b μ) (pick t5 (branchAct i μ) (pick t6 (keeps (moved (closed (μ .st)) μ)) (goesOn x μ)))))))
-      split true t2 t3 t4 t5 t6 v = bridge-left (digit b) i
-      split false true t3 t4 t5 t6 v = quiet percent refl μ refl refl refl
-      split false false true t4 t5 t6 v = quiet bond refl _ refl refl refl
-      split false false false true t5 t6 v = quiet dot refl _ refl refl refl
-      split false false false false true t6 v = branch-left
-      split false false false false false true v = down-left d v
-      split false false false false false false v = goes-left x b l v
-
-  bond-left : (b : ℕ) → Leaves n k μ (turn (next bond b) d) (modeAct bond b i μ)
-  unfolding next modeAct bridgeOr
-  bond-left b = or-left (ready h) na kb b _ _ (split (among b nonzero) (eqb b 37))
-    where
-      split : (t1 t2 : Bool) → Leaves n k μ (turn (pick t1 (to (seq plain)) (pick t2 (to percent) stop)) d) (pick t1 (bridgeAct (digit b) i μ) (keeps μ))
-      split true t2 v = bridge-left (digit b) i
-      split false true v = quiet percent refl μ refl refl refl
-      split false false v = never v
-
-  inside-left : (b : ℕ) → Leaves n k μ (turn (next inside b) d) (modeAct inside b i μ)
-  unfolding next modeAct
-  inside-left b = or-left (ready h) na kb b _ _ (split (among b bondSymbols) (eqb b 46))
-    where
-      split : (t1 t2 : Bool) → Leaves n k μ (turn (pick t1 (to dot) (pick t2 (to dot) stop)) d) (jointAct b μ)
-      split true t2 v = quiet dot refl _ refl refl refl
-      split false true v = quiet dot refl _ refl refl refl
-      split false false v = never v
-
-  percent-left : (b : ℕ) → Leaves n k μ (turn (next percent b) d) (modeAct percent b i μ)
-  unfolding next modeAct
-  percent-left b = split (among b nonzero)
-    where
-      split : (t : Bool) → Leaves n k μ (turn (pick t (to percent1) stop) d) (keeps (counting (digit b) μ))
-      split true v = quiet percent1 refl _ refl refl refl
-      split false v = never v
-
-  percent1-left : (b : ℕ) → Leaves n k μ (turn (next percent1 b) d) (modeAct percent1 b i μ)
-  unfolding next modeAct
-  percent1-left b = split (among b digits)
-    where
-      split : (t : Bool) → Leaves n k μ (turn (pick t (to (seq plain)) stop) d) (bridgeAct (10 * μ .tens + digit b) (i - 2) μ)
-      split true v = bridge-left (10 * μ .tens + digit b) (i - 2)
-      split false v = never v
+  seq-left x b l = in-sequence (LeftAct n k μ) d i μ b (outside b) x (λ z e s. second-left (l z) e)
 
   -- ---- in a bracket, whatever mode follows
   module _ (τ : State) (l : (n ≤ μ .st .hub .0) × (getD (μ .st .outside) (μ .st .hub .0) 0 ≡ 0)) where
@@ -355,13 +288,13 @@ module _ (n k : ℕ) {p q i : ℕ} {μ : Memory} where
   mode-left : (m : Mode) {d : ℕ} → Sane p q (at m d) i μ → Complete n (at m d) μ → k ≤ μ .st .bonds → (b : ℕ) → Leaves n k μ (turn (next m b) d) (modeAct m b i μ)
   unfolding next modeAct
   mode-left (seq x) w c kb b v = seq-left (held-of w) (c .0) kb x b (half x b n μ (c .1)) v
-  mode-left bond w c kb b v = bond-left (held-of w) (c .0) kb b v
-  mode-left dot w c kb b v = only-left (ready (held-of w)) (c .0) kb b v
-  mode-left inside w c kb b v = inside-left (held-of w) (c .0) kb b v
-  mode-left percent w c kb b v = percent-left (held-of w) (c .0) kb b v
-  mode-left percent1 w c kb b v = percent1-left (held-of w) (c .0) kb b v
-  mode-left letterA w c kb b v = by-letter (held-of w) (c .0) kb 85 (eqb b 116) (λ e. c .1) v
-  mode-left letterT w c kb b v = by-letter (held-of w) (c .0) kb 117 (eqb b 115) (λ e. c .1) v
+  mode-left bond {d} w c kb b v = in-bond (LeftAct n k μ) d i μ b (outside (held-of w) (c .0) kb b) v
+  mode-left dot {d} w c kb b v = only-atom (LeftAct n k μ) d i μ b (outside (held-of w) (c .0) kb b .atom) v
+  mode-left inside {d} w c kb b v = in-branch (LeftAct n k μ) d i μ b (outside (held-of w) (c .0) kb b) v
+  mode-left percent {d} w c kb b v = in-percent (LeftAct n k μ) d i μ b (outside (held-of w) (c .0) kb b) v
+  mode-left percent1 {d} w c kb b v = in-percent1 (LeftAct n k μ) d i μ b (outside (held-of w) (c .0) kb b) (w .stands .half .1) v
+  mode-left letterA {d} w c kb b v = second-letter (LeftAct n k μ) d i μ b 85 (eqb b 116) (λ e. second-left (held-of w) (c .0) kb (c .1) 85) v
+  mode-left letterT {d} w c kb b v = second-letter (LeftAct n k μ) d i μ b 117 (eqb b 115) (λ e. second-left (held-of w) (c .0) kb (c .1) 117) v
   mode-left bracket {d} w c kb b v = draft-left (held-of w) (c .0) kb (turn (next bracket b) d) (c .1) _
   mode-left (isotope j) {d} w c kb b v = draft-left (held-of w) (c .0) kb (turn (next (isotope j) b) d) (c .1) _
   mode-left (symbol1 a) {d} w c kb b v =
@@ -384,7 +317,7 @@ module _ (n k : ℕ) {p q i : ℕ} {μ : Memory} where
   step-left : (σ : State) → Sane p q σ i μ → Complete n σ μ → k ≤ μ .st .bonds → (b : ℕ) → Leaves n k μ (step σ b) (act σ b i μ)
   unfolding step act
   step-left dead w c kb b v = absurd (w .stands)
-  step-left start w c kb b v = only-left (ready-start w) c kb b v
+  step-left start w c kb b v = only-atom (LeftAct n k μ) 0 i μ b (λ o x. atom-left (ready-start w) c kb b x) v
   step-left (at m d) w c kb b v = mode-left m w c kb b v
 
 -- ---- over a text
