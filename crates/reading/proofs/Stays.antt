@@ -37,7 +37,7 @@ use Rattle.reading.proofs.Cases.{by-test}
 use Rattle.reading.proofs.Sane.{Tables, Sane, SaneReading}
 use Rattle.reading.proofs.Rows.{with-atom-other, same-atom-row, with-bond-other, same-bond-row}
 use Rattle.reading.proofs.Letters.{Begins}
-use Rattle.reading.proofs.Atoms.{Ready, Held, ready, ready-start, held-of}
+use Rattle.reading.proofs.Atoms.{Ready, Held, ready, ready-start, held-of, bond-room}
 use Rattle.reading.proofs.Joints.{allowed}
 use Rattle.reading.proofs.Dispatch.{Second, Outside, in-sequence, in-bond, in-branch, in-percent, in-percent1, only-atom, second-letter}
 use Rattle.reading.proofs.Step.{sane-feed}
@@ -194,15 +194,19 @@ module _ {p q d i n k : ℕ} {μ : Memory} (h : Ready p q d i μ) (na : n ≤ μ
   unfolding atomAct
   atom-left b {o} w =
       by-test (LeftAct n k μ (turn o d)) _ _ _ (λ e. tt) (λ e.
-      by-test (LeftAct n k μ (turn o d)) _ _ _ (λ f. tt) (λ f.
-      first-left (leb-false maxAtoms (μ .st .atoms) e) (λ t. leb-false maxBonds (μ .st .bonds) (room (bonded μ) (leb maxBonds (μ .st .bonds)) f t)) w))
-    where
-      room : (t u : Bool) → (t && u) ≡ false → t ≡ true → u ≡ false
-      room true u e f = e
-      room false u e f = never f
+      by-test (LeftAct n k μ (turn o d)) _ _ _ (λ f. tt) (λ f. first-left (leb-false maxAtoms (μ .st .atoms) e) (bond-room μ f) w))
 
 -- ---- after the first atom
 module _ {p q d i n k : ℕ} {μ : Memory} (h : Held p q d i μ) (na : n ≤ μ .st .atoms) (kb : k ≤ μ .st .bonds) where
+  -- a step to a mode in which no row is being written, with the tables as they are
+  quiet : (m : Mode) (e : ℕ) → writing m ≡ no-row → (ν : Memory) → ν .atoms ≡ μ .atoms → ν .bonds ≡ μ .bonds → ν .st .outside ≡ μ .st .outside → ν .st .atoms ≡ μ .st .atoms → ν .st .bonds ≡ μ .st .bonds → Left n k μ (at m e) ν
+  quiet m e w ν ea eb eo en em =
+      record {
+        complete = (subst (λ c. n ≤ c) (sym en) na, subst (λ x. After n x ν) (sym w) tt);
+        bonds = subst (λ c. k ≤ c) (sym em) kb;
+        same = record { rows = λ a l. ap (λ t. atomRow t a) ea; flags = λ a l. ap (λ (t : List ℕ). getD t a 0) eo; bonds = λ b l. ap (λ t. bondRow t b) eb };
+      }
+
   bridge-left : (r o : ℕ) → LeftAct n k μ (at (seq plain) d) (bridgeAct r o μ)
   unfolding bridgeAct joined
   bridge-left r o = split (eqb (getD (μ .st .opener) r 0) 0)
@@ -212,7 +216,7 @@ module _ {p q d i n k : ℕ} {μ : Memory} (h : Held p q d i μ) (na : n ≤ μ 
           (pick t (keeps (moved (pick t (bridged (μ .st) r (μ .st .hub .0 + 1) (kindOf (μ .pending)) o (μ .st .bonds)) (bridged (μ .st) r 0 0 0 (μ .st .bonds + 1))) μ))
           (orRefuse (closeRefusal (μ .bonds) (μ .st .bonds) (getD (μ .st .opener) r 0 - 1) (μ .st .hub .0) (getD (μ .st .symbol) r 0) (kindOf (μ .pending))) o
           (moved (pick t (bridged (μ .st) r (μ .st .hub .0 + 1) (kindOf (μ .pending)) o (μ .st .bonds)) (bridged (μ .st) r 0 0 0 (μ .st .bonds + 1))) (bridgeBond r μ))))
-      split true = record { complete = (na, tt); bonds = kb; same = record { rows = λ a l. refl; flags = λ a l. refl; bonds = λ b l. refl } }
+      split true = quiet (seq plain) d refl _ refl refl refl refl refl
       split false = refusal (closeRefusal (μ .bonds) (μ .st .bonds) (getD (μ .st .opener) r 0 - 1) (μ .st .hub .0) (getD (μ .st .symbol) r 0) (kindOf (μ .pending))) refl
         where
           refusal : (x : ℕ) → closeRefusal (μ .bonds) (μ .st .bonds) (getD (μ .st .opener) r 0 - 1) (μ .st .hub .0) (getD (μ .st .symbol) r 0) (kindOf (μ .pending)) ≡ x
@@ -228,23 +232,11 @@ module _ {p q d i n k : ℕ} {μ : Memory} (h : Held p q d i μ) (na : n ≤ μ 
 
   branch-left : LeftAct n k μ (at inside (suc d)) (branchAct i μ)
   unfolding branchAct opened
-  branch-left = by-test (LeftAct n k μ (at inside (suc d))) (leb maxDepth (μ .st .depth)) (refuses 6 i) (keeps (moved (opened (μ .st)) μ)) (λ e. tt) (λ e. deeper)
-    where
-      deeper : Left n k μ (at inside (suc d)) (moved (opened (μ .st)) μ)
-      deeper = record { complete = (na, tt); bonds = kb; same = record { rows = λ a l. refl; flags = λ a l. refl; bonds = λ b l. refl } }
+  branch-left = by-test (LeftAct n k μ (at inside (suc d))) (leb maxDepth (μ .st .depth)) (refuses 6 i) (keeps (moved (opened (μ .st)) μ)) (λ e. tt) (λ e. quiet inside (suc d) refl _ refl refl refl refl refl)
 
   down-left : (e : ℕ) → d ≡ suc e → Left n k μ (at (seq plain) e) (moved (closed (μ .st)) μ)
   unfolding closed
-  down-left e q = record { complete = (na, tt); bonds = kb; same = record { rows = λ a l. refl; flags = λ a l. refl; bonds = λ b l. refl } }
-
-  -- a step to a mode in which no row is being written, with the tables as they are
-  quiet : (m : Mode) → writing m ≡ no-row → (ν : Memory) → ν .atoms ≡ μ .atoms → ν .bonds ≡ μ .bonds → ν .st ≡ μ .st → Left n k μ (at m d) ν
-  quiet m w ν ea eb es =
-      record {
-        complete = (subst (λ s. n ≤ s .atoms) (sym es) na, subst (λ w. After n w ν) (sym w) tt);
-        bonds = subst (λ s. k ≤ s .bonds) (sym es) kb;
-        same = record { rows = λ a l. ap (λ t. atomRow t a) ea; flags = λ a l. ap (λ s. getD (s .outside) a 0) es; bonds = λ b l. ap (λ t. bondRow t b) eb };
-      }
+  down-left e q = quiet (seq plain) e refl _ refl refl refl refl refl
 
   second-left : n ≤ μ .st .hub .0 → (e : ℕ) → Left n k μ (at (seq plain) d) (described (bareRow e 0) μ)
   second-left l e = record { complete = (na, tt); bonds = kb; same = described-same (bareRow e 0) (h .tables) l (h .hub) }
@@ -255,12 +247,12 @@ module _ {p q d i n k : ℕ} {μ : Memory} (h : Held p q d i μ) (na : n ≤ μ 
       record {
         atom = λ o w. atom-left (ready h) na kb b w;
         bridge = λ r o hr ho. bridge-left r o;
-        symbol = quiet bond refl _ refl refl refl;
-        joint = quiet dot refl _ refl refl refl;
+        symbol = quiet bond d refl _ refl refl refl refl refl;
+        joint = quiet dot d refl _ refl refl refl refl refl;
         branch = branch-left;
         unbranch = down-left;
-        sign = quiet percent refl μ refl refl refl;
-        tens = λ t l u. quiet percent1 refl _ refl refl refl;
+        sign = quiet percent d refl μ refl refl refl refl refl;
+        tens = λ t l u. quiet percent1 d refl _ refl refl refl refl refl;
       }
 
   seq-left : (x : Last) (b : ℕ) → (Second x b → n ≤ μ .st .hub .0) → Leaves n k μ (turn (next (seq x) b) d) (modeAct (seq x) b i μ)
