@@ -1,36 +1,42 @@
 -- What was read stands in the tables of an accepted text: complete atoms, bonds, and the fields of each bracket. Assumes nothing.
-use Prim.Native.Nat.{ℕ, zero, suc, _+_, _≤_, _<_}
+use Prim.Native.Nat.{ℕ, zero, suc, _+_, _*_, _≤_, _<_}
 use native.Mathlib.Omega.{arith}
 use mathlib.Core.Path.{_≡_, refl, sym, ap, subst, _∙_}
 use mathlib.Core.Bool.{Bool, true, false}
 use mathlib.Core.List.{List, [], _∷_, _++_}
 use lib.ListN.{length, getD, take, drop, take-append-drop}
-use lib.Seq.{take-suc}
+use native.Mathlib.Nat.{add-zero}
+use lib.Seq.{take-suc, getD-drop, getD-set-same}
 use lib.IntN.{ℤ}
+use Rattle.element.specs.declared.Letter.{Letter}
+use Rattle.element.specs.declared.Letter.the-variants.{Plain, Selected}
 use Rattle.element.specs.Symbols.{among, listed, symbols, starts, marks}
 use Rattle.grammar.specs.Grammar.{nonzero, digits, several, signs}
+use Rattle.grammar.specs.declared.Last.{Last}
 use Rattle.grammar.specs.declared.Last.the-variants.{Plain as plain, AfterC as afterC, AfterB as afterB}
 use Rattle.grammar.specs.declared.Mode.{Mode}
 use Rattle.grammar.specs.declared.Mode.the-variants.{Seq as seq, Bond as bond, Dot as dot, Inside as inside, Percent as percent, Percent1 as percent1, LetterA as letterA, LetterT as letterT, Bracket as bracket, Isotope as isotope, Symbol1 as symbol1, Symbolled as symbolled, Hydrogen as hydrogen, Hydrogens as hydrogens, Sign as sign, Charged as charged, Colon as colon, Extension as extension}
 use Rattle.grammar.specs.declared.State.{State}
-use Rattle.grammar.specs.declared.State.the-variants.{Dead as dead, Start as start, At as at}
-use Rattle.grammar.specs.Machine.{alive, accepting, step, next, symbolOr}
+use Rattle.grammar.specs.declared.State.the-variants.{Start as start, At as at}
+use Rattle.grammar.specs.Machine.{alive, step, next, symbolOr}
 use Rattle.grammar.specs.Machine as machine
 use Rattle.grammar.specs.Fold.{Reading, going, halted, keeps, feed, read}
 use Rattle.grammar.proofs.Ends.{never}
 use Rattle.grammar.proofs.Complete.{no-second}
 use Rattle.grammar.proofs.Fold.{Goes, goes, read-append, prefix-goes}
+use Rattle.table.specs.Limits.{atomCells}
 use Rattle.table.specs.Rows.{atomRow, bondRow}
-use Rattle.reading.specs.Memory.{Memory, rowOf, described}
-use Rattle.reading.specs.Act.{closing, charging, hydrating, modeAct, act}
+use Rattle.reading.specs.Memory.{Memory, rowOf, bareRow, begun, described}
+use Rattle.reading.specs.Act.{firstByte, closing, charging, hydrating, modeAct, act}
 use Rattle.reading.specs.Read.{zeros, beginning, readOf}
 use Rattle.reading.proofs.Sane.{Sane}
 use Rattle.reading.proofs.Rows.{with-atom-row}
 use Rattle.reading.proofs.Hydrogens.{withHydrogens}
 use Rattle.reading.proofs.Step.{sane-beginning, sane-going}
-use Rattle.reading.proofs.Stays.{half-bracket, writing, After, Complete, Left, stays}
+use Rattle.reading.proofs.Dispatch.{Second}
+use Rattle.reading.proofs.Stays.{half-bracket, writing, After, Complete, Left, stays, Same, counted, letter-stays}
 use Rattle.reading.proofs.Outcome.{bytesRead, Fits}
-use Rattle.reading.proofs.Claims.{impliedAt, Given, Accepted, read-accepted}
+use Rattle.reading.proofs.Accepted.{impliedAt, Given, Accepted, read-accepted}
 
 -- ---- `]`
 
@@ -69,12 +75,6 @@ shuts (extension zero) d k μ w v = record { state = refl; memory = refl }
 shuts (extension (suc n)) d k μ w v = record { state = refl; memory = refl }
 
 -- ---- an accepted text
-counted : (n : ℕ) (τ : State) (ν : Memory) → accepting τ ≡ true → Complete n τ ν → n ≤ ν .st .atoms
-unfolding accepting
-counted n dead ν a c = never a
-counted n start ν a c = c
-counted n (at m d) ν a c = c .0
-
 goes-not-halted : {r : Reading Memory} {c p : ℕ} → Goes r → r ≡ halted c p → ⊥
 goes-not-halted goes e = let z : _≡_ {A = ℕ} 0 1 = cc in omega arith
 
@@ -117,21 +117,30 @@ module _ (s : List ℕ) (atoms bonds : List ℤ) where
     left : (n : ℕ) → Complete n σ μ → Left n (μ .st .bonds) μ (told .state) (told .memory)
     left n c = stays n (drop k s) (sane-before k (told .fits) reached) c (sym (rest k reached) ∙ told .reached)
 
+    given-same : (n a : ℕ) → a < n → n ≤ told .memory .st .atoms → Same n (μ .st .bonds) μ (told .memory) → Given μ (readOf s atoms bonds) a
+    given-same n a l h w =
+        let g = told .rows a (omega (arith, told .counts .0)) in
+        record {
+          outside = λ e. g .outside (w .flags a l ∙ e) ∙ ap (λ x. withHydrogens x (impliedAt (readOf s atoms bonds) a)) (w .rows a l);
+          bracket = λ f. g .bracket (λ e. f (sym (w .flags a l) ∙ e)) ∙ w .rows a l;
+        }
+
     -- the row of each atom that is complete after k bytes is what stands there, with hydrogens if it stands outside brackets
     pub atom-kept : (n : ℕ) → Complete n σ μ → (a : ℕ) → a < n → Given μ (readOf s atoms bonds) a
-    atom-kept n c a l =
-        let w = left n c in
-        let g = told .rows a (omega (arith, counted n (told .state) (told .memory) (told .ends) (w .complete), told .counts .0)) in
-        let row : atomRow (told .memory .atoms) a ≡ atomRow (μ .atoms) a = w .same .rows a l in
-        let flag : getD (told .memory .st .outside) a 0 ≡ getD (μ .st .outside) a 0 = w .same .flags a l in
-        record {
-          outside = λ e. g .outside (flag ∙ e) ∙ ap (λ x. withHydrogens x (impliedAt (readOf s atoms bonds) a)) row;
-          bracket = λ f. g .bracket (λ e. f (sym flag ∙ e)) ∙ row;
-        }
+    atom-kept n c a l = let w = left n c in given-same n a l (counted n (told .state) (told .memory) (told .ends) (w .complete)) (w .same)
 
     -- and each bond is the bond that stood there
     pub bond-kept : (b : ℕ) → b < μ .st .bonds → bondRow (readOf s atoms bonds .bonds) b ≡ bondRow (μ .bonds) b
     bond-kept b l = ap (λ (t : List ℤ). bondRow t b) (told .counts .2) ∙ left 0 (complete-0 k (told .fits) reached) .same .bonds b l
+
+  -- the same of every atom, outside brackets, where the next byte is not a second letter
+  pub letter-kept : (ok : readOf s atoms bonds .code ≡ 0) (k : ℕ) {x : Last} {d : ℕ} {μ : Memory} (reached : bytesRead (take k s) atoms bonds ≡ going (at (seq x) d) μ) → (Second x (getD s k 0) → ⊥)
+      → (a : ℕ) → a < μ .st .atoms → Given μ (readOf s atoms bonds) a
+  letter-kept ok k {x} {d} {μ} reached n a l =
+      let acc = told ok k reached in
+      let first : getD (drop k s) 0 0 ≡ getD s k 0 = getD-drop k s 0 0 ∙ ap (λ (j : ℕ). getD s j 0) (add-zero k) in
+      let w = letter-stays (drop k s) (sane-before k (acc .fits) reached) (λ z. n (subst (Second x) first z)) (sym (rest k reached) ∙ acc .reached) in
+      given-same ok k reached (μ .st .atoms) a l (w .count (acc .ends)) (w .same)
 
   -- a bracket atom has what is written: the row of the fields that stood before its `]`
   pub bracket-kept : readOf s atoms bonds .code ≡ 0 → (k : ℕ) {m : Mode} {d : ℕ} {μ : Memory} → k < length s → bytesRead (take k s) atoms bonds ≡ going (at m d) μ → writing m ≡ half-bracket → getD s k 0 ≡ 93
@@ -162,3 +171,17 @@ module _ (s : List ℕ) (atoms bonds : List ℤ) where
       split false v =
           let h : bytesRead (take (suc k) s) atoms bonds ≡ halted 3 (0 + length (take k s)) = fed ∙ rw v in
           absurd (not-halted (suc k) (acc .reached) h)
+
+-- ---- letters
+
+-- the element of a letter outside brackets, and whether it is selected
+pub data Reads : Letter → ℕ → ℕ → Type 0 where
+  plain-letter : {e : ℕ} → Reads (Plain e) e 0
+  selected-letter : {e : ℕ} → Reads (Selected e) e 1
+
+-- the row that the first byte of an atom outside brackets leaves, and its flag
+pub first-row : {l : Letter} {e x : ℕ} (μ : Memory) → Reads l e x → atomCells * μ .st .atoms + atomCells ≤ length (μ .atoms) → μ .st .atoms < length (μ .st .outside)
+    → (atomRow (firstByte l μ .atoms) (μ .st .atoms) ≡ bareRow e x) × (getD (firstByte l μ .st .outside) (μ .st .atoms) 0 ≡ 1)
+unfolding begun
+first-row μ (plain-letter {e}) r o = (with-atom-row (μ .atoms) (μ .st .atoms) (bareRow e 0) r, getD-set-same (μ .st .outside) (μ .st .atoms) 1 0 o)
+first-row μ (selected-letter {e}) r o = (with-atom-row (μ .atoms) (μ .st .atoms) (bareRow e 1) r, getD-set-same (μ .st .outside) (μ .st .atoms) 1 0 o)

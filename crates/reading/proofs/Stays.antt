@@ -3,7 +3,7 @@ use Prim.Native.Nat.{ℕ, zero, suc, _+_, _-_, _*_, _≤_, _<_}
 use native.Mathlib.Omega.{arith}
 use mathlib.Core.Path.{_≡_, refl, sym, ap, subst, _∙_}
 use mathlib.Core.Bool.{Bool, true, false, _&&_}
-use mathlib.Core.Logic.{inl, ⊎-elim}
+use mathlib.Core.Logic.{inl}
 use mathlib.Core.List.{List, [], _∷_}
 use lib.ListN.{length, getD}
 use lib.Seq.{getD-set-same, getD-set-other}
@@ -12,20 +12,17 @@ use lib.Dec.{eqb, leb}
 use borrow.Author.Tests.{leb-false}
 use Rattle.loops.specs.Loop.{pick}
 use Rattle.element.specs.declared.Letter.{Letter}
-use Rattle.element.specs.declared.Letter.the-variants.{Nothing}
 use Rattle.element.specs.Symbols.{among, listed, symbols}
 use Rattle.element.specs.Lookup.{letterOf}
-use Rattle.grammar.specs.Grammar.{nonzero, digits, several, bondSymbols, signs}
+use Rattle.grammar.specs.Grammar.{digits, several, signs}
 use Rattle.grammar.specs.declared.Last.{Last}
 use Rattle.grammar.specs.declared.Last.the-variants.{Plain as plain, AfterC as afterC, AfterB as afterB}
 use Rattle.grammar.specs.declared.Mode.{Mode}
 use Rattle.grammar.specs.declared.Mode.the-variants.{Seq as seq, Bond as bond, Dot as dot, Inside as inside, Percent as percent, Percent1 as percent1, LetterA as letterA, LetterT as letterT, Bracket as bracket, Isotope as isotope, Symbol1 as symbol1, Symbolled as symbolled, Hydrogen as hydrogen, Hydrogens as hydrogens, Sign as sign, Charged as charged, Colon as colon, Extension as extension}
 use Rattle.grammar.specs.declared.Out.{Out}
-use Rattle.grammar.specs.declared.Out.the-variants.{Stop as stop, To as to, Up as up, Down as down}
 use Rattle.grammar.specs.declared.State.{State}
 use Rattle.grammar.specs.declared.State.the-variants.{Dead as dead, Start as start, At as at}
-use Rattle.grammar.specs.Machine.{alive, turn, step, next, atomOr, bridgeOr}
-use Rattle.grammar.specs.Machine as machine
+use Rattle.grammar.specs.Machine.{alive, accepting, turn, step, next}
 use Rattle.grammar.specs.Fold.{keeps, refuses, Reading, going, halted, after, feed, read}
 use Rattle.grammar.proofs.Ends.{never}
 use Rattle.table.specs.declared.Atom.{Atom}
@@ -34,16 +31,16 @@ use Rattle.table.specs.Limits.{maxAtoms, maxBonds, atomCells, bondCells}
 use Rattle.table.specs.Rows.{atomRow, bondRow, withAtom, withBond}
 use Rattle.state.specs.Limits.{maxDepth}
 use Rattle.state.specs.State.{opened, closed, bridged, joined}
-use Rattle.reading.specs.Memory.{Memory, kindOf, rowOf, bareRow, bonded, begun, described, moved, counting, drafted, closeRefusal}
-use Rattle.reading.specs.Bracket.{digit}
-use Rattle.reading.specs.Act.{Acts, firstByte, orAtom, atomAct, bridgeBond, orRefuse, bridgeAct, branchAct, jointAct, secondLetter, goesOn, closing, charging, hydrating, modeAct, act}
+use Rattle.reading.specs.Memory.{Memory, kindOf, rowOf, bareRow, bonded, begun, described, moved, drafted, closeRefusal}
+use Rattle.reading.specs.Act.{Acts, firstByte, atomAct, bridgeBond, orRefuse, bridgeAct, branchAct, closing, charging, hydrating, modeAct, act}
 use Rattle.reading.proofs.Cases.{by-test}
 use Rattle.reading.proofs.Sane.{Tables, Sane, SaneReading}
 use Rattle.reading.proofs.Rows.{with-atom-other, same-atom-row, with-bond-other, same-bond-row}
-use Rattle.reading.proofs.Letters.{Begins, begins}
-use Rattle.reading.proofs.Atoms.{Ready, Held, ready, ready-start, held-of}
+use Rattle.reading.proofs.Letters.{Begins}
+use Rattle.reading.proofs.Atoms.{Ready, Held, ready, ready-start, held-of, bond-room}
 use Rattle.reading.proofs.Joints.{allowed}
-use Rattle.reading.proofs.Step.{or-begins, sane-feed}
+use Rattle.reading.proofs.Dispatch.{Second, Outside, in-sequence, in-bond, in-branch, in-percent, in-percent1, only-atom, second-letter}
+use Rattle.reading.proofs.Step.{sane-feed}
 
 -- ---- which atom's row may still be written
 
@@ -137,6 +134,11 @@ complete-any dead n ν a l f = tt
 complete-any start n ν a l f = a
 complete-any (at m d) n ν a l f = (a, after-any (writing m) n ν l f)
 
+half : (x : Last) (b n : ℕ) (μ : Memory) → After n (writing (seq x)) μ → Second x b → n ≤ μ .st .hub .0
+half plain b n μ l z = absurd z
+half afterC b n μ l z = l
+half afterB b n μ l z = l
+
 -- ---- an atom begins
 module _ {p q d i n k : ℕ} {μ : Memory} (h : Ready p q d i μ) (na : n ≤ μ .st .atoms) (kb : k ≤ μ .st .bonds) where
   module _ (few : μ .st .atoms < maxAtoms) (few-bonds : bonded μ ≡ true → μ .st .bonds < maxBonds) where
@@ -192,33 +194,19 @@ module _ {p q d i n k : ℕ} {μ : Memory} (h : Ready p q d i μ) (na : n ≤ μ
   unfolding atomAct
   atom-left b {o} w =
       by-test (LeftAct n k μ (turn o d)) _ _ _ (λ e. tt) (λ e.
-      by-test (LeftAct n k μ (turn o d)) _ _ _ (λ f. tt) (λ f.
-      first-left (leb-false maxAtoms (μ .st .atoms) e) (λ t. leb-false maxBonds (μ .st .bonds) (room (bonded μ) (leb maxBonds (μ .st .bonds)) f t)) w))
-    where
-      room : (t u : Bool) → (t && u) ≡ false → t ≡ true → u ≡ false
-      room true u e f = e
-      room false u e f = never f
-
-  or-left : (b : ℕ) (o : Out) (a : Acts) → Leaves n k μ (turn o d) a → Leaves n k μ (turn (atomOr b o) d) (orAtom (letterOf b) (atomAct b i μ) a)
-  or-left b o a other = ⊎-elim first second (begins b o)
-    where
-      first : Begins (letterOf b) (atomOr b o) → Leaves n k μ (turn (atomOr b o) d) (orAtom (letterOf b) (atomAct b i μ) a)
-      first w v = rw (or-begins (atomAct b i μ) a w) (atom-left b w)
-
-      second : (letterOf b ≡ Nothing) × (atomOr b o ≡ o) → Leaves n k μ (turn (atomOr b o) d) (orAtom (letterOf b) (atomAct b i μ) a)
-      second e = rw (e .0, e .1) other
-
-  only-left : (b : ℕ) → Leaves n k μ (turn (atomOr b stop) d) (atomAct b i μ)
-  only-left b = ⊎-elim first second (begins b stop)
-    where
-      first : Begins (letterOf b) (atomOr b stop) → Leaves n k μ (turn (atomOr b stop) d) (atomAct b i μ)
-      first w v = atom-left b w
-
-      second : (letterOf b ≡ Nothing) × (atomOr b stop ≡ stop) → Leaves n k μ (turn (atomOr b stop) d) (atomAct b i μ)
-      second e v = never (rw (e .1) at v)
+      by-test (LeftAct n k μ (turn o d)) _ _ _ (λ f. tt) (λ f. first-left (leb-false maxAtoms (μ .st .atoms) e) (bond-room μ f) w))
 
 -- ---- after the first atom
 module _ {p q d i n k : ℕ} {μ : Memory} (h : Held p q d i μ) (na : n ≤ μ .st .atoms) (kb : k ≤ μ .st .bonds) where
+  -- a step to a mode in which no row is being written, with the tables as they are
+  quiet : (m : Mode) (e : ℕ) → writing m ≡ no-row → (ν : Memory) → ν .atoms ≡ μ .atoms → ν .bonds ≡ μ .bonds → ν .st .outside ≡ μ .st .outside → ν .st .atoms ≡ μ .st .atoms → ν .st .bonds ≡ μ .st .bonds → Left n k μ (at m e) ν
+  quiet m e w ν ea eb eo en em =
+      record {
+        complete = (subst (λ c. n ≤ c) (sym en) na, subst (λ x. After n x ν) (sym w) tt);
+        bonds = subst (λ c. k ≤ c) (sym em) kb;
+        same = record { rows = λ a l. ap (λ t. atomRow t a) ea; flags = λ a l. ap (λ (t : List ℕ). getD t a 0) eo; bonds = λ b l. ap (λ t. bondRow t b) eb };
+      }
+
   bridge-left : (r o : ℕ) → LeftAct n k μ (at (seq plain) d) (bridgeAct r o μ)
   unfolding bridgeAct joined
   bridge-left r o = split (eqb (getD (μ .st .opener) r 0) 0)
@@ -228,7 +216,7 @@ module _ {p q d i n k : ℕ} {μ : Memory} (h : Held p q d i μ) (na : n ≤ μ 
           (pick t (keeps (moved (pick t (bridged (μ .st) r (μ .st .hub .0 + 1) (kindOf (μ .pending)) o (μ .st .bonds)) (bridged (μ .st) r 0 0 0 (μ .st .bonds + 1))) μ))
           (orRefuse (closeRefusal (μ .bonds) (μ .st .bonds) (getD (μ .st .opener) r 0 - 1) (μ .st .hub .0) (getD (μ .st .symbol) r 0) (kindOf (μ .pending))) o
           (moved (pick t (bridged (μ .st) r (μ .st .hub .0 + 1) (kindOf (μ .pending)) o (μ .st .bonds)) (bridged (μ .st) r 0 0 0 (μ .st .bonds + 1))) (bridgeBond r μ))))
-      split true = record { complete = (na, tt); bonds = kb; same = record { rows = λ a l. refl; flags = λ a l. refl; bonds = λ b l. refl } }
+      split true = quiet (seq plain) d refl _ refl refl refl refl refl
       split false = refusal (closeRefusal (μ .bonds) (μ .st .bonds) (getD (μ .st .opener) r 0 - 1) (μ .st .hub .0) (getD (μ .st .symbol) r 0) (kindOf (μ .pending))) refl
         where
           refusal : (x : ℕ) → closeRefusal (μ .bonds) (μ .st .bonds) (getD (μ .st .opener) r 0 - 1) (μ .st .hub .0) (getD (μ .st .symbol) r 0) (kindOf (μ .pending)) ≡ x
@@ -244,83 +232,31 @@ module _ {p q d i n k : ℕ} {μ : Memory} (h : Held p q d i μ) (na : n ≤ μ 
 
   branch-left : LeftAct n k μ (at inside (suc d)) (branchAct i μ)
   unfolding branchAct opened
-  branch-left = by-test (LeftAct n k μ (at inside (suc d))) (leb maxDepth (μ .st .depth)) (refuses 6 i) (keeps (moved (opened (μ .st)) μ)) (λ e. tt) (λ e. deeper)
-    where
-      deeper : Left n k μ (at inside (suc d)) (moved (opened (μ .st)) μ)
-      deeper = record { complete = (na, tt); bonds = kb; same = record { rows = λ a l. refl; flags = λ a l. refl; bonds = λ b l. refl } }
+  branch-left = by-test (LeftAct n k μ (at inside (suc d))) (leb maxDepth (μ .st .depth)) (refuses 6 i) (keeps (moved (opened (μ .st)) μ)) (λ e. tt) (λ e. quiet inside (suc d) refl _ refl refl refl refl refl)
 
-  down-left : (e : ℕ) → Leaves n k μ (turn down e) (keeps (moved (closed (μ .st)) μ))
+  down-left : (e : ℕ) → d ≡ suc e → Left n k μ (at (seq plain) e) (moved (closed (μ .st)) μ)
   unfolding closed
-  down-left zero v = never v
-  down-left (suc e) v = record { complete = (na, tt); bonds = kb; same = record { rows = λ a l. refl; flags = λ a l. refl; bonds = λ b l. refl } }
+  down-left e q = quiet (seq plain) e refl _ refl refl refl refl refl
 
-  -- a step to a mode in which no row is being written, with the tables as they are
-  quiet : (m : Mode) → writing m ≡ no-row → (ν : Memory) → ν .atoms ≡ μ .atoms → ν .bonds ≡ μ .bonds → ν .st ≡ μ .st → Left n k μ (at m d) ν
-  quiet m w ν ea eb es =
+  second-left : n ≤ μ .st .hub .0 → (e : ℕ) → Left n k μ (at (seq plain) d) (described (bareRow e 0) μ)
+  second-left l e = record { complete = (na, tt); bonds = kb; same = described-same (bareRow e 0) (h .tables) l (h .hub) }
+
+  -- each step outside brackets
+  outside : (b : ℕ) → Outside (LeftAct n k μ) d i μ b
+  outside b =
       record {
-        complete = (subst (λ s. n ≤ s .atoms) (sym es) na, subst (λ w. After n w ν) (sym w) tt);
-        bonds = subst (λ s. k ≤ s .bonds) (sym es) kb;
-        same = record { rows = λ a l. ap (λ t. atomRow t a) ea; flags = λ a l. ap (λ s. getD (s .outside) a 0) es; bonds = λ b l. ap (λ t. bondRow t b) eb };
+        atom = λ o w. atom-left (ready h) na kb b w;
+        bridge = λ r o hr ho. bridge-left r o;
+        symbol = quiet bond d refl _ refl refl refl refl refl;
+        joint = quiet dot d refl _ refl refl refl refl refl;
+        branch = branch-left;
+        unbranch = down-left;
+        sign = quiet percent d refl μ refl refl refl refl refl;
+        tens = λ t l u. quiet percent1 d refl _ refl refl refl refl refl;
       }
 
-  second-left : (e : ℕ) → n ≤ μ .st .hub .0 → (t : Bool) → Leaves n k μ (turn (pick t (to (seq plain)) stop) d) (secondLetter e μ)
-  second-left e l true v = record { complete = (na, tt); bonds = kb; same = described-same (bareRow e 0) (h .tables) l (h .hub) }
-  second-left e l false v = never v
-
-  goes-left : (x : Last) → After n (writing (seq x)) μ → (b : ℕ) → Leaves n k μ (turn (machine.goesOn x b) d) (goesOn x μ)
-  goes-left plain l b v = never v
-  goes-left afterC l b v = second-left 17 l (eqb b 108) v
-  goes-left afterB l b v = second-left 35 l (eqb b 114) v
-
-  seq-left : (x : Last) → After n (writing (seq x)) μ → (b : ℕ) → Leaves n k μ (turn (next (seq x) b) d) (modeAct (seq x) b i μ)
-  unfolding next modeAct bridgeOr
-  seq-left x l b = or-left (ready h) na kb b _ _ (split (among b nonzero) (eqb b 37) (among b bondSymbols) (eqb b 46) (eqb b 40) (eqb b 41))
-    where
-      split : (t1 t2 t3 t4 t5 t6 : Bool)
-          → Leaves n k μ
-          (turn (pick t1 (to (seq plain)) (pick t2 (to percent) (pick t3 (to bond) (pick t4 (to dot) (pick t5 up (pick t6 down (machine.goesOn x b))))))) d)
-          (pick t1 (bridgeAct (digit b) i μ) (pick t2 (keeps μ) (pick t3 (jointAct b μ) (pick t4 (jointAct b μ) (pick t5 (branchAct i μ) (pick t6 (keeps (moved (closed (μ .st)) μ)) (goesOn x μ)))))))
-      split true t2 t3 t4 t5 t6 v = bridge-left (digit b) i
-      split false true t3 t4 t5 t6 v = quiet percent refl μ refl refl refl
-      split false false true t4 t5 t6 v = quiet bond refl _ refl refl refl
-      split false false false true t5 t6 v = quiet dot refl _ refl refl refl
-      split false false false false true t6 v = branch-left
-      split false false false false false true v = down-left d v
-      split false false false false false false v = goes-left x l b v
-
-  bond-left : (b : ℕ) → Leaves n k μ (turn (next bond b) d) (modeAct bond b i μ)
-  unfolding next modeAct bridgeOr
-  bond-left b = or-left (ready h) na kb b _ _ (split (among b nonzero) (eqb b 37))
-    where
-      split : (t1 t2 : Bool) → Leaves n k μ (turn (pick t1 (to (seq plain)) (pick t2 (to percent) stop)) d) (pick t1 (bridgeAct (digit b) i μ) (keeps μ))
-      split true t2 v = bridge-left (digit b) i
-      split false true v = quiet percent refl μ refl refl refl
-      split false false v = never v
-
-  inside-left : (b : ℕ) → Leaves n k μ (turn (next inside b) d) (modeAct inside b i μ)
-  unfolding next modeAct
-  inside-left b = or-left (ready h) na kb b _ _ (split (among b bondSymbols) (eqb b 46))
-    where
-      split : (t1 t2 : Bool) → Leaves n k μ (turn (pick t1 (to dot) (pick t2 (to dot) stop)) d) (jointAct b μ)
-      split true t2 v = quiet dot refl _ refl refl refl
-      split false true v = quiet dot refl _ refl refl refl
-      split false false v = never v
-
-  percent-left : (b : ℕ) → Leaves n k μ (turn (next percent b) d) (modeAct percent b i μ)
-  unfolding next modeAct
-  percent-left b = split (among b nonzero)
-    where
-      split : (t : Bool) → Leaves n k μ (turn (pick t (to percent1) stop) d) (keeps (counting (digit b) μ))
-      split true v = quiet percent1 refl _ refl refl refl
-      split false v = never v
-
-  percent1-left : (b : ℕ) → Leaves n k μ (turn (next percent1 b) d) (modeAct percent1 b i μ)
-  unfolding next modeAct
-  percent1-left b = split (among b digits)
-    where
-      split : (t : Bool) → Leaves n k μ (turn (pick t (to (seq plain)) stop) d) (bridgeAct (10 * μ .tens + digit b) (i - 2) μ)
-      split true v = bridge-left (10 * μ .tens + digit b) (i - 2)
-      split false v = never v
+  seq-left : (x : Last) (b : ℕ) → (Second x b → n ≤ μ .st .hub .0) → Leaves n k μ (turn (next (seq x) b) d) (modeAct (seq x) b i μ)
+  seq-left x b l = in-sequence (LeftAct n k μ) d i μ b (outside b) x (λ z e s. second-left (l z) e)
 
   -- ---- in a bracket, whatever mode follows
   module _ (τ : State) (l : (n ≤ μ .st .hub .0) × (getD (μ .st .outside) (μ .st .hub .0) 0 ≡ 0)) where
@@ -343,14 +279,14 @@ module _ {p q d i n k : ℕ} {μ : Memory} (h : Held p q d i μ) (na : n ≤ μ 
 module _ (n k : ℕ) {p q i : ℕ} {μ : Memory} where
   mode-left : (m : Mode) {d : ℕ} → Sane p q (at m d) i μ → Complete n (at m d) μ → k ≤ μ .st .bonds → (b : ℕ) → Leaves n k μ (turn (next m b) d) (modeAct m b i μ)
   unfolding next modeAct
-  mode-left (seq x) w c kb b v = seq-left (held-of w) (c .0) kb x (c .1) b v
-  mode-left bond w c kb b v = bond-left (held-of w) (c .0) kb b v
-  mode-left dot w c kb b v = only-left (ready (held-of w)) (c .0) kb b v
-  mode-left inside w c kb b v = inside-left (held-of w) (c .0) kb b v
-  mode-left percent w c kb b v = percent-left (held-of w) (c .0) kb b v
-  mode-left percent1 w c kb b v = percent1-left (held-of w) (c .0) kb b v
-  mode-left letterA w c kb b v = second-left (held-of w) (c .0) kb 85 (c .1) (eqb b 116) v
-  mode-left letterT w c kb b v = second-left (held-of w) (c .0) kb 117 (c .1) (eqb b 115) v
+  mode-left (seq x) w c kb b v = seq-left (held-of w) (c .0) kb x b (half x b n μ (c .1)) v
+  mode-left bond {d} w c kb b v = in-bond (LeftAct n k μ) d i μ b (outside (held-of w) (c .0) kb b) v
+  mode-left dot {d} w c kb b v = only-atom (LeftAct n k μ) d i μ b (outside (held-of w) (c .0) kb b .atom) v
+  mode-left inside {d} w c kb b v = in-branch (LeftAct n k μ) d i μ b (outside (held-of w) (c .0) kb b) v
+  mode-left percent {d} w c kb b v = in-percent (LeftAct n k μ) d i μ b (outside (held-of w) (c .0) kb b) v
+  mode-left percent1 {d} w c kb b v = in-percent1 (LeftAct n k μ) d i μ b (outside (held-of w) (c .0) kb b) (w .stands .half .1) v
+  mode-left letterA {d} w c kb b v = second-letter (LeftAct n k μ) d i μ b 85 (eqb b 116) (λ e. second-left (held-of w) (c .0) kb (c .1) 85) v
+  mode-left letterT {d} w c kb b v = second-letter (LeftAct n k μ) d i μ b 117 (eqb b 115) (λ e. second-left (held-of w) (c .0) kb (c .1) 117) v
   mode-left bracket {d} w c kb b v = draft-left (held-of w) (c .0) kb (turn (next bracket b) d) (c .1) _
   mode-left (isotope j) {d} w c kb b v = draft-left (held-of w) (c .0) kb (turn (next (isotope j) b) d) (c .1) _
   mode-left (symbol1 a) {d} w c kb b v =
@@ -373,7 +309,7 @@ module _ (n k : ℕ) {p q i : ℕ} {μ : Memory} where
   step-left : (σ : State) → Sane p q σ i μ → Complete n σ μ → k ≤ μ .st .bonds → (b : ℕ) → Leaves n k μ (step σ b) (act σ b i μ)
   unfolding step act
   step-left dead w c kb b v = absurd (w .stands)
-  step-left start w c kb b v = only-left (ready-start w) c kb b v
+  step-left start w c kb b v = only-atom (LeftAct n k μ) 0 i μ b (λ o x. atom-left (ready-start w) c kb b x) v
   step-left (at m d) w c kb b v = mode-left m w c kb b v
 
 -- ---- over a text
@@ -408,3 +344,31 @@ module _ (p q n k : ℕ) (κ : Memory) where
 pub stays : {p q i : ℕ} {σ τ : State} {μ ν : Memory} (n : ℕ) (s : List ℕ) → Sane p q σ i μ → Complete n σ μ → read act i (going σ μ) s ≡ going τ ν → Left n (μ .st .bonds) μ τ ν
 stays {p} {q} {i} {σ} {τ} {μ} {ν} n s w c e =
     subst (LeftReading n (μ .st .bonds) μ) e (read-left p q n (μ .st .bonds) μ s i (going σ μ) w (record { complete = c; bonds = omega arith; same = same-itself n (μ .st .bonds) μ }))
+
+-- a text read to its end has the atoms that were complete
+pub counted : (n : ℕ) (τ : State) (ν : Memory) → accepting τ ≡ true → Complete n τ ν → n ≤ ν .st .atoms
+unfolding accepting
+counted n dead ν a c = never a
+counted n start ν a c = c
+counted n (at m d) ν a c = c .0
+
+-- so do all atoms read so far where the next byte is not a second letter
+pub record Stayed (μ : Memory) (τ : State) (ν : Memory) : Type 0 where
+  pub same : Same (μ .st .atoms) (μ .st .bonds) μ ν
+  pub count : accepting τ ≡ true → μ .st .atoms ≤ ν .st .atoms
+
+pub letter-stays : {p q i d : ℕ} {x : Last} {τ : State} {μ ν : Memory} (s : List ℕ) → Sane p q (at (seq x) d) i μ → (Second x (getD s 0 0) → ⊥) → read act i (going (at (seq x) d) μ) s ≡ going τ ν → Stayed μ τ ν
+unfolding read feed step act
+letter-stays {τ = τ} {μ = μ} {ν = ν} [] w n e =
+    let z : μ ≡ ν = cc in
+    subst (Stayed μ τ) z (record { same = same-itself (μ .st .atoms) (μ .st .bonds) μ; count = λ a. omega arith })
+letter-stays {p} {q} {i} {d} {x} {τ} {μ} {ν} (b ∷ s) w n e =
+    let l = subst (LeftReading (μ .st .atoms) (μ .st .bonds) μ) e
+    (read-left p q (μ .st .atoms) (μ .st .bonds) μ s (suc i) (feed act i (going (at (seq x) d) μ) b) (sane-feed p q i (going (at (seq x) d) μ) w b) (split (alive (turn (next (seq x) b) d)) refl)) in
+    record { same = l .same; count = λ a. counted (μ .st .atoms) τ ν a (l .complete) }
+  where
+    split : (t : Bool) → alive (turn (next (seq x) b) d) ≡ t → LeftReading (μ .st .atoms) (μ .st .bonds) μ (pick t (after (turn (next (seq x) b) d) (modeAct (seq x) b i μ)) (halted 3 i))
+    split true v =
+        left-after (μ .st .atoms) (μ .st .bonds) μ (turn (next (seq x) b) d) (modeAct (seq x) b i μ)
+        (seq-left (held-of w) (omega arith) (omega arith) x b (λ z. absurd (n z)) v)
+    split false v = tt
