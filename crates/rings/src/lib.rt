@@ -8,6 +8,8 @@ ghost use Rattle.spell.specs.Pen.{pen, Wrote};
 ghost use Rattle.writing.specs.Spell.{kindBytes, bridgeBytes};
 ghost use Rattle.rings.specs.Slots.{indexOf, Near, Closed, Opened};
 
+pub mod unused;
+
 // Whether the bridge numbers sufficed, and the place after the last byte.
 pub struct Spot {
     pub few: bool,
