@@ -13,6 +13,8 @@ use matching::MAX_BONDS;
 pub const NONE: usize = MAX_ATOMS;
 // internal: the label of the atoms outside the tree, the largest.
 pub const OUTSIDE: usize = MAX_ATOMS + 1;
+// internal: as many labels as there are.
+pub const LABELS: usize = MAX_ATOMS + 2;
 // internal: as many halves as bonds have ends.
 pub const HALVES: usize = 2 * MAX_BONDS;
 

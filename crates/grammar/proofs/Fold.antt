@@ -3,20 +3,19 @@ use mathlib.Core.Path.{_≡_, refl, sym, ap, subst, _∙_}
 use mathlib.Core.Bool.{Bool, true, false}
 use mathlib.Core.List.{List, [], _∷_, _++_, append-assoc}
 use mathlib.Core.Logic.{_≢_}
-use Prim.Native.Nat.{ℕ, zero, suc, _+_, _≤_, _<_}
+use Prim.Native.Nat.{ℕ, suc, _+_, _≤_, _<_}
 use native.Mathlib.Omega.{arith}
 use native.Mathlib.Decide.{decLt}
-use native.Mathlib.Nat.{zero-add}
-use lib.ListN.{length, take, drop, take-append-drop}
+use native.Mathlib.Nat.{add-zero}
+use lib.ListN.{length, getD, take, drop, take-append-drop}
 use lib.Seq.{take-take}
 use Rattle.grammar.specs.Grammar.{pick, Text}
-use Rattle.grammar.specs.Machine.{State, dead, start, at, step, run, alive, accepting, reach, Verdict, fine, refused, verdict}
+use Rattle.grammar.specs.Machine.{State, start, step, run, alive, accepting, reach}
 use Rattle.grammar.specs.Place.{Viable, Place}
 use Rattle.grammar.proofs.Sound.{sound}
 use Rattle.grammar.proofs.Complete.{complete}
-use Rattle.grammar.proofs.Ends.{never}
-use Rattle.grammar.proofs.Viable.{viable, live, reach-from, apart, reach-place, place-unique, text-no-place, refused-iff, fine-iff}
-use Rattle.grammar.specs.Fold.{Act, keeps, refuses, Action, Reading, going, halted, after, feed, read, Answer, good, bad, finish, answer}
+use Rattle.grammar.proofs.Viable.{viable, live, reach-from, apart, reach-place}
+use Rattle.grammar.specs.Fold.{Act, keeps, refuses, Action, Reading, going, halted, after, feed, read, good, bad, finish, answer}
 
 prefix-viable : (i : ℕ) (s : List ℕ) → Viable s → Viable (take i s)
 prefix-viable i s v = (drop i s ++ v .0, subst Text (ap (λ (l : List ℕ). l ++ v .0) (sym (take-append-drop i s)) ∙ append-assoc (take i s) (drop i s) (v .0)) (v .1))
@@ -32,6 +31,10 @@ reach-lives : (σ : State) (b : ℕ) (s : List ℕ) → alive (step σ b) ≡ tr
 unfolding reach
 reach-lives σ b s e = rw e
 
+-- a reading that did not halt
+pub data Goes {M : Type 0} : Reading M → Type 0 where
+  goes : {σ : State} {μ : M} → Goes (going σ μ)
+
 module _ {M : Type 0} (act : Action M) where
   -- where a reading from a state ends
   pub data Ends (i : ℕ) (σ : State) (s : List ℕ) : Reading M → Type 0 where
@@ -39,7 +42,7 @@ module _ {M : Type 0} (act : Action M) where
     by-grammar : {c p : ℕ} → c ≡ 3 → p ≡ i + reach σ s → reach σ s < length s → Ends i σ s (halted c p)
     by-action : {c p : ℕ} (k j : ℕ) (τ : State) (b : ℕ) (μ : M) → j ≡ i + k → k < length s → alive (run σ (take (suc k) s)) ≡ true → act τ b j μ ≡ refuses c p → Ends i σ s (halted c p)
 
-  read-halted : (s : List ℕ) (i c p : ℕ) → read act i (halted c p) s ≡ halted c p
+  pub read-halted : (s : List ℕ) (i c p : ℕ) → read act i (halted c p) s ≡ halted c p
   unfolding read feed
   read-halted [] i c p = refl
   read-halted (b ∷ s) i c p = read-halted s (suc i) c p
@@ -141,3 +144,56 @@ module _ {M : Type 0} (act : Action M) where
         where
           shorter : (m n : ℕ) (l : List ℕ) → m ≤ n → take m (take n l) ≡ take m l
           shorter m n l h = take-take m n l h
+
+  -- ---- in pieces
+  pub read-append : (s t : List ℕ) (i : ℕ) (r : Reading M) → read act i r (s ++ t) ≡ read act (i + length s) (read act i r s) t
+  unfolding read
+  read-append [] t i r = rw (add-zero i)
+  read-append (b ∷ s) t i r =
+      let e : i + suc (length s) ≡ suc i + length s = omega arith in
+      rw e (read-append s t (suc i) (feed act i r b))
+
+  -- a piece before a reading that goes on goes on
+  pub prefix-goes : (s t : List ℕ) (i : ℕ) (r : Reading M) {τ : State} {ν : M} → read act i r (s ++ t) ≡ going τ ν → Goes (read act i r s)
+  prefix-goes s t i r {τ} {ν} e = split (read act i r s) refl
+    where
+      split : (q : Reading M) → read act i r s ≡ q → Goes q
+      split (going σ μ) h = goes
+      split (halted c p) h =
+          let f : halted c p ≡ going τ ν = sym (read-halted t (i + length s) c p) ∙ sym (ap (λ (q : Reading M). read act (i + length s) q t) h) ∙ sym (read-append s t i r) ∙ e in
+          absurd (let z : _≡_ {A = ℕ} 0 1 = cc in omega arith)
+
+  -- where a reading halts: before that byte it goes on, and there the grammar or the action refuses
+  pub data Halts (i : ℕ) (r : Reading M) (s : List ℕ) (c p : ℕ) : Type 0 where
+    by-grammar : (k : ℕ) (τ : State) (ν : M) → k < length s → read act i r (take k s) ≡ going τ ν → alive (step τ (getD s k 0)) ≡ false → c ≡ 3 → p ≡ i + k → Halts i r s c p
+    by-action : (k : ℕ) (τ : State) (ν : M) → k < length s → read act i r (take k s) ≡ going τ ν → alive (step τ (getD s k 0)) ≡ true → act τ (getD s k 0) (i + k) ν ≡ refuses c p → Halts i r s c p
+
+  later-halt : {i b c p : ℕ} {r : Reading M} {s : List ℕ} → Halts (suc i) (feed act i r b) s c p → Halts i r (b ∷ s) c p
+  unfolding read
+  later-halt {i} (Halts.by-grammar k τ ν l e a q h) = Halts.by-grammar (suc k) τ ν (omega arith) e a q (omega arith)
+  later-halt {i} (Halts.by-action k τ ν l e a q) = let f : i + suc k ≡ suc i + k = omega arith in Halts.by-action (suc k) τ ν (omega arith) e a (rw f q)
+
+  pub read-halts : (s : List ℕ) (i : ℕ) (σ : State) (μ : M) (c p : ℕ) → read act i (going σ μ) s ≡ halted c p → Halts i (going σ μ) s c p
+  unfolding read feed
+  read-halts [] i σ μ c p e = absurd (let z : _≡_ {A = ℕ} 0 1 = cc in omega arith)
+  read-halts (b ∷ s) i σ μ c p g = split (alive (step σ b)) refl (act σ b i μ) refl (read-halts s (suc i) (step σ b)) g
+    where
+      put : (r : Reading M) → feed act i (going σ μ) b ≡ r → Halts (suc i) r s c p → Halts i (going σ μ) (b ∷ s) c p
+      put r f h = later-halt (subst (λ q. Halts (suc i) q s c p) (sym f) h)
+
+      here : i + 0 ≡ i
+      here = add-zero i
+
+      split : (t : Bool) → alive (step σ b) ≡ t → (a : Act M) → act σ b i μ ≡ a
+          → ((ν : M) (c p : ℕ) → read act (suc i) (going (step σ b) ν) s ≡ halted c p → Halts (suc i) (going (step σ b) ν) s c p)
+          → read act (suc i) (pick t (after (step σ b) a) (halted 3 i)) s ≡ halted c p → Halts i (going σ μ) (b ∷ s) c p
+      split true e (keeps ν) q f g = put (going (step σ b) ν) (rw (e, q)) (f ν c p g)
+      split true e (refuses d o) q f g =
+          let z : halted d o ≡ halted c p = sym (read-halted s (suc i) d o) ∙ g in
+          let x : act σ b i μ ≡ refuses c p = cc in
+          Halts.by-action 0 σ μ (omega arith) refl e (rw here x)
+      split false e a q f g =
+          let z : halted 3 i ≡ halted c p = sym (read-halted s (suc i) 3 i) ∙ g in
+          let x : 3 ≡ c = cc in
+          let y : i ≡ p = cc in
+          Halts.by-grammar 0 σ μ (omega arith) refl e (sym x) (omega arith)

@@ -2,12 +2,12 @@
 use Prim.Native.Nat.{ℕ, zero, suc, _+_, _*_, _≤_, _<_}
 use native.Mathlib.Omega.{arith}
 use native.Mathlib.Numerals.{add-one}
-use native.Mathlib.Nat.{add-zero, add-suc}
+use native.Mathlib.Nat.{add-zero}
 use mathlib.Core.Path.{_≡_, refl, sym, ap, _∙_}
 use mathlib.Core.Bool.{Bool, true, false, _||_}
 use mathlib.Core.List.{List, _∷_}
 use borrow.Author.Tests.{eq-eqb, ne-eqb, eqb-true, eqb-false, leb-true, ltb-true, ltb-false}
-use lib.ListN.{length, getD, set, replicate, length-set, length-replicate, getD-replicate, List·getD-eq-default}
+use lib.ListN.{length, getD, replicate, length-set, length-replicate, List·getD-eq-default}
 use lib.Seq.{getD-set-same, getD-set-other, ext-getD}
 use lib.IntN.{ℤ}
 use lib.Dec.{eqb, leb, ltb}
@@ -32,7 +32,7 @@ sum-suc bonds b a = let e : 0 + b ≡ b = omega arith in run-last (addShare bond
 pub sum-more : (bonds : List ℤ) (b a : ℕ) → bondSum bonds (b + 1) a ≡ bondSum bonds b a + share bonds a b
 sum-more bonds b a = rw (add-one b) (sum-suc bonds b a)
 
-order-small : (k : ℕ) → order k ≤ 3
+pub order-small : (k : ℕ) → order k ≤ 3
 unfolding order
 order-small k = go (eqb k 0) (leb k 3) refl
   where

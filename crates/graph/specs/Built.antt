@@ -28,11 +28,10 @@ abbrev pub sumFlag : List ℤ → List ℕ → ℕ → ℕ
 sumFlag atoms sums a = flag (delocalized (element atoms a) (selected atoms a) (getD sums a 0) (hydrogens atoms a))
 
 -- what the flags are filled from: a bond sum and a cell for each of n atoms
-pub record Summed (atoms : List ℤ) (sums : List ℕ) (n : ℕ) (flags : List ℕ) : Type 0 where
+pub record Summed (sums : List ℕ) (n : ℕ) (flags : List ℕ) : Type 0 where
   pub few : n ≤ maxAtoms
   pub summed : n ≤ length sums
   pub room : n ≤ length flags
-  pub small : (a : ℕ) → a < n → hydrogens atoms a ≤ 9
 
 -- the bonds have ends that fit, and each of m a cell
 pub record Wide (bonds : List ℤ) (m : ℕ) (ea eb el : List ℕ) : Type 0 where

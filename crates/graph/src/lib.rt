@@ -7,7 +7,7 @@ ghost use Rattle.loops.specs.Loop.{upTo};
 ghost use Rattle.table.specs.Limits.{maxAtoms, maxBonds};
 ghost use Rattle.table.specs.Cells.{element, selected, hydrogens};
 ghost use Rattle.table.specs.Valid.{Valid};
-ghost use Rattle.valence.specs.Valence.{order, firstTarget, delocalized};
+ghost use Rattle.valence.specs.Valence.{delocalized};
 ghost use Rattle.graph.specs.Graph.{bondSum, flag};
 ghost use Rattle.graph.specs.Built.{bump, withBond, sumFlag, Summed, Wide, Wired, Built, Room};
 use ids::AtomId;
@@ -21,25 +21,12 @@ use table::SECOND;
 use table::SELECTED;
 use table::cell;
 
-// What a kind adds to a bond sum.
-fn order(k: usize) -> usize
-    ensures { λ r. ⌜ r ≡ order k ⌝ }
-    ensures { λ r. ⌜ r ≤ 3 ⌝ }
+// Adds to the bond sum of an atom; nothing past the end.
+fn add(sums: &mut [u16], a: AtomId, x: usize)
+    requires { ⌜ getD (now sums) (a .0) 0 + x < 2 ^ 16 ⌝ }
+    ensures { λ _. ⌜ now (sums .exit) ≡ bump (now (sums .entry)) (a .0) x ⌝ }
 {
-    if k == 0 {
-        return 1;
-    }
-    if k <= 3 {
-        return k;
-    }
-    0
-}
-
-// Adds to one bond sum; nothing past the end.
-fn add(sums: &mut [u16], i: usize, x: usize)
-    requires { ⌜ getD (now sums) i 0 + x < 2 ^ 16 ⌝ }
-    ensures { λ _. ⌜ now (sums .exit) ≡ bump (now (sums .entry)) i x ⌝ }
-{
+    let i = a.0;
     if sums.len() <= i {
         return;
     }
@@ -55,10 +42,10 @@ fn add_bond(bonds: &[i32], b: BondId, sums: &mut [u16])
 {
     let e = cell::bond_number(bonds, b, FIRST);
     let f = cell::bond_number(bonds, b, SECOND);
-    let x = order(cell::bond_number(bonds, b, KIND));
-    add(sums, e, x);
+    let x = valence::order(cell::bond_number(bonds, b, KIND));
+    add(sums, AtomId(e), x);
     if e != f {
-        add(sums, f, x);
+        add(sums, AtomId(f), x);
     }
 }
 
@@ -86,29 +73,15 @@ pub fn fill_sums(bonds: &[i32], m: usize, sums: &mut [u16])
     }
 }
 
-// The first target of an element.
-fn first_target(e: usize) -> usize
-    ensures { λ r. ⌜ r ≡ firstTarget e ⌝ }
-{
-    match e {
-        5 | 7 | 15 => 3,
-        6 => 4,
-        8 | 16 => 2,
-        9 | 17 | 35 | 53 | 85 | 117 => 1,
-        _ => 0,
-    }
-}
-
 // Whether an atom is delocalized, by its bond sum.
 fn is_delocalized(atoms: &[i32], a: AtomId, sum: u16) -> bool
     requires { ⌜ a .0 < maxAtoms ⌝ }
-    requires { ⌜ hydrogens (now atoms) (a .0) ≤ 9 ⌝ }
     ensures { λ r. ⌜ r ≡ delocalized (element (now (atoms .entry)) (a .0)) (selected (now (atoms .entry)) (a .0)) sum (hydrogens (now (atoms .entry)) (a .0)) ⌝ }
 {
+    let e = cell::atom_number(atoms, a, ELEMENT);
     let s = cell::atom_number(atoms, a, SELECTED);
     let h = cell::atom_number(atoms, a, HYDROGENS);
-    let t = first_target(cell::atom_number(atoms, a, ELEMENT));
-    (s == 1) & (sum as usize + h + 1 <= t)
+    valence::delocalized(e, s, sum as usize, h)
 }
 
 // 0 or 1.
@@ -120,7 +93,7 @@ fn flag(b: bool) -> u8
 
 // 1 for each delocalized atom, from the bond sums.
 fn fill_flags(atoms: &[i32], sums: &[u16], n: usize, flags: &mut [u8])
-    requires { ⌜ Summed (now atoms) (now sums) n (now flags) ⌝ }
+    requires { ⌜ Summed (now sums) n (now flags) ⌝ }
     ensures { λ _. ⌜ now (flags .exit) ≡ upTo (sumFlag (now (atoms .entry)) (now (sums .entry))) 0 n ++ drop n (now (flags .entry)) ⌝ }
 {
     let mut i = 0;

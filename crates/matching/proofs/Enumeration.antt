@@ -289,7 +289,7 @@ module _ (p : Row → Bool) (m n : ℕ) (z : List Row) (fits : m ≤ n) (hz : cu
       ∙ ap (λ (l : List Reply). t .reply ∷ l) (replies-agree cs (t .reply .row) (a .2) ∙ ap (enumReplies n z (matchings p m) cs) (a .1))
 
 -- no row comes before itself, so each matching is enumerated once
-before-self : (r : Row) → before r r ≡ false
+pub before-self : (r : Row) → before r r ≡ false
 unfolding before
 before-self [] = refl
 before-self (x ∷ r) = rw (eqb-same x) (before-self r)

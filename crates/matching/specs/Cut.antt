@@ -3,7 +3,8 @@ use mathlib.Core.Bool.{Bool, true, false, _&&_, _||_, not}
 use mathlib.Core.List.{List, [], _∷_}
 use Prim.Native.Nat.{ℕ, zero, suc}
 use lib.Dec.{eqb}
-use lib.ListN.{getD}
+use lib.ListN.{getD, set}
+use Rattle.loops.specs.Loop.{pick}
 use Rattle.matching.specs.Graph.{Bond, countIf}
 use Rattle.matching.specs.Model.{free}
 
@@ -21,6 +22,15 @@ odd? (suc n) = not (odd? n)
 unfoldable pub odds : List ℕ → List ℕ → ℕ → ℕ
 odds need labs zero = 0
 odds need labs (suc n) = countIf (odd? (cnt need labs (suc n))) (odds need labs n)
+
+-- one atom more: whether the number at its label is odd turns
+abbrev pub flips : List ℕ → List ℕ → ℕ → List Bool → List Bool
+flips need labs v odd = pick (eqb (getD need v 0) 1) (set odd (getD labs v 0) (not (getD odd (getD labs v 0) false))) odd
+
+-- how many of the labels 1 to n are marked
+unfoldable pub marks : List Bool → ℕ → ℕ
+marks odd zero = 0
+marks odd (suc n) = countIf (getD odd (suc n) false) (marks odd n)
 
 -- the bond has an end in the cut, or joins two atoms of one label
 abbrev pub fine : List ℕ → Bond → Bool

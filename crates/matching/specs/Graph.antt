@@ -1,7 +1,8 @@
 -- A molecule as its matchings see it: the bonds, each with its ends and whether it is elided, and a flag for each atom: 1 if it is delocalized
+use mathlib.Core.Path.{_≡_}
 use mathlib.Core.Bool.{Bool, true, false, _&&_, _||_, not}
 use mathlib.Core.List.{List, [], _∷_}
-use Prim.Native.Nat.{ℕ, suc}
+use Prim.Native.Nat.{ℕ, suc, _<_}
 use lib.Dec.{eqb}
 use lib.ListN.{length, take, getD}
 use Rattle.loops.specs.Loop.{pick}
@@ -62,3 +63,25 @@ unfoldable pub enumeration : List ℕ → List Bond → List Call → Row → Li
 enumeration flags bs cs row =
     let es = matchings (isMatching flags bs) (length bs) in
     enumReplies (length row) (afterZero flags es) es cs (cursorAt (take (length bs) row) es)
+
+-- The same over sets of bonds, with no row.
+
+-- the bond with a number; past the last, one that is not elided
+abbrev pub nthBond : List Bond → ℕ → Bond
+nthBond bs b = getD bs b (record { end1 = 0; end2 = 0; elided = false })
+
+-- exactly one number is in the set
+pub record ExactlyOne (S : ℕ → Bool) : Type 0 where
+  pub one : ℕ
+  pub member : S one ≡ true
+  pub only : (b : ℕ) → S b ≡ true → b ≡ one
+
+-- 01, a placement: S is "a set of induced bonds such that each kept atom is an end of exactly one"
+pub record Pairs (flags : List ℕ) (bonds : List Bond) (S : ℕ → Bool) : Type 0 where
+  pub below : (b : ℕ) → S b ≡ true → b < length bonds
+  pub all-induced : (b : ℕ) → S b ≡ true → induced flags (nthBond bonds b) ≡ true
+  pub each-once : (v : ℕ) → flagged flags v ≡ true → ExactlyOne (λ b. S b && touches (nthBond bonds b) v)
+
+-- the set of bond numbers at which a row has 1
+abbrev pub setOf : Row → ℕ → Bool
+setOf r b = eqb (getD r b 0) 1

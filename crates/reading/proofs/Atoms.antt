@@ -1,46 +1,35 @@
 -- The memory stays sane when an atom begins, is described, and when its bracket is read. Assumes nothing.
-use Prim.Native.Nat.{ℕ, zero, suc, _+_, _-_, _*_, _≤_, _<_}
+use Prim.Native.Nat.{ℕ, suc, _+_, _≤_, _<_}
 use native.Mathlib.Omega.{arith}
-use mathlib.Core.Path.{_≡_, refl, sym, ap, subst, _∙_}
-use mathlib.Core.Bool.{Bool, true, false, _&&_, _||_, not}
-use mathlib.Core.List.{List, [], _∷_}
-use lib.IntN.{ℤ}
+use mathlib.Core.Path.{_≡_, refl}
+use mathlib.Core.Bool.{Bool, true, false, _&&_, not}
 use lib.Dec.{eqb, leb}
-use borrow.Author.Tests.{eqb-true, eqb-false, leb-false, not-true}
+use borrow.Author.Tests.{eqb-false, leb-false, not-true}
 use Rattle.loops.specs.Loop.{pick}
-use Rattle.loops.proofs.Loops.{and-left, and-right}
+use Rattle.loops.proofs.Loops.{and-left}
 use Rattle.element.specs.declared.Letter.{Letter}
-use Rattle.element.specs.declared.Letter.the-variants.{Plain, Selected, Half, Bracket, Nothing}
-use Rattle.element.specs.Symbols.{among, listed, symbols, starts, marks}
-use Rattle.element.specs.Lookup.{letterOf, numberOf}
-use Rattle.grammar.specs.Grammar.{nonzero, digits, several, signs}
-use Rattle.grammar.specs.declared.Last.{Last}
-use Rattle.grammar.specs.declared.Last.the-variants.{Plain as plain, AfterC as afterC, AfterB as afterB}
+use Rattle.element.specs.Lookup.{letterOf}
+use Rattle.grammar.specs.declared.Last.the-variants.{Plain as plain}
 use Rattle.grammar.specs.declared.Mode.{Mode}
-use Rattle.grammar.specs.declared.Mode.the-variants.{Seq as seq, LetterA as letterA, LetterT as letterT, Bracket as bracket, Isotope as isotope, Symbol1 as symbol1, Symbolled as symbolled, Hydrogen as hydrogen, Hydrogens as hydrogens, Sign as sign, Charged as charged, Colon as colon, Extension as extension}
+use Rattle.grammar.specs.declared.Mode.the-variants.{Seq as seq, LetterA as letterA, LetterT as letterT, Bracket as bracket}
 use Rattle.grammar.specs.declared.Out.{Out}
-use Rattle.grammar.specs.declared.Out.the-variants.{Stop as stop, To as to, Up as up, Down as down}
-use Rattle.grammar.specs.declared.State.{State}
-use Rattle.grammar.specs.declared.State.the-variants.{Dead as dead, Start as start, At as at}
-use Rattle.grammar.specs.Machine.{alive, turn, symbolOr, next}
-use Rattle.grammar.specs.Machine as machine
-use Rattle.grammar.specs.Fold.{Act, keeps, refuses}
+use Rattle.grammar.specs.declared.State.the-variants.{Start as start, At as at}
+use Rattle.grammar.specs.Machine.{turn}
 use Rattle.grammar.proofs.Ends.{never}
 use Rattle.table.specs.declared.Atom.{Atom}
 use Rattle.table.specs.Limits.{maxAtoms, maxBonds}
 use Rattle.table.specs.Cells.{end1, end2}
 use Rattle.table.specs.Rows.{withBond}
 use Rattle.state.specs.declared.Fields.{Fields}
-use Rattle.reading.specs.Memory.{Memory, Pending, nothing, kindOf, afterDot, blank, rowOf, bareRow, bondRow, bonded, begun, described, drafted}
-use Rattle.reading.specs.Bracket.{digit, isotoped, elemented, hydrogened, signed, positive}
-use Rattle.reading.specs.Bracket as fields
-use Rattle.reading.specs.Act.{Acts, firstByte, atomAct, secondLetter, goesOn, closing, charging, hydrating, isotopeAct, modeAct}
-use Rattle.reading.proofs.Sane.{BondRow, Tables, Steering, InRange, HalfRead, Unread, Standing, Stands, Sane, SaneAct, isotopeMost, extensionMost}
+use Rattle.reading.specs.Memory.{Memory, kindOf, afterDot, bareRow, bondRow, bonded, begun, described, drafted}
+use Rattle.reading.specs.Act.{firstByte, atomAct}
+use Rattle.reading.proofs.Cases.{by-test}
+use Rattle.reading.proofs.Sane.{Tables, Steering, HalfRead, Sane, SaneAct}
 use Rattle.reading.proofs.Rows.{rowOk}
 use Rattle.reading.proofs.Tables.{atom-added, atom-described, bond-added}
 use Rattle.reading.proofs.Steering.{later, extended-steering}
-use Rattle.reading.proofs.Draft.{any-digit, nonzero-digit, several-digit, number-small, blank-range, wider, isotoped-range, elemented-range, symbolled-range, hydrogened-range, charged-range, extended-range, isotope-digit, extension-digit, isotope-most, extension-most, row-of-fields, bare-row, selected-row}
-use Rattle.reading.proofs.Letters.{Begins, begins, digit-no-symbol, digit-closes-not, nonzero-is-digit}
+use Rattle.reading.proofs.Draft.{blank-range, bare-row, selected-row}
+use Rattle.reading.proofs.Letters.{Begins}
 
 -- what does not depend on the mode: before the first atom there is no hub
 pub record Ready (p q d i : ℕ) (μ : Memory) : Type 0 where
@@ -110,14 +99,11 @@ first-byte Begins.opening h a b = sane-of bracket (begun-held 0 h a b) (blank-ra
 
 pub atom-act : {p q d i : ℕ} {μ : Memory} (b : ℕ) {o : Out} → Begins (letterOf b) o → Ready p q d i μ → SaneAct p q (turn o d) (suc i) (atomAct b i μ)
 unfolding atomAct
-atom-act {p} {q} {d} {i} {μ} b {o} w h = split (leb maxAtoms (μ .st .atoms)) (bonded μ && leb maxBonds (μ .st .bonds)) refl refl
+atom-act {p} {q} {d} {i} {μ} b {o} w h =
+    by-test (SaneAct p q (turn o d) (suc i)) _ _ _ (λ e. tt) (λ e.
+    by-test (SaneAct p q (turn o d) (suc i)) _ _ _ (λ f. tt) (λ f.
+    first-byte w h (leb-false maxAtoms (μ .st .atoms) e) (λ t. leb-false maxBonds (μ .st .bonds) (room (bonded μ) (leb maxBonds (μ .st .bonds)) f t))))
   where
     room : (t u : Bool) → (t && u) ≡ false → t ≡ true → u ≡ false
     room true u e f = e
     room false u e f = never f
-
-    split : (u v : Bool) → leb maxAtoms (μ .st .atoms) ≡ u → (bonded μ && leb maxBonds (μ .st .bonds)) ≡ v
-        → SaneAct p q (turn o d) (suc i) (pick u (refuses 4 i) (pick v (refuses 5 i) (keeps (firstByte (letterOf b) μ))))
-    split true v e f = tt
-    split false true e f = tt
-    split false false e f = first-byte w h (leb-false maxAtoms (μ .st .atoms) e) (λ t. leb-false maxBonds (μ .st .bonds) (room (bonded μ) (leb maxBonds (μ .st .bonds)) f t))

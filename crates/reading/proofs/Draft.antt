@@ -1,23 +1,24 @@
 -- The fields of a bracket stay in range byte by byte, and make a valid row; so do the letters outside brackets. Assumes nothing.
 use Prim.Native.Nat.{ℕ, zero, suc, _+_, _-_, _*_, _≤_, _<_}
 use native.Mathlib.Omega.{arith}
-use mathlib.Core.Path.{_≡_, refl, sym, ap, subst, _∙_}
-use mathlib.Core.Bool.{Bool, true, false, _&&_, _||_}
+use mathlib.Core.Path.{_≡_, refl}
+use mathlib.Core.Bool.{Bool, true, false, _||_}
 use mathlib.Core.List.{List, [], _∷_}
 use lib.ListN.{length}
-use lib.IntN.{ℤ, pos, negsuc}
-use lib.Dec.{eqb, leb}
-use borrow.Author.Tests.{le-leb, eqb-true}
+use lib.IntN.{pos, negsuc}
+use lib.Dec.{eqb}
+use borrow.Author.Tests.{le-leb}
 use Rattle.loops.specs.Loop.{pick}
 use Rattle.element.specs.Symbols.{among, sameBytes, symbols}
 use Rattle.element.specs.Lookup.{indexFrom, numberOf, selectedOf}
 use Rattle.grammar.specs.Grammar.{nonzero, digits, several}
-use Rattle.grammar.proofs.Ends.{All, each}
+use Rattle.grammar.proofs.Ends.{each}
 use Rattle.table.specs.Cells.{number, inRange}
 use Rattle.table.specs.Valid.{selectable}
 use Rattle.state.specs.declared.Fields.{Fields}
 use Rattle.reading.specs.Memory.{blank, rowOf, bareRow}
 use Rattle.reading.specs.Bracket.{digit, isotoped, elemented, symbolled, hydrogened, charged, signed, extended}
+use Rattle.reading.proofs.Cases.{by-test}
 use Rattle.reading.proofs.Sane.{InRange, isotopeMost, extensionMost}
 use Rattle.reading.proofs.Rows.{within, rowOk}
 
@@ -38,11 +39,9 @@ several-digit = each (λ b. (2 ≤ digit b) × (digit b ≤ 9)) several ((omega 
 index-below : (k : ℕ) (s : List ℕ) (l : List (List ℕ)) → 1 ≤ k → indexFrom k s l < k + length l
 unfolding indexFrom
 index-below k s [] h = omega arith
-index-below k s (t ∷ l) h = split (sameBytes s t) (index-below (suc k) s l (omega arith))
-  where
-    split : (v : Bool) → indexFrom (suc k) s l < suc k + length l → pick v k (indexFrom (suc k) s l) < k + suc (length l)
-    split true r = omega arith
-    split false r = omega arith
+index-below k s (t ∷ l) h =
+    let rest : indexFrom (suc k) s l < suc k + length l = index-below (suc k) s l (omega arith) in
+    by-test (λ n. n < k + suc (length l)) (sameBytes s t) k (indexFrom (suc k) s l) (λ e. omega arith) (λ e. omega arith)
 
 pub number-small : (s : List ℕ) → numberOf s ≤ 118
 unfolding numberOf symbols
@@ -77,11 +76,10 @@ module _ {a e : ℕ} {f : Fields} (r : InRange a e f) where
 
   pub symbolled-range : (b : ℕ) → InRange a e (symbolled b f)
   unfolding symbolled
-  symbolled-range b = split (eqb (selectedOf b) 0) refl
-    where
-      split : (t : Bool) → eqb (selectedOf b) 0 ≡ t → InRange a e (pick t (elemented (numberOf (b ∷ [])) 0 f) (elemented (selectedOf b) 1 f))
-      split true q = elemented-range (numberOf (b ∷ [])) 0 (number-small (b ∷ [])) (omega arith) refl
-      split false q = let z = selected-fine b q in elemented-range (selectedOf b) 1 (z .1) (omega arith) (z .0)
+  symbolled-range b =
+      by-test (InRange a e) _ _ _
+      (λ q. elemented-range (numberOf (b ∷ [])) 0 (number-small (b ∷ [])) (omega arith) refl)
+      (λ q. let z = selected-fine b q in elemented-range (selectedOf b) 1 (z .1) (omega arith) (z .0))
 
   pub hydrogened-range : (h : ℕ) → h ≤ 9 → InRange a e (hydrogened h f)
   hydrogened-range h l = record { element = r .element; selected = r .selected; selectable = r .selectable; isotope = r .isotope; hydrogens = l; charge = r .charge; extension = r .extension }

@@ -1,40 +1,30 @@
 -- The memory stays sane at each byte of a bracket. Assumes nothing.
-use Prim.Native.Nat.{ℕ, zero, suc, _+_, _-_, _*_, _≤_, _<_}
+use Prim.Native.Nat.{ℕ, zero, suc, _≤_}
 use native.Mathlib.Omega.{arith}
-use mathlib.Core.Path.{_≡_, refl, sym, ap, subst, _∙_}
-use mathlib.Core.Bool.{Bool, true, false, _&&_, _||_, not}
-use mathlib.Core.List.{List, [], _∷_}
-use lib.IntN.{ℤ}
-use lib.Dec.{eqb, leb}
-use borrow.Author.Tests.{eqb-true, eqb-false, leb-false, not-true}
+use mathlib.Core.Path.{_≡_, refl, sym, _∙_}
+use mathlib.Core.Bool.{Bool, true, false}
+use mathlib.Core.List.{[], _∷_}
+use lib.Dec.{eqb}
+use borrow.Author.Tests.{eqb-true}
 use Rattle.loops.specs.Loop.{pick}
-use Rattle.loops.proofs.Loops.{and-left, and-right}
-use Rattle.element.specs.declared.Letter.{Letter}
-use Rattle.element.specs.declared.Letter.the-variants.{Plain, Selected, Half, Bracket, Nothing}
 use Rattle.element.specs.Symbols.{among, listed, symbols, starts, marks}
-use Rattle.element.specs.Lookup.{letterOf, numberOf}
+use Rattle.element.specs.Lookup.{numberOf}
 use Rattle.grammar.specs.Grammar.{nonzero, digits, several, signs}
-use Rattle.grammar.specs.declared.Last.{Last}
-use Rattle.grammar.specs.declared.Last.the-variants.{Plain as plain, AfterC as afterC, AfterB as afterB}
-use Rattle.grammar.specs.declared.Mode.{Mode}
-use Rattle.grammar.specs.declared.Mode.the-variants.{Seq as seq, LetterA as letterA, LetterT as letterT, Bracket as bracket, Isotope as isotope, Symbol1 as symbol1, Symbolled as symbolled, Hydrogen as hydrogen, Hydrogens as hydrogens, Sign as sign, Charged as charged, Colon as colon, Extension as extension}
+use Rattle.grammar.specs.declared.Last.the-variants.{Plain as plain}
+use Rattle.grammar.specs.declared.Mode.the-variants.{Seq as seq, Bracket as bracket, Isotope as isotope, Symbol1 as symbol1, Symbolled as symbolled, Hydrogen as hydrogen, Hydrogens as hydrogens, Sign as sign, Charged as charged, Colon as colon, Extension as extension}
 use Rattle.grammar.specs.declared.Out.{Out}
-use Rattle.grammar.specs.declared.Out.the-variants.{Stop as stop, To as to, Up as up, Down as down}
+use Rattle.grammar.specs.declared.Out.the-variants.{Stop as stop, To as to}
 use Rattle.grammar.specs.declared.State.{State}
-use Rattle.grammar.specs.declared.State.the-variants.{Dead as dead, Start as start, At as at}
+use Rattle.grammar.specs.declared.State.the-variants.{At as at}
 use Rattle.grammar.specs.Machine.{alive, turn, symbolOr, next}
 use Rattle.grammar.specs.Machine as machine
-use Rattle.grammar.specs.Fold.{Act, keeps, refuses}
+use Rattle.grammar.specs.Fold.{keeps}
 use Rattle.grammar.proofs.Ends.{never}
-use Rattle.table.specs.declared.Atom.{Atom}
-use Rattle.table.specs.Limits.{maxAtoms, maxBonds}
-use Rattle.table.specs.Cells.{end1, end2}
-use Rattle.state.specs.declared.Fields.{Fields}
-use Rattle.reading.specs.Memory.{Memory, Pending, nothing, kindOf, afterDot, blank, rowOf, bareRow, bondRow, bonded, begun, described, drafted}
+use Rattle.reading.specs.Memory.{Memory, rowOf, described, drafted}
 use Rattle.reading.specs.Bracket.{digit, isotoped, elemented, hydrogened, signed, positive}
 use Rattle.reading.specs.Bracket as fields
-use Rattle.reading.specs.Act.{Acts, firstByte, atomAct, secondLetter, goesOn, closing, charging, hydrating, isotopeAct, modeAct}
-use Rattle.reading.proofs.Sane.{BondRow, Tables, Steering, InRange, HalfRead, Unread, Standing, Stands, Sane, SaneAct, isotopeMost, extensionMost}
+use Rattle.reading.specs.Act.{Acts, closing, charging, hydrating, isotopeAct, modeAct}
+use Rattle.reading.proofs.Sane.{InRange, SaneAct, isotopeMost, extensionMost}
 use Rattle.reading.proofs.Draft.{any-digit, nonzero-digit, several-digit, number-small, wider, isotoped-range, elemented-range, symbolled-range, hydrogened-range, charged-range, extended-range, isotope-digit, extension-digit, isotope-most, extension-most, row-of-fields}
 use Rattle.reading.proofs.Letters.{digit-no-symbol, digit-closes-not, nonzero-is-digit}
 use Rattle.reading.proofs.Atoms.{Held, sane-of, held-later, held-drafted, held-described}

@@ -1,72 +1,53 @@
 -- The memory stays sane at a bridge, a branch, a bond symbol and a dot. Assumes nothing.
-use Prim.Native.Nat.{ℕ, zero, suc, _+_, _-_, _*_, _≤_, _<_}
+use Prim.Native.Nat.{ℕ, zero, suc, _+_, _-_, _≤_, _<_}
 use native.Mathlib.Omega.{arith}
-use mathlib.Core.Path.{_≡_, refl, sym, ap, subst, _∙_}
+use mathlib.Core.Path.{_≡_, refl, sym, _∙_}
 use mathlib.Core.Bool.{Bool, true, false, _&&_, _||_, not}
-use mathlib.Core.List.{List, [], _∷_}
+use mathlib.Core.List.{List}
 use lib.IntN.{ℤ}
-use lib.Dec.{eqb, leb, ltb}
-use borrow.Author.Tests.{eqb-true, eqb-false, eq-eqb, leb-false, ltb-true, ltb-false, not-true}
+use lib.Dec.{eqb, leb}
+use borrow.Author.Tests.{eqb-false, eq-eqb, leb-false, ltb-true, ltb-false, not-true, not-false}
 use Rattle.loops.specs.Loop.{pick, each}
 use Rattle.loops.proofs.Loops.{each-at}
-use Rattle.element.specs.declared.Letter.{Letter}
-use Rattle.element.specs.declared.Letter.the-variants.{Plain, Selected, Half, Bracket, Nothing}
-use Rattle.element.specs.Symbols.{among, listed, symbols, starts, marks}
-use Rattle.element.specs.Lookup.{letterOf, numberOf}
-use Rattle.grammar.specs.Grammar.{nonzero, digits, several, signs}
-use Rattle.grammar.specs.declared.Last.{Last}
-use Rattle.grammar.specs.declared.Last.the-variants.{Plain as plain, AfterC as afterC, AfterB as afterB}
-use Rattle.grammar.specs.declared.Mode.{Mode}
-use Rattle.grammar.specs.declared.Mode.the-variants.{Seq as seq, Inside as inside, LetterA as letterA, LetterT as letterT, Bracket as bracket, Isotope as isotope, Symbol1 as symbol1, Symbolled as symbolled, Hydrogen as hydrogen, Hydrogens as hydrogens, Sign as sign, Charged as charged, Colon as colon, Extension as extension}
-use Rattle.grammar.specs.declared.Out.{Out}
-use Rattle.grammar.specs.declared.Out.the-variants.{Stop as stop, To as to, Up as up, Down as down}
-use Rattle.grammar.specs.declared.State.{State}
-use Rattle.grammar.specs.declared.State.the-variants.{Dead as dead, Start as start, At as at}
-use Rattle.grammar.specs.Machine.{alive, turn, symbolOr, next}
-use Rattle.grammar.specs.Machine as machine
-use Rattle.grammar.specs.Fold.{Act, keeps, refuses}
+use Rattle.grammar.specs.declared.Last.the-variants.{Plain as plain}
+use Rattle.grammar.specs.declared.Mode.the-variants.{Seq as seq, Inside as inside}
+use Rattle.grammar.specs.declared.State.the-variants.{At as at}
+use Rattle.grammar.specs.Fold.{keeps, refuses}
 use Rattle.grammar.proofs.Ends.{never}
-use Rattle.table.specs.declared.Atom.{Atom}
-use Rattle.table.specs.Limits.{maxAtoms, maxBonds}
+use Rattle.table.specs.Limits.{maxBonds}
 use Rattle.table.specs.Cells.{end1, end2}
-use Rattle.state.specs.declared.Fields.{Fields}
-use Rattle.reading.specs.Memory.{Memory, dotted, symbol, symbolKind, kindOf, bondRow, between, awaiting, moved, counting, meet, clash, joins, joinedAlready, closeRefusal}
-use Rattle.reading.specs.Bracket.{digit, isotoped, elemented, hydrogened, signed, positive}
-use Rattle.reading.specs.Bracket as fields
+use Rattle.reading.specs.Memory.{Memory, dotted, symbol, symbolKind, kindOf, between, awaiting, moved, counting, meet, clash, joins, joinedAlready, closeRefusal}
 use Rattle.reading.specs.Act.{bridgeBond, orRefuse, bridgeAct, branchAct}
-use Rattle.reading.proofs.Sane.{BondRow, Tables, Steering, InRange, HalfRead, Unread, Standing, Stands, Sane, SaneAct, isotopeMost, extensionMost}
+use Rattle.reading.proofs.Cases.{by-test}
+use Rattle.reading.proofs.Sane.{Tables, Sane, SaneAct}
 use lib.ListN.{getD}
 use Rattle.table.specs.Rows.{withBond}
 use Rattle.state.specs.Limits.{maxDepth, bridges}
 use Rattle.state.specs.State.{opened, closed, bridged, joined}
 use Rattle.reading.proofs.Tables.{bond-added}
 use Rattle.reading.proofs.Steering.{later, opened-steering, closed-steering, closed-hub, bridged-steering}
-use Rattle.reading.proofs.Atoms.{Held, sane-of, held-later}
+use Rattle.reading.proofs.Atoms.{Held}
 
 -- ---- a bridge
 
 -- what was not refused
-record Allowed (bonds : List ℤ) (m u h : ℕ) : Type 0 where
+pub record Allowed (bonds : List ℤ) (m u h : ℕ) : Type 0 where
   pub few : m < maxBonds
   pub apart : u ≡ h → ⊥
   pub fresh : (j : ℕ) → j < m → joins bonds u h j ≡ false
 
-allowed : (bonds : List ℤ) (m u h j k : ℕ) → closeRefusal bonds m u h j k ≡ 0 → Allowed bonds m u h
+pub allowed : (bonds : List ℤ) (m u h j k : ℕ) → closeRefusal bonds m u h j k ≡ 0 → Allowed bonds m u h
 unfolding closeRefusal joinedAlready
-allowed bonds m u h j k = split (leb maxBonds m) (eqb u h) (each (λ i. not (joins bonds u h i)) 0 m) (clash j k) refl refl refl
-  where
-    split : (a b c e : Bool) → leb maxBonds m ≡ a → eqb u h ≡ b → each (λ i. not (joins bonds u h i)) 0 m ≡ c
-        → _≡_ {A = ℕ} (pick a 5 (pick b 7 (pick (not c) 8 (pick e 9 0)))) 0 → Allowed bonds m u h
-    split true b c e p q r z = absurd (omega arith)
-    split false true c e p q r z = absurd (omega arith)
-    split false false false e p q r z = absurd (omega arith)
-    split false false true true p q r z = absurd (omega arith)
-    split false false true false p q r z =
-        record {
-          few = leb-false maxBonds m p;
-          apart = eqb-false u h q;
-          fresh = λ j l. not-true (joins bonds u h j) (each-at (λ i. not (joins bonds u h i)) m j r l);
-        }
+allowed bonds m u h j k =
+    by-test (λ c. c ≡ 0 → Allowed bonds m u h) (leb maxBonds m) 5 _ (λ e (z : 5 ≡ 0). absurd (omega arith)) (λ few.
+    by-test (λ c. c ≡ 0 → Allowed bonds m u h) (eqb u h) 7 _ (λ e (z : 7 ≡ 0). absurd (omega arith)) (λ apart.
+    by-test (λ c. c ≡ 0 → Allowed bonds m u h) (not (each (λ x. not (joins bonds u h x)) 0 m)) 8 _ (λ e (z : 8 ≡ 0). absurd (omega arith)) (λ fresh.
+    by-test (λ c. c ≡ 0 → Allowed bonds m u h) (clash j k) 9 0 (λ e (z : 9 ≡ 0). absurd (omega arith)) (λ same z.
+    record {
+      few = leb-false maxBonds m few;
+      apart = eqb-false u h apart;
+      fresh = λ i l. not-true (joins bonds u h i) (each-at (λ x. not (joins bonds u h x)) m i (not-false (each (λ x. not (joins bonds u h x)) 0 m) fresh) l);
+    }))))
 
 -- neither way round
 no-way : (bonds : List ℤ) (u h j : ℕ) → joins bonds u h j ≡ false → end1 bonds j ≡ u → end2 bonds j ≡ h → ⊥
@@ -82,22 +63,17 @@ no-way-back bonds u h j f a b = never (sym f ∙ rw (eq-eqb (end1 bonds j) h a, 
     or-true false = refl
 
 met : (j k : ℕ) → j ≤ 3 → k ≤ 3 → meet j k ≤ 3
-met j k a b = split (eqb k 0)
-  where
-    split : (t : Bool) → pick t j k ≤ 3
-    split true = a
-    split false = b
+met j k a b = by-test (λ x. x ≤ 3) (eqb k 0) j k (λ e. a) (λ e. b)
 
 bridge-tables : {p q n m : ℕ} {atoms bonds : List ℤ} (u h k : ℕ) → Tables p q n m atoms bonds → Allowed bonds m u h → u < n → h < n → k ≤ 3
     → Tables p q n (m + 1) atoms (withBond bonds m (between u h k))
-bridge-tables {p} {q} {n} {m} {atoms} {bonds} u h k w a un hn k3 = split (ltb u h) refl
+bridge-tables {p} {q} {n} {m} {atoms} {bonds} u h k w a un hn k3 =
+    by-test (λ x. Tables p q n (m + 1) atoms (withBond bonds m x)) _ _ _
+    (λ e. bond-added w u h k (a .few) (ltb-true u h e) hn k3 (λ j l. no-way bonds u h j (a .fresh j l)))
+    (λ e. bond-added w h u k (a .few) (not-above (ltb-false u h e)) un k3 (λ j l. no-way-back bonds u h j (a .fresh j l)))
   where
-    split : (t : Bool) → ltb u h ≡ t → Tables p q n (m + 1) atoms (withBond bonds m (pick t (bondRow u h k) (bondRow h u k)))
-    split true e = bond-added w u h k (a .few) (ltb-true u h e) hn k3 (λ j l. no-way bonds u h j (a .fresh j l))
-    split false e = bond-added w h u k (a .few) (not-above (ltb-false u h e)) un k3 (λ j l. no-way-back bonds u h j (a .fresh j l))
-      where
-        not-above : h ≤ u → h < u
-        not-above g = omega (arith, a .apart)
+    not-above : h ≤ u → h < u
+    not-above g = omega (arith, a .apart)
 
 module _ {p q d i : ℕ} {μ : Memory} (h : Held p q d i μ) where
   pub bridge-act : (r o : ℕ) → r < bridges → o ≤ i → SaneAct p q (at (seq plain) d) (suc i) (bridgeAct r o μ)

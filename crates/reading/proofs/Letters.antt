@@ -1,10 +1,10 @@
 -- What the lookup of an atom's first byte and the grammar's machine say together. Assumes nothing.
-use Prim.Native.Nat.{ℕ, zero, suc, _+_, _-_, _*_, _≤_, _<_}
+use Prim.Native.Nat.{ℕ, _≤_}
 use native.Mathlib.Omega.{arith}
-use mathlib.Core.Path.{_≡_, refl, sym, ap, subst, _∙_}
+use mathlib.Core.Path.{_≡_, refl, sym, ap, _∙_}
 use mathlib.Core.Bool.{Bool, true, false, _||_}
 use mathlib.Core.Logic.{_⊎_, inl, inr}
-use mathlib.Core.List.{List, [], _∷_}
+use mathlib.Core.List.{List}
 use lib.Dec.{eqb}
 use borrow.Author.Tests.{eqb-true}
 use Rattle.loops.specs.Loop.{pick}
@@ -14,11 +14,11 @@ use Rattle.element.specs.Symbols.{among, sameBytes, letters, marks, symbols, st
 use Rattle.element.specs.Lookup.{indexFrom, numberOf, selectedOf, letterOf}
 use Rattle.grammar.specs.Grammar.{nonzero, digits}
 use Rattle.grammar.specs.declared.Last.{Last}
-use Rattle.grammar.specs.declared.Mode.the-variants.{Seq as seq, LetterA as letterA, LetterT as letterT, Bracket as bracket, Isotope as isotope, Symbol1 as symbol1, Symbolled as symbolled}
+use Rattle.grammar.specs.declared.Mode.the-variants.{Seq as seq, LetterA as letterA, LetterT as letterT, Bracket as bracket}
 use Rattle.grammar.specs.declared.Out.{Out}
-use Rattle.grammar.specs.declared.Out.the-variants.{Stop as stop, To as to, Up as up, Down as down}
-use Rattle.grammar.specs.Machine.{lastOf, atomOr, symbolOr, closing}
-use Rattle.grammar.proofs.Ends.{All, each, never}
+use Rattle.grammar.specs.declared.Out.the-variants.{Stop as stop, To as to}
+use Rattle.grammar.specs.Machine.{atomOr, symbolOr, closing}
+use Rattle.grammar.proofs.Ends.{each, never}
 use Rattle.table.specs.Valid.{selectable}
 
 -- a byte that begins an atom, and where the machine goes with it

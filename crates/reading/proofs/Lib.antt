@@ -1,3 +1,4 @@
+pub mod Cases
 pub mod Sane
 pub mod Rows
 pub mod Tables
@@ -8,3 +9,11 @@ pub mod Atoms
 pub mod InBracket
 pub mod Joints
 pub mod Step
+pub mod Hydrogens
+pub mod Valid
+pub mod Refusals
+pub mod Outcome
+pub mod Leftmost
+pub mod Claims
+pub mod Stays
+pub mod Kept

@@ -1,9 +1,9 @@
 -- What a written row leaves in its table: its own cells, and every other cell as it was. Assumes nothing.
-use Prim.Native.Nat.{ℕ, zero, suc, _+_, _*_, _≤_, _<_}
+use Prim.Native.Nat.{ℕ, _+_, _*_, _≤_, _<_}
 use native.Mathlib.Omega.{arith}
 use native.Mathlib.Decide.{ℕ-discrete}
 use mathlib.Core.Path.{_≡_, refl, sym, ap, _∙_}
-use mathlib.Core.Bool.{Bool, true, false, _&&_, _||_}
+use mathlib.Core.Bool.{Bool, true, _&&_, _||_}
 use mathlib.Core.Logic.{_⊎_, ⊎-elim}
 use mathlib.Core.List.{List}
 use lib.ListN.{length, getD, set, length-set}
@@ -15,7 +15,7 @@ use Rattle.loops.specs.Loop.{pick}
 use Rattle.table.specs.declared.Atom.{Atom}
 use Rattle.table.specs.declared.Bond.{Bond}
 use Rattle.table.specs.Limits.{atomCells, bondCells, ELEMENT, SELECTED, ISOTOPE, HYDROGENS, CHARGE, EXTENSION, FIRST, SECOND, KIND}
-use Rattle.table.specs.Cells.{number, inRange, atomPlace, bondPlace, atomCell, bondCell, end1, end2}
+use Rattle.table.specs.Cells.{number, inRange, atomPlace, bondPlace}
 use Rattle.table.specs.Rows.{atomRow, bondRow, withAtom, withBond}
 use Rattle.table.specs.Valid.{atomOk, selectedOk, selectable}
 

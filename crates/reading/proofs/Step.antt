@@ -1,10 +1,10 @@
 -- The memory stays sane at every byte, in every state of the machine, and over every text. Assumes nothing.
-use Prim.Native.Nat.{ℕ, zero, suc, _+_, _-_, _*_, _≤_, _<_}
+use Prim.Native.Nat.{ℕ, zero, suc, _+_, _-_, _*_, _≤_}
 use native.Mathlib.Omega.{arith}
 use native.Mathlib.Nat.{add-zero}
-use mathlib.Core.Path.{_≡_, refl, sym, ap, subst, _∙_}
-use mathlib.Core.Bool.{Bool, true, false, _&&_}
-use mathlib.Core.Logic.{_⊎_, ⊎-elim}
+use mathlib.Core.Path.{_≡_, refl, subst}
+use mathlib.Core.Bool.{Bool, true, false}
+use mathlib.Core.Logic.{⊎-elim}
 use mathlib.Core.List.{List, [], _∷_}
 use lib.ListN.{length, getD, replicate, length-replicate}
 use lib.IntN.{ℤ, pos}
@@ -27,25 +27,25 @@ use Rattle.grammar.specs.declared.State.{State}
 use Rattle.grammar.specs.declared.State.the-variants.{Dead as dead, Start as start, At as at}
 use Rattle.grammar.specs.Machine.{alive, turn, step, next, atomOr, bridgeOr}
 use Rattle.grammar.specs.Machine as machine
-use Rattle.grammar.specs.Fold.{Act, keeps, refuses, Reading, going, halted, after, feed, read}
+use Rattle.grammar.specs.Fold.{keeps, refuses, Reading, going, halted, after, feed, read}
 use Rattle.grammar.proofs.Ends.{never}
 use Rattle.table.specs.Limits.{maxAtoms, maxBonds, atomCells, bondCells}
 use Rattle.table.specs.Valid.{enough}
 use Rattle.state.specs.State.{started, closed}
-use Rattle.reading.specs.Memory.{Memory, bareRow, moved, described, counting}
+use Rattle.reading.specs.Memory.{Memory, bareRow, moved, counting}
 use Rattle.reading.specs.Bracket.{digit}
 use Rattle.reading.specs.Act.{Acts, orAtom, atomAct, bridgeAct, branchAct, jointAct, secondLetter, goesOn, modeAct, act}
 use Rattle.reading.specs.Read.{zeros, beginning}
-use Rattle.reading.proofs.Sane.{Tables, Sane, SaneReading, SaneAct}
+use Rattle.reading.proofs.Sane.{Sane, SaneReading, SaneAct}
 use Rattle.reading.proofs.Steering.{started-steering}
 use Rattle.reading.proofs.Draft.{any-digit, nonzero-digit, bare-row}
 use Rattle.reading.proofs.Letters.{Begins, begins}
 use Rattle.reading.proofs.Atoms.{Ready, Held, ready, ready-start, held-of, sane-of, held-later, held-described, atom-act}
-use Rattle.reading.proofs.InBracket.{Follows, close-act, extend-act, charge-act, hydrate-act, bracket-step, isotope-step, symbol-step, hydrogen-step, sign-step, colon-step, extension-step}
+use Rattle.reading.proofs.InBracket.{Follows, extend-act, charge-act, hydrate-act, bracket-step, isotope-step, symbol-step, hydrogen-step, sign-step, colon-step, extension-step}
 use Rattle.reading.proofs.Joints.{bridge-act, branch-act, unbranch-act, joint-held, counting-held}
 
 -- ---- an atom, or something else
-or-begins : {l : Letter} {o : Out} (a k : Acts) → Begins l o → orAtom l a k ≡ a
+pub or-begins : {l : Letter} {o : Out} (a k : Acts) → Begins l o → orAtom l a k ≡ a
 or-begins a k (Begins.plain s) = refl
 or-begins a k (Begins.selected s t) = refl
 or-begins a k Begins.letter-a = refl

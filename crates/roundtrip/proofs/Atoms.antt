@@ -24,6 +24,7 @@ use Rattle.grammar.specs.Machine.{turn, atomOr}
 use Rattle.valence.specs.Valence.{implied}
 use Rattle.graph.specs.Graph.{bondSum}
 use Rattle.table.specs.declared.Atom.{Atom}
+use Rattle.state.specs.declared.Fields.{Fields}
 use Rattle.table.specs.Limits.{ELEMENT, SELECTED, ISOTOPE, HYDROGENS, CHARGE, EXTENSION}
 use Rattle.table.specs.Cells.{number, inRange, atomCell, element, selected, hydrogens}
 use Rattle.table.specs.Valid.{selectable, selectedOk, chargeOk}
@@ -53,10 +54,16 @@ symbolic-of t v f =
     go (suc (suc s)) l h = absurd (omega arith)
 
 module _ (atoms bonds : List ℤ) (m v : ℕ) where
-  -- the row that the bytes of the atom v leave, and whether it stands outside brackets
+  -- the fields of the atom v
+  abbrev pub fieldsAt : Fields
+  fieldsAt = fields (element atoms v) (selected atoms v) (number (atomCell atoms v ISOTOPE)) (hydrogens atoms v) (atomCell atoms v CHARGE) (number (atomCell atoms v EXTENSION))
+
+  -- the row that its bytes leave, and whether it stands outside brackets
+  abbrev pub rowBy : Bool → Atom
+  rowBy x = pick x (bareRow (element atoms v) (selected atoms v)) (rowOf fieldsAt)
+
   unfoldable pub draftRow : Atom
-  draftRow = pick (unbracketed atoms bonds m v) (bareRow (element atoms v) (selected atoms v))
-      (rowOf (fields (element atoms v) (selected atoms v) (number (atomCell atoms v ISOTOPE)) (hydrogens atoms v) (atomCell atoms v CHARGE) (number (atomCell atoms v EXTENSION))))
+  draftRow = rowBy (unbracketed atoms bonds m v)
 
   unfoldable pub outsideFlag : ℕ
   outsideFlag = pick (unbracketed atoms bonds m v) 1 0
@@ -104,15 +111,14 @@ module _ (atoms bonds : List ℤ) (m v : ℕ) where
           absurd (let z : _≡_ {A = ℕ} 0 1 = cc in omega arith)
 
   takes-brackets : AtomFine atoms v → (i : ℕ) (σ : State) (d : ℕ) (μ : Memory) → Begins σ d → Room μ
-      → Atomed i σ d μ (bracketBytes atoms v) (rowOf (fields (element atoms v) (selected atoms v) (number (atomCell atoms v ISOTOPE)) (hydrogens atoms v) (atomCell atoms v CHARGE) (number (atomCell atoms v EXTENSION)))) 0
+      → Atomed i σ d μ (bracketBytes atoms v) (rowOf fieldsAt) 0
   unfolding bracketBytes begun atomOr among letters letterOf selectedOf
   takes-brackets f i σ d μ g r =
-      let E = fields (element atoms v) (selected atoms v) (number (atomCell atoms v ISOTOPE)) (hydrogens atoms v) (atomCell atoms v CHARGE) (number (atomCell atoms v EXTENSION)) in
       let li = range-high (atomCell atoms v ISOTOPE) 999 (f .isotope) in
       let lh = range-high (atomCell atoms v HYDROGENS) 9 (f .hydrogens) in
       let lx = range-high (atomCell atoms v EXTENSION) 9999 (f .extension) in
       let w = takes-bracket (element atoms v) (selected atoms v) (number (atomCell atoms v ISOTOPE)) (hydrogens atoms v) (atomCell atoms v CHARGE) (number (atomCell atoms v EXTENSION)) (symbolic-of atoms v f) (omega arith) (omega arith) (slight-of (atomCell atoms v CHARGE) (f .charge)) (omega arith) in
-      record { last = plain; draft = E; is = byte 91 _ (g .goes 91 .1) refl (g .does 91 i μ refl ∙ first 91 i μ r) (w .is (suc i) d (begun 0 μ)) }
+      record { last = plain; draft = fieldsAt; is = byte 91 _ (g .goes 91 .1) refl (g .does 91 i μ refl ∙ first 91 i μ r) (w .is (suc i) d (begun 0 μ)) }
 
   -- THE ATOM
   pub takes-atom : AtomFine atoms v → (i : ℕ) (σ : State) (d : ℕ) (μ : Memory) → Begins σ d → Room μ → Atomed i σ d μ (atomBytes atoms bonds m v) draftRow outsideFlag
@@ -120,6 +126,6 @@ module _ (atoms bonds : List ℤ) (m v : ℕ) where
   takes-atom f i σ d μ g r = go (unbracketed atoms bonds m v) refl
     where
       go : (x : Bool) → unbracketed atoms bonds m v ≡ x
-          → Atomed i σ d μ (pick x (symbolBytes (element atoms v) (selected atoms v)) (bracketBytes atoms v)) (pick x (bareRow (element atoms v) (selected atoms v)) (rowOf (fields (element atoms v) (selected atoms v) (number (atomCell atoms v ISOTOPE)) (hydrogens atoms v) (atomCell atoms v CHARGE) (number (atomCell atoms v EXTENSION))))) (pick x 1 0)
+          → Atomed i σ d μ (pick x (symbolBytes (element atoms v) (selected atoms v)) (bracketBytes atoms v)) (rowBy x) (pick x 1 0)
       go true e = takes-letters (element atoms v) (selected atoms v) (symbolic-of atoms v f) (bare-of e .letter) i σ d μ g r
       go false e = takes-brackets f i σ d μ g r

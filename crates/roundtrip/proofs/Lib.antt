@@ -7,3 +7,14 @@ pub mod Letters
 pub mod Atoms
 pub mod Held
 pub mod Simulation
+pub mod Signs
+pub mod Tokens
+pub mod Written
+pub mod Bonds
+pub mod Ending
+pub mod Matchable
+pub mod Back
+pub mod Again
+pub mod Rewritten
+pub mod Limits
+pub mod Claims

@@ -48,7 +48,7 @@ Holds row flag p q (st xs bs h n hs stk) μ = Sim row flag p q xs bs h n hs stk 
 
 -- ---- Bool tests of the two layers
 -- what passed at each number passed everywhere
-each-all : (f : ℕ → Bool) (k m : ℕ) → ((j : ℕ) → k ≤ j → j < k + m → f j ≡ true) → each f k m ≡ true
+pub each-all : (f : ℕ → Bool) (k m : ℕ) → ((j : ℕ) → k ≤ j → j < k + m → f j ≡ true) → each f k m ≡ true
 unfolding each
 each-all f k zero h = refl
 each-all f k (suc m) h = rw (h k (omega arith) (omega arith)) (each-all f (suc k) m (λ j a b. h j (omega arith) (omega arith)))

@@ -1,14 +1,15 @@
 // A plain backtracking search for matchings, over tables that the caller lends: the engine that others are compared with.
 // Every function here is internal: the calls on molecules check what is asked of the tables.
+use ids::AtomId;
 use ids::BondId;
 use matching::Answer;
 ghost use mathlib.Core.Path.{_≡_};
 ghost use mathlib.Core.Bool.{true};
 ghost use mathlib.Core.List.{_++_};
 ghost use Prim.Native.Nat.{ℕ, _-_, _<_, _≤_};
-ghost use lib.ListN.{length, take, replicate};
+ghost use lib.ListN.{length, take, drop, replicate, getD};
 ghost use Rattle.matching.specs.Enumeration.{rowFirst, rowNext};
-ghost use Rattle.matching.specs.Graph.{noneFlagged, isMatching};
+ghost use Rattle.matching.specs.Graph.{flagged, noneFlagged, isMatching};
 ghost use Rattle.matching.specs.Model.{Shape, Searched, Ends, allFrom, laterFrom, matchingFrom, part, freeAt, markAt, bondsOf, reply};
 
 // internal: every atom has its partner.
@@ -25,6 +26,25 @@ pub fn all_paired(need: &[u8]) -> bool
     true
 }
 
+// internal: the end of the bond k in a table of ends.
+pub fn end_of(ends: &[u16], k: BondId) -> AtomId
+    requires { ⌜ k .0 < length (now ends) ⌝ }
+    ensures { λ r. ⌜ r .0 ≡ getD (now (ends .entry)) (k .0) 0 ⌝ }
+{
+    let at = k.0;
+    let end = ends[at] as usize;
+    AtomId(end)
+}
+
+// internal: the flag of the atom v is 1: it has no partner.
+pub fn unpaired(need: &[u8], v: AtomId) -> bool
+    requires { ⌜ v .0 < length (now need) ⌝ }
+    ensures { λ r. ⌜ r ≡ flagged (now (need .entry)) (v .0) ⌝ }
+{
+    let at = v.0;
+    need[at] == 1
+}
+
 // internal: the bond k can be chosen.
 pub fn choosable(ea: &[u16], eb: &[u16], el: &[u8], need: &[u8], k: BondId) -> bool
     requires { ⌜ Ends (now ea) (now eb) (now need) (k .0) ⌝ }
@@ -32,15 +52,7 @@ pub fn choosable(ea: &[u16], eb: &[u16], el: &[u8], need: &[u8], k: BondId) -> b
     ensures { λ r. ⌜ r ≡ freeAt (now (ea .entry)) (now (eb .entry)) (now (el .entry)) (now (need .entry)) (k .0) ⌝ }
 {
     let at = k.0;
-    if el[at] != 1 {
-        return false;
-    }
-    let a = ea[at] as usize;
-    if need[a] != 1 {
-        return false;
-    }
-    let b = eb[at] as usize;
-    need[b] == 1
+    (el[at] == 1) & unpaired(need, end_of(ea, k)) & unpaired(need, end_of(eb, k))
 }
 
 // internal: both ends of the bond k get x.
@@ -48,9 +60,10 @@ pub fn mark(ea: &[u16], eb: &[u16], need: &mut [u8], k: BondId, x: u8)
     requires { ⌜ Ends (now ea) (now eb) (now need) (k .0) ⌝ }
     ensures { λ _. ⌜ now (need .exit) ≡ markAt (now (ea .entry)) (now (eb .entry)) (now (need .entry)) (k .0) x ⌝ }
 {
-    let at = k.0;
-    let a = ea[at] as usize;
-    let b = eb[at] as usize;
+    let first = end_of(ea, k);
+    let second = end_of(eb, k);
+    let a = first.0;
+    let b = second.0;
     need[a] = x;
     need[b] = x;
 }
@@ -137,16 +150,25 @@ pub fn later(ea: &[u16], eb: &[u16], el: &[u8], need: &mut [u8], row: &mut [u8],
     later(ea, eb, el, need, row, BondId(next))
 }
 
+// internal: zeros from the cell `from` up to `to`.
+pub fn blank(row: &mut [u8], from: usize, to: usize)
+    requires { ⌜ (from ≤ to) × (to ≤ length (now row)) ⌝ }
+    ensures { λ _. ⌜ now (row .exit) ≡ take from (now (row .entry)) ++ (replicate (to - from) 0 ++ drop to (now (row .entry))) ⌝ }
+{
+    let mut i = from;
+    while i < to {
+        row[i] = 0;
+        i += 1;
+    }
+}
+
 // internal: zeros from the cell `from` on.
 pub fn clear(row: &mut [u8], from: usize)
     requires { ⌜ from ≤ length (now row) ⌝ }
     ensures { λ _. ⌜ now (row .exit) ≡ take from (now (row .entry)) ++ replicate (length (now (row .entry)) - from) 0 ⌝ }
 {
-    let mut i = from;
-    while i < row.len() {
-        row[i] = 0;
-        i += 1;
-    }
+    let to = row.len();
+    blank(row, from, to);
 }
 
 // internal: the first matching.

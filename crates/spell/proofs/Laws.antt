@@ -11,7 +11,7 @@ use lib.Signed.{ltZ, leZ, nonNeg}
 use mir.Val.{SFits}
 use mir.Syntax.{w32}
 use lib.Dec.{T, eqb, ltb, leb}
-use borrow.Author.Tests.{eq-eqb, ne-eqb, lt-ltb, le-ltb, not-true, ltb-true, leb-true}
+use borrow.Author.Tests.{eq-eqb, ne-eqb, lt-ltb, le-ltb, not-true, ltb-true, leb-true, eqb-true, eqb-false, le-leb, lt-leb}
 use Rattle.loops.specs.Loop.{pick}
 use Rattle.loops.proofs.Loops.{and-left, and-right}
 use Rattle.element.specs.Symbols.{symbols}
@@ -19,9 +19,9 @@ use Rattle.element.specs.Lookup.{bytesOf, selectedBytes, spelling}
 use Rattle.element.specs.declared.Spelling.{Spelling}
 use Rattle.table.specs.Limits.{ISOTOPE, CHARGE, EXTENSION}
 use Rattle.table.specs.Cells.{number, inRange, atomCell, element, selected, hydrogens}
-use Rattle.writing.specs.Spell.{digitByte, decimal, kindBytes, bridgeBytes, isotopeBytes, symbolBytes, sizeBytes, hydrogenBytes, chargeBytes, extensionBytes, bracketBytes}
+use Rattle.writing.specs.Spell.{digitByte, decimal, kindBytes, bridgeBytes, isotopeBytes, symbolBytes, sizeBytes, hydrogenBytes, chargeBytes, extensionBytes, bracketBytes, neutral}
 use Rattle.spell.specs.Pen.{Pen, pen, putByte, writes, Wrote}
-use Rattle.spell.specs.Fields.{letters}
+use Rattle.spell.specs.Fields.{letters, outside, spelledAtom}
 
 pub writes-append : (a b : List ℕ) (p : Pen) → writes (a ++ b) p ≡ writes b (writes a p)
 unfolding writes
@@ -213,3 +213,21 @@ pub bracket-is : (t : List ℤ) (a i e s h x : ℕ) (z : ℤ) → i ≡ number (
     → bracketBytes t a ≡ 91 ∷ (isotopeBytes i ++ (symbolBytes e s ++ (hydrogenBytes h ++ (chargeBytes z ++ (extensionBytes x ++ 93 ∷ [])))))
 unfolding bracketBytes
 bracket-is t a i e s h x z p q r u v w = sym (rw (p, q, r, u, v, w))
+
+-- a charge of 0 lies between 0 and 0
+pub neutral-is : (z : ℤ) → inRange z (pos 0) (pos 0) ≡ neutral z
+unfolding inRange
+neutral-is (negsuc n) = refl
+neutral-is (pos n) = go (eqb n 0) refl
+  where
+    go : (t : Bool) → eqb n 0 ≡ t → (leb 0 n && leb n 0) ≡ t
+    go true e = let z = eqb-true n 0 e in rw (le-leb 0 n (omega arith), le-leb n 0 (omega arith))
+    go false e = let z = eqb-false n 0 e in rw (le-leb 0 n (omega arith), lt-leb n 0 (omega arith))
+
+pub bare-atom : (t : List ℤ) (a sum e s : ℕ) → outside t a sum ≡ true → e ≡ element t a → s ≡ selected t a → spelledAtom t a sum ≡ symbolBytes e s
+unfolding spelledAtom
+bare-atom t a sum e s h p q = simp (h, p, q)
+
+pub bracket-atom : (t : List ℤ) (a sum : ℕ) → outside t a sum ≡ false → spelledAtom t a sum ≡ bracketBytes t a
+unfolding spelledAtom
+bracket-atom t a sum h = simp h

@@ -11,7 +11,7 @@ use Rattle.element.specs.Lookup.{bare}
 use Rattle.valence.specs.Valence.{implied}
 use Rattle.table.specs.Limits.{ISOTOPE, CHARGE, EXTENSION}
 use Rattle.table.specs.Cells.{number, inRange, atomCell, element, selected, hydrogens}
-use Rattle.writing.specs.Spell.{symbolBytes, bracketBytes}
+use Rattle.writing.specs.Spell.{neutral, symbolBytes, bracketBytes}
 
 -- the letters of a symbol; 0 is none
 unfoldable pub letters : Spelling → List ℕ
@@ -24,3 +24,13 @@ pub record AtomFits (t : List ℤ) (a : ℕ) : Type 0 where
   pub hydrogens : hydrogens t a < 10
   pub charge : inRange (atomCell t a CHARGE) (negsuc 8) (pos 9) ≡ true
   pub extension : number (atomCell t a EXTENSION) < 10000
+
+-- an atom with this bond sum stands without brackets
+unfoldable pub outside : List ℤ → ℕ → ℕ → Bool
+outside atoms a sum =
+    eqb (number (atomCell atoms a ISOTOPE)) 0 && neutral (atomCell atoms a CHARGE) && eqb (number (atomCell atoms a EXTENSION)) 0
+    && bare (element atoms a) && eqb (implied (element atoms a) (selected atoms a) sum) (hydrogens atoms a)
+
+-- the bytes of an atom with this bond sum
+unfoldable pub spelledAtom : List ℤ → ℕ → ℕ → List ℕ
+spelledAtom atoms a sum = pick (outside atoms a sum) (symbolBytes (element atoms a) (selected atoms a)) (bracketBytes atoms a)

@@ -6,7 +6,7 @@ ghost use lib.IntN.{pos, negsuc};
 ghost use Rattle.table.specs.Limits.{maxAtoms};
 ghost use Rattle.table.specs.Cells.{inRange};
 ghost use Rattle.spell.specs.Pen.{pen, Wrote};
-ghost use Rattle.spell.specs.Fields.{letters, AtomFits};
+ghost use Rattle.spell.specs.Fields.{letters, AtomFits, outside, spelledAtom};
 ghost use Rattle.writing.specs.Spell.{isotopeBytes, symbolBytes, hydrogenBytes, sizeBytes, chargeBytes, extensionBytes, bracketBytes};
 use crate::decimal;
 use crate::put;
@@ -115,4 +115,32 @@ fn bracket(atoms: &[i32], a: AtomId, out: &mut [u8], at: usize) -> usize
     let at = charge(out, at, table::cell::atom_cell(atoms, a, CHARGE));
     let at = extension(out, at, table::cell::atom_number(atoms, a, EXTENSION));
     put(out, at, b']')
+}
+
+// Whether an atom with this bond sum stands without brackets.
+fn is_outside(atoms: &[i32], a: AtomId, sum: usize) -> bool
+    requires { ⌜ a .0 < maxAtoms ⌝ }
+    requires { ⌜ AtomFits (now atoms) (a .0) ⌝ }
+    ensures { λ r. ⌜ r ≡ outside (now (atoms .entry)) (a .0) sum ⌝ }
+{
+    let e = table::cell::atom_number(atoms, a, ELEMENT);
+    let implied = valence::implied(e, table::cell::atom_number(atoms, a, SELECTED), sum);
+    (table::cell::atom_number(atoms, a, ISOTOPE) == 0)
+        & table::cell::atom_within(atoms, a, CHARGE, 0, 0)
+        & (table::cell::atom_number(atoms, a, EXTENSION) == 0)
+        & element::is_bare(e as u8)
+        & (implied == table::cell::atom_number(atoms, a, HYDROGENS))
+}
+
+// internal: an atom with its bond sum.
+pub fn atom(atoms: &[i32], a: AtomId, sum: usize, out: &mut [u8], at: usize) -> usize
+    requires { ⌜ a .0 < maxAtoms ⌝ }
+    requires { ⌜ AtomFits (now atoms) (a .0) ⌝ }
+    ensures { λ r. ⌜ Wrote (spelledAtom (now (atoms .entry)) (a .0) sum) (pen (now (out .entry)) at) (pen (now (out .exit)) r) ⌝ }
+{
+    if is_outside(atoms, a, sum) {
+        let e = table::cell::atom_number(atoms, a, ELEMENT);
+        return symbol(out, at, e, table::cell::atom_number(atoms, a, SELECTED));
+    }
+    bracket(atoms, a, out, at)
 }

@@ -66,11 +66,11 @@ find-low b (held x ∷ t) h = go (eqBond b x) h (find-low b t)
     go true h f = omega arith
     go false h f = omega (arith, f (omega arith))
 
-all-left : {A : Type 0} (P : A → Type 0) (l m : List A) → All P (l ++ m) → All P l
+pub all-left : {A : Type 0} (P : A → Type 0) (l m : List A) → All P (l ++ m) → All P l
 all-left P [] m a = none
 all-left P (x ∷ l) m (more h a) = more h (all-left P l m a)
 
-all-right : {A : Type 0} (P : A → Type 0) (l m : List A) → All P (l ++ m) → All P m
+pub all-right : {A : Type 0} (P : A → Type 0) (l m : List A) → All P (l ++ m) → All P m
 all-right P [] m a = a
 all-right P (x ∷ l) m (more h a) = all-right P l m a
 

@@ -189,7 +189,7 @@ some-count p (b ∷ l) h = go (p b) h (some-count p l)
     go true h f = absurd (omega arith)
     go false h f = f (omega arith)
 
-length-count : (l : List Bond) → length l ≡ count (λ b. true) l
+pub length-count : (l : List Bond) → length l ≡ count (λ b. true) l
 length-count [] = refl
 length-count (b ∷ l) = omega (arith, length-count l)
 

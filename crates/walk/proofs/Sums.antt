@@ -45,7 +45,7 @@ module _ (n : ℕ) (order : List ℕ) (all : (v : ℕ) → v < n → 0 < times v
   or-turn false true = refl
   or-turn false false = refl
 
-  weight-place : (b : Bond) → (b .lo < b .hi) × (b .hi < n) → weightAt wt (place order v) (renumber order b) ≡ weightAt wt v b
+  pub weight-place : (b : Bond) → (b .lo < b .hi) × (b .hi < n) → weightAt wt (place order v) (renumber order b) ≡ weightAt wt v b
   weight-place b i = go (ltb (place order (b .lo)) (place order (b .hi)))
     where
       e1 : eqb (place order (b .lo)) (place order v) ≡ eqb (b .lo) v
@@ -58,7 +58,7 @@ module _ (n : ℕ) (order : List ℕ) (all : (v : ℕ) → v < n → 0 < times v
       go true = λ j. cond (e1 j || e2 j) (wt (b .kind)) 0
       go false = (λ j. cond (e2 j || e1 j) (wt (b .kind)) 0) ∙ ap (λ (x : Bool). cond x (wt (b .kind)) 0) (or-turn (eqb (b .hi) v) (eqb (b .lo) v))
 
-  sum-place : (bs : List Bond) → Inside n bs → bondSum wt (place order v) (map (renumber order) bs) ≡ bondSum wt v bs
+  pub sum-place : (bs : List Bond) → Inside n bs → bondSum wt (place order v) (map (renumber order) bs) ≡ bondSum wt v bs
   sum-place [] none = refl
   sum-place (b ∷ bs) (more i a) = λ j. weight-place b i j + sum-place bs a j
 

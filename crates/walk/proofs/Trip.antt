@@ -306,7 +306,7 @@ eqb-turn a b = go (eqb a b) refl
     go true e = sym (eq-eqb b a (sym (eqb-true a b e)))
     go false e = sym (ne-eqb b a (λ q. eqb-false a b e (sym q)))
 
-below-suc : (n : ℕ) (l : List ℕ) → count (λ v. ltb v (suc n)) l ≡ count (λ v. ltb v n) l + times n l
+pub below-suc : (n : ℕ) (l : List ℕ) → count (λ v. ltb v (suc n)) l ≡ count (λ v. ltb v n) l + times n l
 below-suc n [] = refl
 below-suc n (x ∷ l) = omega (arith, before-suc x n, ap bit (eqb-turn x n), below-suc n l)
 
@@ -318,7 +318,7 @@ below-count zero l h = none-below l
     none-below (x ∷ l) = omega (arith, ap bit (le-ltb x 0 (omega arith)), none-below l)
 below-count (suc n) l h = omega (arith, below-suc n l, below-count n l (λ v g. h v (omega arith)), h n (omega arith))
 
-all-count : (n : ℕ) (l : List ℕ) → All (λ v. v < n) l → count (λ v. ltb v n) l ≡ length l
+pub all-count : (n : ℕ) (l : List ℕ) → All (λ v. v < n) l → count (λ v. ltb v n) l ≡ length l
 all-count n [] none = refl
 all-count n (x ∷ l) (more h a) = omega (arith, ap bit (lt-ltb x n h), all-count n l a)
 

@@ -66,7 +66,7 @@ place-range a (suc d) v h g = go (eqb v a) refl (place-range (suc a) d v)
     go true y f = let z = eqb-true v a y in omega arith
     go false y f = let z = eqb-false v a y in let r = f (omega arith) (omega arith) in omega arith
 
-place-same : (n v : ℕ) → v < n → place (range 0 n) v ≡ v
+pub place-same : (n v : ℕ) → v < n → place (range 0 n) v ≡ v
 place-same n v h = let r = place-range 0 n v (omega arith) (omega arith) in omega arith
 
 renumber-same : (n : ℕ) (l : List Bond) → Inside n l → map (renumber (range 0 n)) l ≡ l

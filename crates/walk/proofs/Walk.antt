@@ -186,3 +186,13 @@ dfs-same bs (visit {x} {cs} {s} {f} {g} m d e) (visit {f = f′} {g = g′} m′
     let p : f ≡ f′ = dfs-same bs d d′ in
     let q : g ≡ g′ = dfs-same bs e (subst (λ (z : Forest). Dfs bs cs ((s ++ (x .to ∷ [])) ++ pre z) g′) (sym p) e′) in
     λ i. node (x .to) (x .kind) (p i) (q i)
+
+-- the fuel makes no difference
+pub same-fuel : (n : ℕ) (bs : List Bond) → Inside n bs → (v : ℕ) (s : List ℕ) → walk bs n v s ≡ tour (walk bs n) (ways v bs) s
+same-fuel n bs i v s =
+    let q = range-count (λ v. not (member v s)) 0 n in
+    dfs-same bs (walk-dfs n bs i n v s (omega arith)) (tour-dfs n bs (walk bs n) n (walk-dfs n bs i n) (ways v bs) (ways-bounded n v bs i) s (omega arith))
+
+-- trying the ways with the fuel of a molecule is a depth-first walk
+pub tried-dfs : (n : ℕ) (bs : List Bond) → Inside n bs → (cs : List Way) → Bounded n cs → (s : List ℕ) → Dfs bs cs s (tour (walk bs n) cs s)
+tried-dfs n bs i cs b s = let q = range-count (λ v. not (member v s)) 0 n in tour-dfs n bs (walk bs n) n (walk-dfs n bs i n) cs b s (omega arith)

@@ -50,15 +50,15 @@ bracketBytes t a =
     91 ∷ (isotopeBytes (number (atomCell t a ISOTOPE)) ++ (symbolBytes (element t a) (selected t a) ++ (hydrogenBytes (hydrogens t a)
     ++ (chargeBytes (atomCell t a CHARGE) ++ (extensionBytes (number (atomCell t a EXTENSION)) ++ 93 ∷ [])))))
 
+abbrev pub neutral : ℤ → Bool
+neutral (pos n) = eqb n 0
+neutral (negsuc n) = false
+
 -- "without brackets exactly if isotope, charge and extension are 0, its letter is allowed outside, and read there it would get the same hydrogens"
 unfoldable pub unbracketed : List ℤ → List ℤ → ℕ → ℕ → Bool
 unbracketed atoms bonds m a =
-    eqb (number (atomCell atoms a ISOTOPE)) 0 && zero? (atomCell atoms a CHARGE) && eqb (number (atomCell atoms a EXTENSION)) 0
+    eqb (number (atomCell atoms a ISOTOPE)) 0 && neutral (atomCell atoms a CHARGE) && eqb (number (atomCell atoms a EXTENSION)) 0
     && bare (element atoms a) && eqb (implied (element atoms a) (selected atoms a) (bondSum bonds m a)) (hydrogens atoms a)
-  where
-    zero? : ℤ → Bool
-    zero? (pos n) = eqb n 0
-    zero? (negsuc n) = false
 
 unfoldable pub atomBytes : List ℤ → List ℤ → ℕ → ℕ → List ℕ
 atomBytes atoms bonds m a = pick (unbracketed atoms bonds m a) (symbolBytes (element atoms a) (selected atoms a)) (bracketBytes atoms a)

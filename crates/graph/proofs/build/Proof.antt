@@ -2,7 +2,7 @@ use native.Mathlib.Omega.{arith}
 use mathlib.Core.Path.{_∙_}
 use denote.Ref.{now}
 use Rattle.loops.proofs.Loops.{filled-part}
-use Rattle.table.proofs.Valid.{hydrogens-small, first-end, second-end}
+use Rattle.table.proofs.Valid.{first-end, second-end}
 use Rattle.graph.specs.Built.{sumFlag}
 use Rattle.graph.proofs.Graph.{sum-flags}
 use borrow.Author.Needs.{needs}
@@ -21,7 +21,7 @@ slice-aggregate-fill-flags c = search needs
 fill-flags-requires : tie.Need-fill-flags-requires
 fill-flags-requires c κs =
     let s = c .before .before .before .before .before .before .before .before .before in
-    record { few = s .pre .0 .few-atoms; summed = omega (arith, c .before .before .before .fill-sums .kept, s .pre .0 .few-atoms); room = s .pre .1 .atoms; small = hydrogens-small (s .pre .0) }
+    record { few = s .pre .0 .few-atoms; summed = omega (arith, c .before .before .before .fill-sums .kept, s .pre .0 .few-atoms); room = s .pre .1 .atoms }
 
 fill-bonds-requires : tie.Need-fill-bonds-requires
 fill-bonds-requires c κs =

@@ -23,9 +23,7 @@ shared-slice-read-is-delocalized : tie.Need-shared-slice-read-is-delocalized Inv
 shared-slice-read-is-delocalized c = omega arith
 
 is-delocalized-requires : tie.Need-is-delocalized-requires Inv-loop μ-loop
-is-delocalized-requires c κs =
-    let s = c .before .before .before .before .before in
-    (omega arith, s .pre .small (c .before .before .loop .i) (c .before .loop-test .taken))
+is-delocalized-requires c κs = omega arith
 
 flag-requires : tie.Need-flag-requires Inv-loop μ-loop
 flag-requires c κs = tt

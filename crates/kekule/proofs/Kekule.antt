@@ -1,0 +1,92 @@
+-- What the search says of the buffers that `build` filled, in the terms of the molecule. Assumes nothing.
+use Prim.Native.Nat.{ℕ, zero, suc, _-_, _≤_}
+use native.Mathlib.Omega.{arith}
+use mathlib.Core.Path.{_≡_, refl, sym, ap, _∙_}
+use mathlib.Core.Bool.{Bool, true, false, not}
+use mathlib.Core.List.{List, _++_}
+use borrow.Author.Tests.{not-true, not-false, leb-true}
+use lib.ListN.{length, take, replicate}
+use lib.IntN.{ℤ}
+use lib.Dec.{leb}
+use Rattle.loops.proofs.Loops.{and-left}
+use Rattle.table.specs.Limits.{maxBonds}
+use Rattle.table.specs.Valid.{Valid, valid, enough}
+use Rattle.matching.specs.Enumeration.{Reply, rowFirst, rowNext, rowCall}
+use Rattle.matching.specs.Graph.{isMatching}
+use Rattle.matching.specs.Model.{bondsOf, matchingFrom, part}
+use Rattle.matching.specs.declared.Call.{Call}
+use Rattle.matching.specs.declared.Call.the-variants.{First, Next}
+use Rattle.search.proofs.Reply.{matching-all}
+use Rattle.graph.specs.Graph.{matchingOf}
+use Rattle.graph.specs.Built.{Built}
+use Rattle.graph.proofs.Graph.{built-bonds, length-first}
+use Rattle.refusal.specs.declared.Refusal.the-variants.{Short, NotMatching, Invalid}
+use Rattle.table.specs.declared.Check.the-variants.{Refused as checkRefused}
+use Rattle.kekule.specs.declared.Found.the-variants.{Refused}
+use Rattle.kekule.specs.Kekule.{callOf, Out, out, outOf, roomy, callOn, isMatchingOf, Tables, tables, kekulized, kekulizedOf}
+
+module _ {atoms bonds : List ℤ} {n m : ℕ} {flags ea eb el : List ℕ} (b : Built atoms bonds n m flags ea eb el) where
+  pub first-built : (c : Call) (row : List ℕ) {g : Reply} → c ≡ First → g ≡ rowFirst (isMatching (take n flags) (bondsOf (take m ea) (take m eb) (take m el))) (length (take m ea)) (length row)
+      → g ≡ rowCall (matchingOf atoms bonds n m) m c row
+  unfolding rowCall
+  first-built c row e h = h ∙ simp (e, length-first b, built-bonds b, b .delocalized-part)
+
+  pub next-built : (c : Call) (row : List ℕ) {g : Reply} → c ≡ Next
+      → g ≡ rowNext (isMatching (take n flags) (bondsOf (take m ea) (take m eb) (take m el))) (length (take m ea)) (length row) (take (length (take m ea)) row)
+      → g ≡ rowCall (matchingOf atoms bonds n m) m c row
+  unfolding rowCall
+  next-built c row e h = h ∙ simp (e, length-first b, built-bonds b, b .delocalized-part)
+
+  pub matching-built : (row : List ℕ) → matchingFrom (take m ea) (take m eb) (take m el) (take n flags) (part (length (take m ea)) row 0) 0 ≡ isMatchingOf atoms bonds n m row
+  matching-built row = matching-all (take m ea) (take m eb) (take m el) (take n flags) row ∙ simp (length-first b, built-bonds b, b .delocalized-part)
+
+-- a call told a test, and it was gone by
+pub held : {r b : Bool} → r ≡ b → not r ≡ false → b ≡ true
+held {r} e h = sym e ∙ not-false r h
+
+pub failed : {r b : Bool} → r ≡ b → not r ≡ true → b ≡ false
+failed {r} e h = sym e ∙ not-true r h
+
+pub cleared : (row : List ℕ) → take 0 row ++ replicate (length row - 0) 0 ≡ replicate (length row) 0
+cleared row = let d : length row - 0 ≡ length row = omega arith in rw d
+
+-- a row that is long enough has a cell for each bond of valid tables
+pub row-room : (atoms bonds : List ℤ) (n m len : ℕ) → roomy atoms bonds len ≡ true → Valid atoms bonds n m → m ≤ len
+row-room atoms bonds n m len h v = omega (arith, leb-true maxBonds len (and-left (leb maxBonds len) (enough atoms bonds) h), v .few-bonds)
+
+-- any byte but 0 asks for the next
+pub call-next : (b : ℕ) → (b ≡ 0 → ⊥) → Next ≡ callOf b
+call-next zero h = absurd (h refl)
+call-next (suc b) h = refl
+
+-- the return paths of a call: 1, 13, and the search's answer
+module _ (c : Call) (atoms bonds : List ℤ) (n m : ℕ) (row : List ℕ) where
+  pub call-short : roomy atoms bonds (length row) ≡ false → out (Refused Short) row ≡ callOn c atoms bonds n m row
+  unfolding callOn
+  call-short e = simp e
+
+  pub call-invalid : {row′ : List ℕ} → roomy atoms bonds (length row) ≡ true → valid atoms bonds n m ≡ false → row′ ≡ take 0 row ++ replicate (length row - 0) 0 → out (Refused Invalid) row′ ≡ callOn c atoms bonds n m row
+  unfolding callOn
+  call-invalid e f h = simp (e, f, h) (ap (out (Refused Invalid)) (cleared row))
+
+  pub call-done : {o : Out} → roomy atoms bonds (length row) ≡ true → valid atoms bonds n m ≡ true → o ≡ outOf (rowCall (matchingOf atoms bonds n m) m c row) → o ≡ callOn c atoms bonds n m row
+  unfolding callOn
+  call-done e f h = h ∙ simp (e, f)
+
+-- the return paths of kekulizing: 1, 13, 12, and the tables kekulized
+module _ (atoms bonds : List ℤ) (n m : ℕ) (row : List ℕ) where
+  pub kekulize-short : roomy atoms bonds (length row) ≡ false → tables (checkRefused Short) atoms bonds ≡ kekulizedOf atoms bonds n m row
+  unfolding kekulizedOf
+  kekulize-short e = simp e
+
+  pub kekulize-invalid : roomy atoms bonds (length row) ≡ true → valid atoms bonds n m ≡ false → tables (checkRefused Invalid) atoms bonds ≡ kekulizedOf atoms bonds n m row
+  unfolding kekulizedOf
+  kekulize-invalid e f = simp (e, f)
+
+  pub kekulize-wrong : roomy atoms bonds (length row) ≡ true → valid atoms bonds n m ≡ true → isMatchingOf atoms bonds n m row ≡ false → tables (checkRefused NotMatching) atoms bonds ≡ kekulizedOf atoms bonds n m row
+  unfolding kekulizedOf
+  kekulize-wrong e f g = simp (e, f, g)
+
+  pub kekulize-done : {o : Tables} → roomy atoms bonds (length row) ≡ true → valid atoms bonds n m ≡ true → isMatchingOf atoms bonds n m row ≡ true → o ≡ kekulized atoms bonds n m row → o ≡ kekulizedOf atoms bonds n m row
+  unfolding kekulizedOf
+  kekulize-done e f g h = h ∙ simp (e, f, g)

@@ -1,0 +1,68 @@
+-- 01, The book: what a list of calls on tables and a row gives, from the enumeration of the molecule
+use Prim.Native.Nat.{ℕ, _-_}
+use mathlib.Core.List.{List, [], _∷_, _++_, map}
+use lib.ListN.{length, getD, set, replicate}
+use lib.IntN.{ℤ}
+use lib.Dec.{leb}
+use Rattle.loops.specs.Loop.{pick, run}
+use Rattle.refusal.specs.declared.Refusal.the-variants.{Short, Invalid}
+use Rattle.table.specs.Valid.{valid}
+use Rattle.table.specs.declared.Check.{Check}
+use Rattle.table.specs.declared.Check.the-variants.{Fine, Refused as checkRefused}
+use Rattle.matching.specs.Graph.{enumeration}
+use Rattle.matching.specs.declared.Call.{Call}
+use Rattle.graph.specs.Graph.{delocalizedFlags, graphOf}
+use Rattle.kekule.specs.declared.Found.the-variants.{Refused}
+use Rattle.kekule.specs.Kekule.{Out, out, outOf, foundCode, callOf, roomy, callOn}
+
+-- what the enumeration of the molecule gives to the calls; each call gives 1 where a buffer is too short, 13 on tables that are not valid
+unfoldable pub repliesOf : List Call → List ℤ → List ℤ → ℕ → ℕ → List ℕ → List Out
+repliesOf cs atoms bonds n m row =
+    pick (roomy atoms bonds (length row))
+    (pick (valid atoms bonds n m)
+    (map outOf (enumeration (delocalizedFlags atoms bonds n m) (graphOf bonds m) cs row))
+    (map (λ c. out (Refused Invalid) (replicate (length row) 0)) cs))
+    (map (λ c. out (Refused Short) row) cs)
+
+-- the codes of the answers, and the row after the last call
+abbrev pub codesOf : List Out → List ℕ
+codesOf = map (λ o. foundCode (o .found))
+
+unfoldable pub lastRow : List ℕ → List Out → List ℕ
+lastRow row [] = row
+lastRow row (o ∷ os) = lastRow (o .row) os
+
+-- an answer, the row and the codes as they are then
+pub record Replayed : Type 0 where
+  pub check : Check
+  pub row : List ℕ
+  pub codes : List ℕ
+
+abbrev pub replayed : Check → List ℕ → List ℕ → Replayed
+replayed a row codes = record { check = a; row = row; codes = codes }
+
+-- the calls by their bytes, run on the tables; 1 and nothing changes where there is no cell for each code; cells past the codes are zeroed
+unfoldable pub replayedOf : List ℕ → List ℤ → List ℤ → ℕ → ℕ → List ℕ → List ℕ → Replayed
+replayedOf calls atoms bonds n m row codes =
+    let os = repliesOf (map callOf calls) atoms bonds n m row in
+    pick (leb (length calls) (length codes))
+    (replayed Fine (lastRow row os) (codesOf os ++ replicate (length codes - length calls) 0))
+    (replayed (checkRefused Short) row codes)
+
+-- The calls one after the other, each seeing its row alone: what the loop over the calls computes
+
+pub record State : Type 0 where
+  pub row : List ℕ
+  pub codes : List ℕ
+
+abbrev pub state : List ℕ → List ℕ → State
+state row codes = record { row = row; codes = codes }
+
+-- the call i: f answers it, its code is stored, and its row is handed on
+abbrev pub callStep : (Call → List ℕ → Out) → List ℕ → ℕ → State → State
+callStep f calls i s =
+    let o = f (callOf (getD calls i 0)) (s .row) in
+    state (o .row) (set (s .codes) i (foundCode (o .found)))
+
+unfoldable pub ranOf : List ℕ → List ℤ → List ℤ → ℕ → ℕ → List ℕ → List ℕ → State
+ranOf calls atoms bonds n m row codes = run (callStep (λ c r. callOn c atoms bonds n m r) calls) 0 (length calls) (state row codes)

@@ -1,0 +1,110 @@
+-- 01, Hydrogens and kept atoms: the calls on tables, refusals in the order of 01. A placement is a matching, settling is kekulizing.
+use Prim.Native.Nat.{ℕ, zero, suc, _≤_}
+use mathlib.Core.List.{List}
+use mathlib.Core.Bool.{Bool, _&&_, false, true}
+use lib.ListN.{length, take, replicate}
+use lib.IntN.{ℤ}
+use lib.Dec.{leb}
+use Rattle.loops.specs.Loop.{pick}
+use Rattle.refusal.specs.Code.{codeOf}
+use Rattle.refusal.specs.declared.Refusal.the-variants.{Short, NoMatching, NotMatching, Invalid}
+use Rattle.table.specs.Limits.{maxAtoms, maxBonds}
+use Rattle.table.specs.Valid.{valid, enough}
+use Rattle.table.specs.Edits.{unselectedAtoms, doubledBonds}
+use Rattle.table.specs.declared.Check.{Check}
+use Rattle.table.specs.declared.Check.the-variants.{Fine, Refused as checkRefused}
+use Rattle.matching.specs.Enumeration.{Reply, isRow, rowCall}
+use Rattle.matching.specs.declared.Answer.{Answer}
+use Rattle.matching.specs.declared.Answer.the-variants.{Given as answerGiven, Absent, Refused as answerRefused, Ended}
+use Rattle.matching.specs.declared.Call.{Call}
+use Rattle.matching.specs.declared.Call.the-variants.{First, Next}
+use Rattle.graph.specs.Graph.{matchingOf}
+use Rattle.kekule.specs.declared.Found.{Found}
+use Rattle.kekule.specs.declared.Found.the-variants.{Given, End, Refused}
+use Rattle.kekule.specs.declared.Asked.{Asked}
+use Rattle.kekule.specs.declared.Asked.the-variants.{Yes, No, Refused as askedRefused}
+
+-- an answer of the enumeration (01: of the book): 11 without a matching, 12 where the row is none, "end" after the last
+abbrev pub foundOf : Answer → Found
+foundOf answerGiven = Given
+foundOf Absent = Refused NoMatching
+foundOf answerRefused = Refused NotMatching
+foundOf Ended = End
+
+-- the code of an answer: 0 for a matching, 255 for "end", else the refusal's
+abbrev pub foundCode : Found → ℕ
+foundCode Given = 0
+foundCode End = 255
+foundCode (Refused r) = codeOf r
+
+-- the answer is a matching
+abbrev pub isGiven : Found → Bool
+isGiven Given = true
+isGiven End = false
+isGiven (Refused r) = false
+
+-- a byte as one of the two calls
+abbrev pub callOf : ℕ → Call
+callOf zero = First
+callOf (suc b) = Next
+
+-- an answer and the row as it is then
+pub record Out : Type 0 where
+  pub found : Found
+  pub row : List ℕ
+
+abbrev pub out : Found → List ℕ → Out
+out a row = record { found = a; row = row }
+
+abbrev pub outOf : Reply → Out
+outOf g = out (foundOf (g .answer)) (g .row)
+
+-- 1 is given exactly when this fails: the tables and a row of the length len are as long as 01 asks
+abbrev pub roomy : List ℤ → List ℤ → ℕ → Bool
+roomy atoms bonds len = leb maxBonds len && enough atoms bonds
+
+-- one of the two calls: "if a table or the row is too short, every call gives 1 and nothing changes"; 13 with a zeroed row
+unfoldable pub callOn : Call → List ℤ → List ℤ → ℕ → ℕ → List ℕ → Out
+callOn c atoms bonds n m row =
+    pick (roomy atoms bonds (length row))
+    (pick (valid atoms bonds n m) (outOf (rowCall (matchingOf atoms bonds n m) m c row)) (out (Refused Invalid) (replicate (length row) 0)))
+    (out (Refused Short) row)
+
+-- the row, up to the last bond, is a matching; "in a row handed in, cells past the last bond are not looked at"
+abbrev pub isMatchingOf : List ℤ → List ℤ → ℕ → ℕ → List ℕ → Bool
+isMatchingOf atoms bonds n m row = isRow m (take m row) && matchingOf atoms bonds n m (take m row)
+
+-- the question whether a row is a matching
+unfoldable pub askedOf : List ℤ → List ℤ → ℕ → ℕ → List ℕ → Asked
+askedOf atoms bonds n m row =
+    pick (roomy atoms bonds (length row))
+    (pick (valid atoms bonds n m) (pick (isMatchingOf atoms bonds n m row) Yes No) (askedRefused Invalid))
+    (askedRefused Short)
+
+-- an answer and the tables as they are then
+pub record Tables : Type 0 where
+  pub check : Check
+  pub atoms : List ℤ
+  pub bonds : List ℤ
+
+abbrev pub tables : Check → List ℤ → List ℤ → Tables
+tables a atoms bonds = record { check = a; atoms = atoms; bonds = bonds }
+
+-- 01, Settling: makes the matching's bonds kind 2 and clears every selected cell; all else stays
+abbrev pub kekulized : List ℤ → List ℤ → ℕ → ℕ → List ℕ → Tables
+kekulized atoms bonds n m row = tables Fine (unselectedAtoms n atoms) (doubledBonds row m bonds)
+
+-- "a refusal leaves those tables untouched": 1, 13, then 12
+unfoldable pub kekulizedOf : List ℤ → List ℤ → ℕ → ℕ → List ℕ → Tables
+kekulizedOf atoms bonds n m row =
+    pick (roomy atoms bonds (length row))
+    (pick (valid atoms bonds n m)
+    (pick (isMatchingOf atoms bonds n m row) (kekulized atoms bonds n m row) (tables (checkRefused NotMatching) atoms bonds))
+    (tables (checkRefused Invalid) atoms bonds))
+    (tables (checkRefused Short) atoms bonds)
+
+-- the counts are within the limits, and the row has a cell for each bond
+pub record Counted (n m : ℕ) (row : List ℕ) : Type 0 where
+  pub few-atoms : n ≤ maxAtoms
+  pub few-bonds : m ≤ maxBonds
+  pub room : m ≤ length row

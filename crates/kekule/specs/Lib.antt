@@ -1,0 +1,3 @@
+pub mod Kekule
+pub mod Calls
+pub mod Pairing

@@ -1,0 +1,264 @@
+// The public calls on tables: the first matching, the next one, whether a row is a matching, kekulizing by a row, and a list of calls.
+ghost use mathlib.Core.Path.{_≡_};
+ghost use Prim.Native.Nat.{_≤_};
+ghost use lib.ListN.{length};
+ghost use Rattle.table.specs.Valid.{Valid};
+ghost use Rattle.matching.specs.Enumeration.{rowCall};
+ghost use Rattle.matching.specs.Model.{reply};
+ghost use Rattle.graph.specs.Graph.{matchingOf, matchable};
+ghost use Rattle.kekule.specs.Kekule.{foundOf, foundCode, isGiven, callOf, out, outOf, roomy, callOn, isMatchingOf, askedOf, tables, kekulized, kekulizedOf, Counted};
+ghost use Rattle.kekule.specs.Calls.{state, ranOf, replayed, replayedOf};
+use ids::BondId;
+use matching::Answer;
+use matching::Call;
+use refusal::Refusal;
+use table::Check;
+use table::MAX_ATOMS;
+use table::MAX_BONDS;
+use table::edit;
+use table::validity;
+
+// What the calls for a matching answer.
+pub enum Found {
+    // The row is the matching asked for.
+    Given,
+    // None follows.
+    End,
+    Refused(Refusal),
+}
+
+// What the question for a matching answers.
+pub enum Asked {
+    Yes,
+    No,
+    Refused(Refusal),
+}
+
+// The code of an answer: 0 for a matching, 255 for the end, else the refusal's.
+pub fn found_code(f: Found) -> u8
+    ensures { λ r. ⌜ r ≡ foundCode f ⌝ }
+{
+    match f {
+        Found::Given => 0,
+        Found::End => 255,
+        Found::Refused(r) => refusal::code(r),
+    }
+}
+
+// An answer of the search as an answer of a call.
+fn found_of(a: Answer) -> Found
+    ensures { λ r. ⌜ r ≡ foundOf a ⌝ }
+{
+    match a {
+        Answer::Given => Found::Given,
+        Answer::Absent => Found::Refused(Refusal::NoMatching),
+        Answer::Refused => Found::Refused(Refusal::NotMatching),
+        Answer::Ended => Found::End,
+    }
+}
+
+// The call that a byte asks for: 0 the first matching, any other the next.
+fn call_of(b: u8) -> Call
+    ensures { λ r. ⌜ r ≡ callOf b ⌝ }
+{
+    if b == 0 { Call::First } else { Call::Next }
+}
+
+// The tables and a row of a length are as long as they have to be.
+fn roomy(atoms: &[i32], bonds: &[i32], len: usize) -> bool
+    ensures { λ r. ⌜ r ≡ roomy (now (atoms .entry)) (now (bonds .entry)) len ⌝ }
+{
+    (MAX_BONDS <= len) & validity::enough(atoms, bonds)
+}
+
+// The search for one of the two calls, on valid tables.
+fn ask(c: Call, atoms: &[i32], bonds: &[i32], n: usize, m: usize, row: &mut [u8]) -> Answer
+    requires { ⌜ Valid (now atoms) (now bonds) n m ⌝ }
+    requires { ⌜ m ≤ length (now row) ⌝ }
+    ensures { λ r. ⌜ reply r (now (row .exit)) ≡ rowCall (matchingOf (now (atoms .entry)) (now (bonds .entry)) n m) m c (now (row .entry)) ⌝ }
+{
+    let mut flags = [0u8; MAX_ATOMS];
+    let mut ea = [0u16; MAX_BONDS];
+    let mut eb = [0u16; MAX_BONDS];
+    let mut el = [0u8; MAX_BONDS];
+    graph::build(atoms, bonds, n, m, &mut flags, &mut ea, &mut eb, &mut el);
+    match c {
+        Call::First => search::first(&ea[..m], &eb[..m], &el[..m], &mut flags[..n], row),
+        Call::Next => search::next(&ea[..m], &eb[..m], &el[..m], &mut flags[..n], row),
+    }
+}
+
+// internal: one of the two calls on valid tables, for callers that know them valid.
+pub fn call_valid(
+    c: Call,
+    atoms: &[i32],
+    bonds: &[i32],
+    n: usize,
+    m: usize,
+    row: &mut [u8],
+) -> Found
+    requires { ⌜ Valid (now atoms) (now bonds) n m ⌝ }
+    requires { ⌜ m ≤ length (now row) ⌝ }
+    ensures { λ r. ⌜ out r (now (row .exit)) ≡ outOf (rowCall (matchingOf (now (atoms .entry)) (now (bonds .entry)) n m) m c (now (row .entry))) ⌝ }
+{
+    found_of(ask(c, atoms, bonds, n, m, row))
+}
+
+// Whether an answer is a matching.
+fn is_given(f: Found) -> bool
+    ensures { λ r. ⌜ r ≡ isGiven f ⌝ }
+{
+    match f {
+        Found::Given => true,
+        Found::End => false,
+        Found::Refused(_) => false,
+    }
+}
+
+// internal: whether valid tables have a matching.
+pub fn matchable(atoms: &[i32], bonds: &[i32], n: usize, m: usize) -> bool
+    requires { ⌜ Valid (now atoms) (now bonds) n m ⌝ }
+    ensures { λ r. ⌜ r ≡ matchable (now (atoms .entry)) (now (bonds .entry)) n m ⌝ }
+{
+    let mut row = [0u8; MAX_BONDS];
+    is_given(call_valid(Call::First, atoms, bonds, n, m, &mut row))
+}
+
+// One of the two calls: refusals 1 and 13, then the search.
+fn call(c: Call, atoms: &[i32], bonds: &[i32], n: usize, m: usize, row: &mut [u8]) -> Found
+    ensures { λ r. ⌜ out r (now (row .exit)) ≡ callOn c (now (atoms .entry)) (now (bonds .entry)) n m (now (row .entry)) ⌝ }
+{
+    if !roomy(atoms, bonds, row.len()) {
+        return Found::Refused(Refusal::Short);
+    }
+    if !validity::valid(atoms, bonds, n, m) {
+        search::clear(row, 0);
+        return Found::Refused(Refusal::Invalid);
+    }
+    call_valid(c, atoms, bonds, n, m, row)
+}
+
+// The first matching of a molecule, into the row up to the last bond; the rest of the row is zeroed. 1: a table or the row is
+// too short, and nothing changes. 13: the tables are not valid, 11: there is no matching, and the row is zeroed.
+pub fn first(atoms: &[i32], bonds: &[i32], n: usize, m: usize, row: &mut [u8]) -> Found
+    ensures { λ r. ⌜ out r (now (row .exit)) ≡ callOn Call.First (now (atoms .entry)) (now (bonds .entry)) n m (now (row .entry)) ⌝ }
+{
+    call(Call::First, atoms, bonds, n, m, row)
+}
+
+// The matching after the one that the row holds up to the last bond, into the row; the rest of the row is zeroed. 1: a table or
+// the row is too short, and nothing changes. 13: the tables are not valid, 12: the row is no matching, or End: none follows,
+// and the row is zeroed.
+pub fn next(atoms: &[i32], bonds: &[i32], n: usize, m: usize, row: &mut [u8]) -> Found
+    ensures { λ r. ⌜ out r (now (row .exit)) ≡ callOn Call.Next (now (atoms .entry)) (now (bonds .entry)) n m (now (row .entry)) ⌝ }
+{
+    call(Call::Next, atoms, bonds, n, m, row)
+}
+
+// internal: whether the row is a matching of valid tables, for callers that know them valid.
+pub fn is_matching_valid(atoms: &[i32], bonds: &[i32], n: usize, m: usize, row: &[u8]) -> bool
+    requires { ⌜ Valid (now atoms) (now bonds) n m ⌝ }
+    requires { ⌜ m ≤ length (now row) ⌝ }
+    ensures { λ r. ⌜ r ≡ isMatchingOf (now (atoms .entry)) (now (bonds .entry)) n m (now (row .entry)) ⌝ }
+{
+    let mut flags = [0u8; MAX_ATOMS];
+    let mut ea = [0u16; MAX_BONDS];
+    let mut eb = [0u16; MAX_BONDS];
+    let mut el = [0u8; MAX_BONDS];
+    graph::build(atoms, bonds, n, m, &mut flags, &mut ea, &mut eb, &mut el);
+    search::is_matching(
+        &ea[..m],
+        &eb[..m],
+        &el[..m],
+        &mut flags[..n],
+        row,
+        BondId(0),
+    )
+}
+
+// Whether the row, up to the last bond, is a matching of the molecule; nothing changes. 1: a table or the row is too short,
+// 13: the tables are not valid.
+pub fn is_matching(atoms: &[i32], bonds: &[i32], n: usize, m: usize, row: &[u8]) -> Asked
+    ensures { λ r. ⌜ r ≡ askedOf (now (atoms .entry)) (now (bonds .entry)) n m (now (row .entry)) ⌝ }
+{
+    if !roomy(atoms, bonds, row.len()) {
+        return Asked::Refused(Refusal::Short);
+    }
+    if !validity::valid(atoms, bonds, n, m) {
+        return Asked::Refused(Refusal::Invalid);
+    }
+    if is_matching_valid(atoms, bonds, n, m, row) {
+        return Asked::Yes;
+    }
+    Asked::No
+}
+
+// internal: kekulizes valid tables by a row known to be a matching.
+pub fn kekulize_valid(atoms: &mut [i32], bonds: &mut [i32], n: usize, m: usize, row: &[u8])
+    requires { ⌜ Counted n m (now row) ⌝ }
+    ensures { λ _. ⌜ tables Check.Fine (now (atoms .exit)) (now (bonds .exit)) ≡ kekulized (now (atoms .entry)) (now (bonds .entry)) n m (now (row .entry)) ⌝ }
+{
+    edit::unselect_atoms(atoms, n);
+    edit::double_bonds(bonds, m, row);
+}
+
+// Kekulizes a molecule in its tables by a row: the row's bonds become kind 2 and every selected cell 0. 1: a table or the row
+// is too short, 13: the tables are not valid, 12: the row is no matching; a refusal changes nothing.
+pub fn kekulize(atoms: &mut [i32], bonds: &mut [i32], n: usize, m: usize, row: &[u8]) -> Check
+    ensures { λ r. ⌜ tables r (now (atoms .exit)) (now (bonds .exit)) ≡ kekulizedOf (now (atoms .entry)) (now (bonds .entry)) n m (now (row .entry)) ⌝ }
+{
+    if !roomy(atoms, bonds, row.len()) {
+        return Check::Refused(Refusal::Short);
+    }
+    if !validity::valid(atoms, bonds, n, m) {
+        return Check::Refused(Refusal::Invalid);
+    }
+    if !is_matching_valid(atoms, bonds, n, m, row) {
+        return Check::Refused(Refusal::NotMatching);
+    }
+    kekulize_valid(atoms, bonds, n, m, row);
+    Check::Fine
+}
+
+// Makes the calls one after the other on a row, and stores the code of each answer.
+fn run_calls(
+    calls: &[u8],
+    atoms: &[i32],
+    bonds: &[i32],
+    n: usize,
+    m: usize,
+    row: &mut [u8],
+    codes: &mut [u8],
+)
+    requires { ⌜ length (now calls) ≤ length (now codes) ⌝ }
+    ensures { λ _. ⌜ state (now (row .exit)) (now (codes .exit)) ≡ ranOf (now (calls .entry)) (now (atoms .entry)) (now (bonds .entry)) n m (now (row .entry)) (now (codes .entry)) ⌝ }
+{
+    let mut i = 0;
+    while i < calls.len() {
+        let c = call_of(calls[i]);
+        codes[i] = found_code(call(c, atoms, bonds, n, m, row));
+        i += 1;
+    }
+}
+
+// Makes a list of calls on a row, 0 for the first matching and any other byte for the next. The codes of the answers, and the
+// row after the last, are those of the molecule's enumeration; so, over the beginnings of the list, is the row after each call.
+// 1: there is no cell for each code, and nothing changes; the cells past the codes are zeroed.
+pub fn replay(
+    calls: &[u8],
+    atoms: &[i32],
+    bonds: &[i32],
+    n: usize,
+    m: usize,
+    row: &mut [u8],
+    codes: &mut [u8],
+) -> Check
+    ensures { λ r. ⌜ replayed r (now (row .exit)) (now (codes .exit)) ≡ replayedOf (now (calls .entry)) (now (atoms .entry)) (now (bonds .entry)) n m (now (row .entry)) (now (codes .entry)) ⌝ }
+{
+    if codes.len() < calls.len() {
+        return Check::Refused(Refusal::Short);
+    }
+    run_calls(calls, atoms, bonds, n, m, row, codes);
+    search::clear(codes, calls.len());
+    Check::Fine
+}

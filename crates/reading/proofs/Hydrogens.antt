@@ -1,0 +1,175 @@
+-- What giving the hydrogens does to the atom table: one cell of each atom outside brackets, and no other. Assumes nothing.
+use Prim.Native.Nat.{ℕ, zero, suc, _+_, _-_, _*_, _≤_, _<_}
+use native.Mathlib.Omega.{arith}
+use native.Mathlib.Decide.{ℕ-discrete}
+use mathlib.Core.Path.{_≡_, refl, sym, ap, subst, _∙_}
+use mathlib.Core.Bool.{Bool, true, false, _&&_, _||_}
+use mathlib.Core.List.{List, [], _∷_}
+use lib.ListN.{length, getD, set, length-set}
+use lib.Seq.{getD-set-same, getD-set-other}
+use lib.IntN.{ℤ, pos, negsuc}
+use lib.Dec.{eqb, leb}
+use borrow.Author.Tests.{eq-eqb, eqb-true, leb-true}
+use Rattle.loops.specs.Loop.{pick, run}
+use Rattle.loops.proofs.Loops.{and-left, and-right}
+use Rattle.grammar.proofs.Ends.{never}
+use Rattle.valence.specs.Valence.{targets, headOr0, firstTarget, firstRoom, implied}
+use Rattle.table.specs.declared.Atom.{Atom}
+use Rattle.table.specs.Limits.{atomCells, ELEMENT, SELECTED, ISOTOPE, HYDROGENS, CHARGE, EXTENSION}
+use Rattle.table.specs.Cells.{number, inRange, atomPlace, atomCell, element, selected}
+use Rattle.table.specs.Rows.{atomRow}
+use Rattle.table.specs.Valid.{atomOk, selectable}
+use Rattle.graph.specs.Graph.{bondSum}
+use Rattle.reading.specs.Read.{hydrogenate, hydrogenated}
+use Rattle.reading.proofs.Cases.{by-test}
+use Rattle.reading.proofs.Rows.{same-atom-row, within, rowOk, atom-ok-row}
+
+module _ (outside : List ℕ) (bonds : List ℤ) (m : ℕ) where
+  -- ---- one atom
+  abbrev count : ℕ → List ℤ → ℤ
+  count a t = pos (implied (element t a) (selected t a) (bondSum bonds m a))
+
+  one-length : (a : ℕ) (t : List ℤ) → length (hydrogenate outside bonds m a t) ≡ length t
+  one-length a t = by-test (λ (u : List ℤ). length u ≡ length t) (eqb (getD outside a 0) 1) (set t (atomPlace a HYDROGENS) (count a t)) t (λ e. length-set t (atomPlace a HYDROGENS) (count a t)) (λ e. refl)
+
+  one-other : (a : ℕ) (t : List ℤ) (j : ℕ) → (getD outside a 0 ≡ 1 → j ≡ atomPlace a HYDROGENS → ⊥) → getD (hydrogenate outside bonds m a t) j (pos 0) ≡ getD t j (pos 0)
+  one-other a t j n = by-test (λ (u : List ℤ). getD u j (pos 0) ≡ getD t j (pos 0)) (eqb (getD outside a 0) 1) (set t (atomPlace a HYDROGENS) (count a t)) t (λ e. getD-set-other t (atomPlace a HYDROGENS) j (count a t) (pos 0) (n (eqb-true (getD outside a 0) 1 e))) (λ e. refl)
+
+  one-given : (a : ℕ) (t : List ℤ) → getD outside a 0 ≡ 1 → atomPlace a HYDROGENS < length t → atomCell (hydrogenate outside bonds m a t) a HYDROGENS ≡ pos (implied (element t a) (selected t a) (bondSum bonds m a))
+  one-given a t e l = rw (eq-eqb (getD outside a 0) 1 e) (getD-set-same t (atomPlace a HYDROGENS) (pos (implied (element t a) (selected t a) (bondSum bonds m a))) (pos 0) l)
+
+  -- ---- c atoms from k on
+  run-length : (c k : ℕ) (t : List ℤ) → length (run (hydrogenate outside bonds m) k c t) ≡ length t
+  unfolding run
+  run-length zero k t = refl
+  run-length (suc c) k t = run-length c (suc k) (hydrogenate outside bonds m k t) ∙ one-length k t
+
+  run-other : (c k : ℕ) (t : List ℤ) (j : ℕ) → ((a : ℕ) → k ≤ a → a < k + c → getD outside a 0 ≡ 1 → j ≡ atomPlace a HYDROGENS → ⊥)
+      → getD (run (hydrogenate outside bonds m) k c t) j (pos 0) ≡ getD t j (pos 0)
+  unfolding run
+  run-other zero k t j n = refl
+  run-other (suc c) k t j n =
+      run-other c (suc k) (hydrogenate outside bonds m k t) j (λ a l h. n a (omega arith) (omega arith)) ∙ one-other k t j (n k (omega arith) (omega arith))
+
+  run-given : (c k : ℕ) (t : List ℤ) (a : ℕ) → k ≤ a → a < k + c → getD outside a 0 ≡ 1 → atomPlace a HYDROGENS < length t
+      → atomCell (run (hydrogenate outside bonds m) k c t) a HYDROGENS ≡ pos (implied (element t a) (selected t a) (bondSum bonds m a))
+  unfolding run
+  run-given zero k t a l h e r = absurd (omega arith)
+  run-given (suc c) k t a l h e r = split (ℕ-discrete a k) (λ g. run-given c (suc k) (hydrogenate outside bonds m k t) a g (omega arith) e (rw (one-length k t) r))
+    where
+      split : Dec (a ≡ k)
+          → (suc k ≤ a → atomCell (run (hydrogenate outside bonds m) (suc k) c (hydrogenate outside bonds m k t)) a HYDROGENS ≡ pos (implied (element (hydrogenate outside bonds m k t) a) (selected (hydrogenate outside bonds m k t) a) (bondSum bonds m a)))
+          → atomCell (run (hydrogenate outside bonds m) (suc k) c (hydrogenate outside bonds m k t)) a HYDROGENS ≡ pos (implied (element t a) (selected t a) (bondSum bonds m a))
+      split (yes q) rest =
+          run-other c (suc k) (hydrogenate outside bonds m k t) (atomPlace a HYDROGENS) (λ x lx hx ex jx. omega arith)
+          ∙ subst (λ x. atomCell (hydrogenate outside bonds m x t) a HYDROGENS ≡ pos (implied (element t a) (selected t a) (bondSum bonds m a))) q (one-given a t e r)
+      split (no n) rest =
+          rest (omega arith) ∙ rw (one-other k t (atomPlace a ELEMENT) (λ ex jx. omega arith), one-other k t (atomPlace a SELECTED) (λ ex jx. omega arith))
+
+  -- ---- n atoms
+  module _ (n : ℕ) (t : List ℤ) where
+    pub hydrogenated-length : length (hydrogenated outside bonds m n t) ≡ length t
+    unfolding hydrogenated
+    hydrogenated-length = run-length n 0 t
+
+    -- every cell stays that is not the hydrogens of an atom outside brackets
+    pub hydrogenated-other : (j : ℕ) → ((a : ℕ) → a < n → getD outside a 0 ≡ 1 → j ≡ atomPlace a HYDROGENS → ⊥) → getD (hydrogenated outside bonds m n t) j (pos 0) ≡ getD t j (pos 0)
+    unfolding hydrogenated
+    hydrogenated-other j f = run-other n 0 t j (λ a l h. f a (omega arith))
+
+    -- an atom outside brackets has the hydrogens that its element, its selection and its bonds imply
+    pub hydrogenated-given : (a : ℕ) → a < n → getD outside a 0 ≡ 1 → atomPlace a HYDROGENS < length t → atomCell (hydrogenated outside bonds m n t) a HYDROGENS ≡ pos (implied (element t a) (selected t a) (bondSum bonds m a))
+    unfolding hydrogenated
+    hydrogenated-given a l e r = run-given n 0 t a (omega arith) (omega arith) e r
+
+-- ---- the count fits its cell
+small : List ℕ → Bool
+small [] = true
+small (x ∷ l) = leb x 9 && small l
+
+targets-small : (e : ℕ) → small (targets e) ≡ true
+unfolding targets small
+targets-small e = split (eqb e 5) (eqb e 6) (eqb e 7) (eqb e 8) (eqb e 9) (eqb e 15) (eqb e 16) (eqb e 17) (eqb e 35) (eqb e 53) (eqb e 85) (eqb e 117)
+  where
+    split : (b1 b2 b3 b4 b5 b6 b7 b8 b9 b10 b11 b12 : Bool)
+        → small (pick b1 (3 ∷ []) (pick b2 (4 ∷ []) (pick b3 (3 ∷ 5 ∷ []) (pick b4 (2 ∷ []) (pick b5 (1 ∷ []) (pick b6 (3 ∷ 5 ∷ []) (pick b7 (2 ∷ 4 ∷ 6 ∷ []) (pick b8 (1 ∷ []) (pick b9 (1 ∷ []) (pick b10 (1 ∷ []) (pick b11 (1 ∷ []) (pick b12 (1 ∷ []) [])))))))))))) ≡ true
+    split true b2 b3 b4 b5 b6 b7 b8 b9 b10 b11 b12 = refl
+    split false true b3 b4 b5 b6 b7 b8 b9 b10 b11 b12 = refl
+    split false false true b4 b5 b6 b7 b8 b9 b10 b11 b12 = refl
+    split false false false true b5 b6 b7 b8 b9 b10 b11 b12 = refl
+    split false false false false true b6 b7 b8 b9 b10 b11 b12 = refl
+    split false false false false false true b7 b8 b9 b10 b11 b12 = refl
+    split false false false false false false true b8 b9 b10 b11 b12 = refl
+    split false false false false false false false true b9 b10 b11 b12 = refl
+    split false false false false false false false false true b10 b11 b12 = refl
+    split false false false false false false false false false true b11 b12 = refl
+    split false false false false false false false false false false true b12 = refl
+    split false false false false false false false false false false false true = refl
+    split false false false false false false false false false false false false = refl
+
+first-small : (l : List ℕ) → small l ≡ true → headOr0 l ≤ 9
+unfolding small
+first-small [] h = omega arith
+first-small (x ∷ l) h = leb-true x 9 (and-left (leb x 9) (small l) h)
+
+room-small : (l : List ℕ) (sum : ℕ) → small l ≡ true → firstRoom l sum ≤ 9
+unfolding small firstRoom
+room-small [] sum h = omega arith
+room-small (x ∷ l) sum h =
+    let rest = room-small l sum (and-right (leb x 9) (small l) h) in
+    by-test (λ n. n ≤ 9) (leb sum x) (x - sum) (firstRoom l sum) (λ e. omega (arith, leb-true x 9 (and-left (leb x 9) (small l) h))) (λ e. rest)
+
+pub implied-small : (e selected sum : ℕ) → implied e selected sum ≤ 9
+unfolding implied firstTarget
+implied-small e selected sum = by-test (λ n. n ≤ 9) (eqb selected 1) (headOr0 (targets e) - (sum + 1)) (firstRoom (targets e) sum) (λ q. omega (arith, first-small (targets e) (targets-small e))) (λ q. room-small (targets e) sum (targets-small e))
+
+-- ---- a valid row stays valid
+swap : (a b h k c d e : Bool) → (a && b && h && c && d && e) ≡ true → k ≡ true → (a && b && k && c && d && e) ≡ true
+swap true true true true c d e p q = p
+swap true true true false c d e p q = never q
+swap true true false k c d e p q = never p
+swap true false h k c d e p q = never p
+swap false b h k c d e p q = never p
+
+-- the row with another count of hydrogens
+abbrev pub withHydrogens : Atom → ℤ → Atom
+withHydrogens x h = record { element = x .element; selected = x .selected; isotope = x .isotope; hydrogens = h; charge = x .charge; extension = x .extension }
+
+with-hydrogens : (x : Atom) (h : ℕ) → rowOk x ≡ true → h ≤ 9 → rowOk (withHydrogens x (pos h)) ≡ true
+unfolding rowOk
+with-hydrogens x h ok l =
+    swap (inRange (x .element) (pos 0) (pos 118)) (inRange (x .isotope) (pos 0) (pos 999)) (inRange (x .hydrogens) (pos 0) (pos 9)) (inRange (pos h) (pos 0) (pos 9))
+    (inRange (x .charge) (negsuc 8) (pos 9)) (inRange (x .extension) (pos 0) (pos 9999))
+    (inRange (x .selected) (pos 0) (pos 1) && (eqb (number (x .selected)) 0 || selectable (number (x .element)))) ok (within h 9 l)
+
+-- the row of an atom that got its hydrogens, and of another
+pub row-given : (outside : List ℕ) (bonds : List ℤ) (m n : ℕ) (t : List ℤ) (a : ℕ) → a < n → atomCells * a + atomCells ≤ length t → getD outside a 0 ≡ 1
+    → atomRow (hydrogenated outside bonds m n t) a ≡ withHydrogens (atomRow t a) (pos (implied (element t a) (selected t a) (bondSum bonds m a)))
+row-given outside bonds m n t a l r e =
+    rw (
+      hydrogenated-other outside bonds m n t (atomPlace a ELEMENT) (λ x lx ex jx. omega arith),
+      hydrogenated-other outside bonds m n t (atomPlace a SELECTED) (λ x lx ex jx. omega arith),
+      hydrogenated-other outside bonds m n t (atomPlace a ISOTOPE) (λ x lx ex jx. omega arith),
+      hydrogenated-given outside bonds m n t a l e (omega arith),
+      hydrogenated-other outside bonds m n t (atomPlace a CHARGE) (λ x lx ex jx. omega arith),
+      hydrogenated-other outside bonds m n t (atomPlace a EXTENSION) (λ x lx ex jx. omega arith),
+    )
+
+pub row-kept : (outside : List ℕ) (bonds : List ℤ) (m n : ℕ) (t : List ℤ) (a : ℕ) → (getD outside a 0 ≡ 1 → ⊥) → atomRow (hydrogenated outside bonds m n t) a ≡ atomRow t a
+row-kept outside bonds m n t a f = same-atom-row (hydrogenated outside bonds m n t) t a (λ k l h. hydrogenated-other outside bonds m n t k (other k l h))
+  where
+    other : (k : ℕ) → atomCells * a ≤ k → k < atomCells * a + atomCells → (x : ℕ) → x < n → getD outside x 0 ≡ 1 → k ≡ atomPlace x HYDROGENS → ⊥
+    other k l h x lx ex jx = let q : x ≡ a = omega arith in f (rw q at ex)
+
+pub hydrogenated-ok : (outside : List ℕ) (bonds : List ℤ) (m n : ℕ) (t : List ℤ) (a : ℕ) → a < n → atomCells * a + atomCells ≤ length t → atomOk t a ≡ true → atomOk (hydrogenated outside bonds m n t) a ≡ true
+hydrogenated-ok outside bonds m n t a l r ok = split (ℕ-discrete (getD outside a 0) 1)
+  where
+    h : ℕ
+    h = implied (element t a) (selected t a) (bondSum bonds m a)
+
+    split : Dec (getD outside a 0 ≡ 1) → atomOk (hydrogenated outside bonds m n t) a ≡ true
+    split (yes e) =
+        atom-ok-row (hydrogenated outside bonds m n t) a
+        ∙ ap rowOk (row-given outside bonds m n t a l r e)
+        ∙ with-hydrogens (atomRow t a) h (sym (atom-ok-row t a) ∙ ok) (implied-small (element t a) (selected t a) (bondSum bonds m a))
+    split (no f) = atom-ok-row (hydrogenated outside bonds m n t) a ∙ ap rowOk (row-kept outside bonds m n t a f) ∙ sym (atom-ok-row t a) ∙ ok

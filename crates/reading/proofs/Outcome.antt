@@ -1,0 +1,79 @@
+-- The seven ways in which reading ends, each with all the checks that it passed. Assumes nothing.
+use Prim.Native.Nat.{ℕ, _≤_, _<_}
+use mathlib.Core.Path.{_≡_, refl}
+use mathlib.Core.Bool.{Bool, true, false}
+use mathlib.Core.List.{List}
+use lib.ListN.{length}
+use lib.IntN.{ℤ}
+use lib.Dec.{leb, ltb}
+use borrow.Author.Tests.{leb-true, leb-false, ltb-true, ltb-false}
+use Rattle.loops.specs.Loop.{pick}
+use Rattle.grammar.specs.declared.State.{State}
+use Rattle.grammar.specs.declared.State.the-variants.{Start as start}
+use Rattle.grammar.specs.Machine.{accepting}
+use Rattle.grammar.specs.Fold.{Reading, going, halted, read}
+use Rattle.table.specs.Valid.{enough}
+use Rattle.graph.specs.Graph.{matchable}
+use Rattle.state.specs.Limits.{maxText}
+use Rattle.reading.specs.Memory.{Memory}
+use Rattle.reading.specs.Act.{act}
+use Rattle.reading.specs.Read.{Told, zeros, refused, short, beginning, hydrogenated, leftmost, ended, finished, readFrom, readOf}
+
+-- the reading of a text's bytes into zeroed tables
+abbrev pub bytesRead : List ℕ → List ℤ → List ℤ → Reading Memory
+bytesRead s atoms bonds = read act 0 (going start (beginning (zeros atoms) (zeros bonds))) s
+
+-- 1 and 2 do not apply
+pub record Fits (s : List ℕ) (atoms bonds : List ℤ) : Type 0 where
+  pub room : enough atoms bonds ≡ true
+  pub short : length s ≤ maxText
+
+-- the atoms of a memory, with the hydrogens of those outside brackets
+abbrev pub atomsOf : Memory → List ℤ
+atomsOf μ = hydrogenated (μ .st .outside) (μ .bonds) (μ .st .bonds) (μ .st .atoms) (μ .atoms)
+
+-- what reading tells of an accepted text
+abbrev pub accepted : Memory → Told
+accepted μ = record { code = 0; offset = 0; atomCount = μ .st .atoms; bondCount = μ .st .bonds; atoms = atomsOf μ; bonds = μ .bonds }
+
+pub data Outcome (s : List ℕ) (atoms bonds : List ℤ) : Told → Type 0 where
+  too-short : enough atoms bonds ≡ false → Outcome s atoms bonds (short atoms bonds)
+  too-long : enough atoms bonds ≡ true → maxText < length s → Outcome s atoms bonds (refused 2 maxText atoms bonds)
+  halts : {c p : ℕ} → Fits s atoms bonds → bytesRead s atoms bonds ≡ halted c p → Outcome s atoms bonds (refused c p atoms bonds)
+  unfinished : {σ : State} {μ : Memory} → Fits s atoms bonds → bytesRead s atoms bonds ≡ going σ μ → accepting σ ≡ false → Outcome s atoms bonds (refused 3 (length s) atoms bonds)
+  unclosed : {σ : State} {μ : Memory} → Fits s atoms bonds → bytesRead s atoms bonds ≡ going σ μ → accepting σ ≡ true → leftmost (μ .st .opener) (μ .st .offset) < maxText
+      → Outcome s atoms bonds (refused 10 (leftmost (μ .st .opener) (μ .st .offset)) (μ .atoms) (μ .bonds))
+  unmatched : {σ : State} {μ : Memory} → Fits s atoms bonds → bytesRead s atoms bonds ≡ going σ μ → accepting σ ≡ true → maxText ≤ leftmost (μ .st .opener) (μ .st .offset)
+      → matchable (atomsOf μ) (μ .bonds) (μ .st .atoms) (μ .st .bonds) ≡ false → Outcome s atoms bonds (refused 11 0 (atomsOf μ) (μ .bonds))
+  accepts : {σ : State} {μ : Memory} → Fits s atoms bonds → bytesRead s atoms bonds ≡ going σ μ → accepting σ ≡ true → maxText ≤ leftmost (μ .st .opener) (μ .st .offset)
+      → matchable (atomsOf μ) (μ .bonds) (μ .st .atoms) (μ .st .bonds) ≡ true → Outcome s atoms bonds (accepted μ)
+
+module _ (s : List ℕ) (atoms bonds : List ℤ) where
+  at-end : Fits s atoms bonds → (σ : State) (μ : Memory) → bytesRead s atoms bonds ≡ going σ μ → accepting σ ≡ true → Outcome s atoms bonds (ended μ)
+  unfolding ended
+  at-end f σ μ e a = split (ltb (leftmost (μ .st .opener) (μ .st .offset)) maxText) refl (matchable (atomsOf μ) (μ .bonds) (μ .st .atoms) (μ .st .bonds)) refl
+    where
+      split : (t : Bool) → ltb (leftmost (μ .st .opener) (μ .st .offset)) maxText ≡ t → (u : Bool) → matchable (atomsOf μ) (μ .bonds) (μ .st .atoms) (μ .st .bonds) ≡ u
+          → Outcome s atoms bonds (pick t (refused 10 (leftmost (μ .st .opener) (μ .st .offset)) (μ .atoms) (μ .bonds)) (pick u (accepted μ) (refused 11 0 (atomsOf μ) (μ .bonds))))
+      split true p u q = Outcome.unclosed f e a (ltb-true (leftmost (μ .st .opener) (μ .st .offset)) maxText p)
+      split false p true q = Outcome.accepts f e a (ltb-false (leftmost (μ .st .opener) (μ .st .offset)) maxText p) q
+      split false p false q = Outcome.unmatched f e a (ltb-false (leftmost (μ .st .opener) (μ .st .offset)) maxText p) q
+
+  at-finish : Fits s atoms bonds → (r : Reading Memory) → bytesRead s atoms bonds ≡ r → Outcome s atoms bonds (finished (length s) atoms bonds r)
+  at-finish f (going σ μ) e = split (accepting σ) refl
+    where
+      split : (t : Bool) → accepting σ ≡ t → Outcome s atoms bonds (pick t (ended μ) (refused 3 (length s) atoms bonds))
+      split true a = at-end f σ μ e a
+      split false a = Outcome.unfinished f e a
+  at-finish f (halted c p) e = Outcome.halts f e
+
+  -- reading ends in one of them
+  pub outcome : Outcome s atoms bonds (readOf s atoms bonds)
+  unfolding readOf readFrom
+  outcome = split (enough atoms bonds) refl (leb (length s) maxText) refl
+    where
+      split : (t : Bool) → enough atoms bonds ≡ t → (u : Bool) → leb (length s) maxText ≡ u
+          → Outcome s atoms bonds (pick t (pick u (finished (length s) atoms bonds (bytesRead s atoms bonds)) (refused 2 maxText atoms bonds)) (short atoms bonds))
+      split true e true l = at-finish (record { room = e; short = leb-true (length s) maxText l }) (bytesRead s atoms bonds) refl
+      split true e false l = Outcome.too-long e (leb-false (length s) maxText l)
+      split false e u l = Outcome.too-short e

@@ -1,0 +1,4 @@
+pub mod Chosen
+pub mod Renamed
+pub mod Sums
+pub mod Claims

@@ -1,0 +1,1 @@
+// Theorems only: whether a matching exists survives a renumbering. See proofs/Claims.antt.

@@ -1,0 +1,276 @@
+-- Reading what was written: the tables that are read, cell by cell and bond by bond. Assumes nothing.
+use mathlib.Core.Path.{_≡_, refl, sym, ap, _∙_, subst}
+use mathlib.Core.Bool.{Bool, true, false, _&&_, not}
+use mathlib.Core.List.{List, [], _∷_, _++_, map}
+use Prim.Native.Nat.{ℕ, zero, suc, _+_, _-_, _*_, _<_, _≤_}
+use native.Mathlib.Omega.{arith}
+use lib.Dec.{eqb, leb, ltb}
+use lib.ListN.{length, getD}
+use lib.IntN.{ℤ, pos}
+use borrow.Author.Tests.{ltb-true, le-ltb, eqb-true, eqb-false}
+use Rattle.loops.specs.Loop.{pick, upTo}
+use Rattle.loops.proofs.Loops.{and-left, and-right, length-upTo, upTo-at}
+use Rattle.grammar.specs.declared.State.the-variants.{Start as opening}
+use Rattle.grammar.specs.Fold.{Reading}
+use Rattle.valence.specs.Valence.{order, implied, delocalized}
+use Rattle.matching.specs.Enumeration.{matchings}
+use Rattle.matching.specs.Graph.{flagged}
+use Rattle.matching.specs.Graph as graph
+use Rattle.matching.specs.Model.{some?}
+use Rattle.graph.specs.Graph.{bondSum, delocalizedAt, delocalizedFlag, delocalizedFlags, flag, bondOf, graphOf, matchable}
+use Rattle.table.specs.Limits.{maxAtoms, maxBonds, atomCells, bondCells, ELEMENT, SELECTED, ISOTOPE, HYDROGENS, CHARGE, EXTENSION}
+use Rattle.table.specs.Cells.{number, atomPlace, atomCell, bondCell, element, selected, hydrogens}
+use Rattle.table.specs.Valid.{Valid, selectedOk}
+use Rattle.table.proofs.Valid.{AtomFine, atom-row, range-pos, Enough}
+use Rattle.state.specs.Limits.{maxText, maxDepth, bridges}
+use Rattle.reading.specs.Memory.{Memory}
+use Rattle.reading.specs.Read.{hydrogenated, leftmost, refused, placed, ended, finished, readFrom}
+use Rattle.walk.specs.Token.{Bond, bond, Tok, apart, along, ring, branch, back, Hook, St, st, start, shut}
+use Rattle.walk.specs.Emit.{pre}
+use Rattle.walk.specs.Walk.{forestOf, place, renumber, renumbered, write}
+use Rattle.walk.specs.Check.{fine, reading}
+use Rattle.walk.proofs.Count.{count, All, none, more}
+use Rattle.walk.proofs.Trip.{Renumbering, renumbering, completed, Returned, round-trip}
+use Rattle.walk.proofs.Perm.{Perm, bonds-permuted}
+use Rattle.walk.proofs.Checked.{read-written, length-count}
+use Rattle.walk.proofs.Grammar.{written-grammar}
+use Rattle.walk.proofs.Twice.{count-map}
+use Rattle.walk.proofs.Sums as sums
+use Rattle.walk.proofs.Made.{Made, written-made}
+use Rattle.walk.proofs.Order.{place-below, atom-place}
+use Rattle.writing.specs.Spell.{unbracketed, atomBytes, tokensBytes}
+use Rattle.writing.specs.Write.{bondAt, bondList, tokens, textOf, fewBridges, shallow}
+use Rattle.roundtrip.proofs.Feed.{Takes}
+use Rattle.roundtrip.proofs.Cells.{atomCellsOf, bondCellsOf}
+use Rattle.roundtrip.proofs.Atoms.{rowBy, draftRow, outsideFlag, Bare, bare-of}
+use Rattle.roundtrip.proofs.Held.{nobond, rowOfBond, AtomTable, BondTable}
+use Rattle.roundtrip.proofs.Simulation.{Sim}
+use Rattle.roundtrip.proofs.Tokens.{Good}
+use Rattle.roundtrip.proofs.Written.{Held, text-read}
+use Rattle.roundtrip.proofs.Bonds.{inside, small-kinds, distinct, many, listed, sum-list}
+use Rattle.roundtrip.proofs.Ending.{none-left, hydrogens-cell, other-cell, rest-cell, hydrogenated-length}
+use Rattle.roundtrip.proofs.Matchable.{graphBond, tests, same-matchable}
+
+-- ---- tokens of valid tables with few bridges
+good-tokens : (n : ℕ) (ts : List Tok) → fewBridges ts ≡ true → All (Made (λ v. v < n) (λ k. k ≤ 3)) ts → All (Good n) ts
+unfolding fewBridges
+good-tokens n [] h none = none
+good-tokens n (apart w ∷ ts) h (more g a) = more {b = apart w} g (good-tokens n ts h a)
+good-tokens n (along k w ∷ ts) h (more g a) = more {b = along k w} g (good-tokens n ts h a)
+good-tokens n (ring k r ∷ ts) h (more g a) = more {b = ring k r} (g, ltb-true (suc r) bridges (and-left (ltb (suc r) bridges) (fewBridges ts) h)) (good-tokens n ts (and-right (ltb (suc r) bridges) (fewBridges ts) h) a)
+good-tokens n (branch ∷ ts) h (more g a) = more {b = branch} tt (good-tokens n ts h a)
+good-tokens n (back ∷ ts) h (more g a) = more {b = back} tt (good-tokens n ts h a)
+
+map-same : (l : List ℕ) → map (λ a. a) l ≡ l
+map-same [] = refl
+map-same (x ∷ l) = ap (λ (k : List ℕ). x ∷ k) (map-same l)
+
+graph-list : (bonds : List ℤ) (k m : ℕ) → upTo (bondOf bonds) k m ≡ map graphBond (upTo (bondAt bonds) k m)
+unfolding upTo
+graph-list bonds k zero = refl
+graph-list bonds k (suc m) = ap (λ (l : List graph.Bond). bondOf bonds k ∷ l) (graph-list bonds (suc k) m)
+
+six : (P : ℕ → Type 0) → P 0 → P 1 → P 2 → P 3 → P 4 → P 5 → (f : ℕ) → f < atomCells → P f
+six P a b c d e g zero l = a
+six P a b c d e g (suc zero) l = b
+six P a b c d e g (suc (suc zero)) l = c
+six P a b c d e g (suc (suc (suc zero))) l = d
+six P a b c d e g (suc (suc (suc (suc zero)))) l = e
+six P a b c d e g (suc (suc (suc (suc (suc zero))))) l = g
+six P a b c d e g (suc (suc (suc (suc (suc (suc f)))))) l = absurd (omega arith)
+
+-- ---- the row of an atom before its hydrogens, against its row in valid tables
+module _ (atoms bonds : List ℤ) (m v : ℕ) (fine-row : AtomFine atoms v) where
+  element-cell : atomCell atoms v ELEMENT ≡ pos (element atoms v)
+  element-cell = range-pos (atomCell atoms v ELEMENT) 118 (fine-row .element)
+
+  selected-cell : atomCell atoms v SELECTED ≡ pos (selected atoms v)
+  unfolding selectedOk
+  selected-cell = range-pos (atomCell atoms v SELECTED) 1 (and-left _ _ (fine-row .selected))
+
+  isotope-cell : atomCell atoms v ISOTOPE ≡ pos (number (atomCell atoms v ISOTOPE))
+  isotope-cell = range-pos (atomCell atoms v ISOTOPE) 999 (fine-row .isotope)
+
+  hydrogens-as : atomCell atoms v HYDROGENS ≡ pos (hydrogens atoms v)
+  hydrogens-as = range-pos (atomCell atoms v HYDROGENS) 9 (fine-row .hydrogens)
+
+  extension-cell : atomCell atoms v EXTENSION ≡ pos (number (atomCell atoms v EXTENSION))
+  extension-cell = range-pos (atomCell atoms v EXTENSION) 9999 (fine-row .extension)
+
+  draft-cell : (f : ℕ) → f < atomCells → (f ≡ HYDROGENS → ⊥) → getD (atomCellsOf (draftRow atoms bonds m v)) f (pos 0) ≡ atomCell atoms v f
+  unfolding draftRow
+  draft-cell f l h = go (unbracketed atoms bonds m v) refl f l h
+    where
+      go : (x : Bool) → unbracketed atoms bonds m v ≡ x → (f : ℕ) → f < atomCells → (f ≡ HYDROGENS → ⊥) → getD (atomCellsOf (rowBy atoms bonds m v x)) f (pos 0) ≡ atomCell atoms v f
+      go true e =
+          let b = bare-of atoms bonds m v e in
+          six (λ f. (f ≡ HYDROGENS → ⊥) → getD (atomCellsOf (rowBy atoms bonds m v true)) f (pos 0) ≡ atomCell atoms v f)
+          (λ h. sym element-cell) (λ h. sym selected-cell) (λ h. sym (isotope-cell ∙ ap pos (b .isotope))) (λ h. absurd (h refl)) (λ h. sym (b .charge)) (λ h. sym (extension-cell ∙ ap pos (b .extension)))
+      go false e =
+          six (λ f. (f ≡ HYDROGENS → ⊥) → getD (atomCellsOf (rowBy atoms bonds m v false)) f (pos 0) ≡ atomCell atoms v f)
+          (λ h. sym element-cell) (λ h. sym selected-cell) (λ h. sym isotope-cell) (λ h. absurd (h refl)) (λ h. refl) (λ h. sym extension-cell)
+
+  -- the hydrogens that reading gives at the end
+  given : (t : List ℤ) (a : ℕ) (U : List ℤ) → element t a ≡ element atoms v → selected t a ≡ selected atoms v → bondSum U m a ≡ bondSum bonds m v → atomCell t a HYDROGENS ≡ getD (atomCellsOf (draftRow atoms bonds m v)) HYDROGENS (pos 0)
+      → pick (eqb (outsideFlag atoms bonds m v) 1) (pos (implied (element t a) (selected t a) (bondSum U m a))) (atomCell t a HYDROGENS) ≡ atomCell atoms v HYDROGENS
+  unfolding draftRow outsideFlag
+  given t a U e s b = go (unbracketed atoms bonds m v) refl
+    where
+      go : (x : Bool) → unbracketed atoms bonds m v ≡ x → atomCell t a HYDROGENS ≡ getD (atomCellsOf (rowBy atoms bonds m v x)) HYDROGENS (pos 0)
+          → pick (eqb (pick x 1 0) 1) (pos (implied (element t a) (selected t a) (bondSum U m a))) (atomCell t a HYDROGENS) ≡ atomCell atoms v HYDROGENS
+      go true y c = rw (e, s, b, bare-of atoms bonds m v y .implied) (sym hydrogens-as)
+      go false y c = c ∙ sym hydrogens-as
+
+-- ---- the end of a reading with no open bridge
+ended-law : (μ : Memory) (n m : ℕ) → leftmost (μ .st .opener) (μ .st .offset) ≡ maxText → μ .st .atoms ≡ n → μ .st .bonds ≡ m → ended μ ≡ placed (hydrogenated (μ .st .outside) (μ .bonds) m n (μ .atoms)) (μ .bonds) n m
+unfolding ended
+ended-law μ n m e a b = rw (e, a, b)
+
+-- ---- the molecule that is read
+-- T and U: its tables; p and q: their cells
+pub record Molecule (atoms bonds : List ℤ) (n m : ℕ) (T U : List ℤ) (p q : ℕ) : Type 0 where
+  pub cells : (v f : ℕ) → v < n → f < atomCells → atomCell T (place (pre (forestOf n (bondList bonds m))) v) f ≡ atomCell atoms v f
+  pub listed : bondList U m ≡ completed n (bondList bonds m)
+  pub bond-cells : (b f : ℕ) → b < m → f < bondCells → bondCell U b f ≡ getD (bondCellsOf (rowOfBond (getD (completed n (bondList bonds m)) b nobond))) f (pos 0)
+  pub atoms-after : (j : ℕ) → atomCells * n ≤ j → getD T j (pos 0) ≡ pos 0
+  pub bonds-after : (j : ℕ) → bondCells * m ≤ j → getD U j (pos 0) ≡ pos 0
+  pub atoms-long : length T ≡ p
+  pub bonds-long : length U ≡ q
+
+pub record ReadBack (atoms₀ bonds₀ : List ℤ) (n m : ℕ) (A B : List ℤ) : Type 0 where
+  pub atoms : List ℤ
+  pub bonds : List ℤ
+  pub reads : readFrom (textOf atoms₀ bonds₀ n m) A B ≡ placed atoms bonds n m
+  pub molecule : Molecule atoms₀ bonds₀ n m atoms bonds (length A) (length B)
+
+module _ (atoms bonds : List ℤ) (n m : ℕ) (v : Valid atoms bonds n m) where
+  abbrev bs : List Bond
+  bs = bondList bonds m
+
+  abbrev walked : List ℕ
+  walked = pre (forestOf n bs)
+
+  pub ren : Renumbering n walked
+  ren = renumbering n bs (inside v)
+
+  pub as-many : length (completed n bs) ≡ m
+  unfolding renumbered
+  as-many =
+      let r : (p : Bond → Bool) → count p (completed n bs) ≡ count p (map (renumber walked) bs) = round-trip n (λ a. a) bs (inside v) .bonds in
+      length-count (completed n bs) ∙ r (λ b. true) ∙ count-map (λ b. true) (renumber walked) bs ∙ sym (length-count bs) ∙ many v
+
+  -- bond sums are the same in the table of the completed bonds
+  pub sum-same : (U : List ℤ) → bondList U m ≡ completed n bs → (w : ℕ) → w < n → bondSum U m (place walked w) ≡ bondSum bonds m w
+  sum-same U e w l =
+      sum-list U m (place walked w) ∙ ap (sums.bondSum order (place walked w)) e ∙ sums.sum-kept n bs (inside v) order w l ∙ sym (sum-list bonds m w)
+
+  module _ (A B : List ℤ) (lent : Enough A B) (few : fewBridges (tokens bonds n m) ≡ true) (flat : shallow (tokens bonds n m) ≡ true) where
+    rows-fine : (w : ℕ) → w < n → AtomFine atoms w
+    rows-fine = atom-row v
+
+    trip : Returned n (λ a. a) bs
+    trip = round-trip n (λ a. a) bs (inside v)
+
+    end-state : St
+    end-state = st (map (λ a. a) walked) (completed n bs) (trip .hub) n (trip .bridges) []
+
+    tokens-read : reading maxAtoms maxBonds maxDepth (tokens bonds n m) start ≡ fine end-state
+    unfolding tokens end-state
+    tokens-read = read-written maxAtoms maxBonds maxDepth n (λ a. a) bs (inside v) (distinct v) (v .few-atoms) (let e = many v in let l = v .few-bonds in omega arith) flat ∙ ap fine (trip .reads)
+
+    held : Held atoms bonds n m (length A) (length B) rows-fine (lent .atoms-room) (lent .bonds-room) A B refl refl (textOf atoms bonds n m) end-state
+    unfolding textOf tokens
+    held = text-read atoms bonds n m (length A) (length B) rows-fine (lent .atoms-room) (lent .bonds-room) A B refl refl (tokens bonds n m) end-state (written-grammar n (λ a. a) bs) tokens-read
+        (good-tokens n (tokens bonds n m) few (written-made (λ w. w < n) (λ k. k ≤ 3) (omega arith) n (λ a. a) bs (inside v) (λ w l. l) (small-kinds v)))
+
+    abbrev μ : Memory
+    μ = held .memory
+
+    sim : Sim (draftRow atoms bonds m) (outsideFlag atoms bonds m) (length A) (length B) (map (λ a. a) walked) (completed n bs) (trip .hub) n (trip .bridges) [] μ
+    unfolding end-state
+    sim = held .holds
+
+    -- the tables that are read
+    abbrev readBonds : List ℤ
+    readBonds = μ .bonds
+
+    abbrev readAtoms : List ℤ
+    readAtoms = hydrogenated (μ .st .outside) (μ .bonds) m n (μ .atoms)
+
+    payload : (w : ℕ) → w < n → getD (map (λ a. a) walked) (place walked w) 0 ≡ w
+    payload w l = ap (λ (x : List ℕ). getD x (place walked w) 0) (map-same walked) ∙ atom-place ren w l
+
+    before : (w f : ℕ) → w < n → f < atomCells → atomCell (μ .atoms) (place walked w) f ≡ getD (atomCellsOf (draftRow atoms bonds m w)) f (pos 0)
+    before w f l k = sim .table .cells (place walked w) f (place-below ren w l) k ∙ ap (λ (x : ℕ). getD (atomCellsOf (draftRow atoms bonds m x)) f (pos 0)) (payload w l)
+
+    same-cell : (w f : ℕ) → w < n → f < atomCells → (f ≡ HYDROGENS → ⊥) → atomCell (μ .atoms) (place walked w) f ≡ atomCell atoms w f
+    same-cell w f l k h = before w f l k ∙ draft-cell atoms bonds m w (rows-fine w l) f k h
+
+    read-list : bondList readBonds m ≡ completed n bs
+    read-list = subst (λ (k : ℕ). bondList readBonds k ≡ completed n bs) as-many (listed (length B) readBonds (completed n bs) (sim .bonding))
+
+    hydrogens-read : (w : ℕ) → w < n → atomCell readAtoms (place walked w) HYDROGENS ≡ atomCell atoms w HYDROGENS
+    hydrogens-read w l =
+        let a = place walked w in
+        let b = place-below ren w l in
+        let t = sim .table .long in
+        let g = lent .atoms-room in
+        let y = v .few-atoms in
+        hydrogens-cell (μ .st .outside) readBonds m n a (μ .atoms) b (omega arith)
+        ∙ ap (λ (x : ℕ). pick (eqb x 1) (pos (implied (element (μ .atoms) a) (selected (μ .atoms) a) (bondSum readBonds m a))) (atomCell (μ .atoms) a HYDROGENS)) (sim .table .flags a b ∙ ap (outsideFlag atoms bonds m) (payload w l))
+        ∙ given atoms bonds m w (rows-fine w l) (μ .atoms) a readBonds (ap number (same-cell w ELEMENT l (omega arith) (λ z. omega arith))) (ap number (same-cell w SELECTED l (omega arith) (λ z. omega arith))) (sum-same readBonds read-list w l) (before w HYDROGENS l (omega arith))
+
+    cell-read : (w f : ℕ) → w < n → f < atomCells → (x : Bool) → eqb f HYDROGENS ≡ x → atomCell readAtoms (place walked w) f ≡ atomCell atoms w f
+    cell-read w f l k true e = subst (λ (f : ℕ). atomCell readAtoms (place walked w) f ≡ atomCell atoms w f) (sym (eqb-true f HYDROGENS e)) (hydrogens-read w l)
+    cell-read w f l k false e = other-cell (μ .st .outside) readBonds m n (place walked w) f (μ .atoms) k (eqb-false f HYDROGENS e) ∙ same-cell w f l k (eqb-false f HYDROGENS e)
+
+    molecule : Molecule atoms bonds n m readAtoms readBonds (length A) (length B)
+    molecule = record {
+      cells = λ w f l k. cell-read w f l k (eqb f HYDROGENS) refl;
+      listed = read-list;
+      bond-cells = λ b f l k. sim .bonding .cells b f (let e = as-many in omega arith) k;
+      atoms-after = λ j l. rest-cell (μ .st .outside) readBonds m n j (μ .atoms) l ∙ sim .table .after j l;
+      bonds-after = λ j l. sim .bonding .after j (let e = as-many in omega arith);
+      atoms-long = hydrogenated-length (μ .st .outside) readBonds m n (μ .atoms) ∙ sim .table .long;
+      bonds-long = sim .bonding .long;
+    }
+
+    reads : readFrom (textOf atoms bonds n m) A B ≡ placed readAtoms readBonds n m
+    unfolding readFrom
+    reads =
+        ap (finished (length (textOf atoms bonds n m)) A B) (held .takes .is)
+        ∙ ap (λ (x : Bool). pick x (ended μ) (refused 3 (length (textOf atoms bonds n m)) A B)) (held .ends)
+        ∙ ended-law μ n m (none-left (μ .st .opener) (μ .st .symbol) (μ .st .offset) (trip .bridges) (sim .bridging) (trip .closed)) (sim .atoms) (sim .bonds ∙ as-many)
+
+    -- THE READING of what was written
+    pub read-back : ReadBack atoms bonds n m A B
+    read-back = record { atoms = readAtoms; bonds = readBonds; reads = reads; molecule = molecule }
+
+  -- ---- a matching exists in what is read exactly if one exists in what was written
+  module _ {T U : List ℤ} {p q : ℕ} (M : Molecule atoms bonds n m T U p q) where
+    deloc : (w : ℕ) → w < n → delocalizedAt T U m (place walked w) ≡ delocalizedAt atoms bonds m w
+    deloc w l =
+        let e = ap number (M .cells w ELEMENT l (omega arith)) in
+        let s = ap number (M .cells w SELECTED l (omega arith)) in
+        let h = ap number (M .cells w HYDROGENS l (omega arith)) in
+        let b = sum-same U (M .listed) w l in
+        λ i. delocalized (e i) (s i) (b i) (h i)
+
+    flag-same : (w : ℕ) → w < n → flagged (delocalizedFlags T U n m) (place walked w) ≡ flagged (delocalizedFlags atoms bonds n m) w
+    flag-same w l =
+        ap (λ (x : ℕ). eqb x 1)
+        (upTo-at (delocalizedFlag T U m) n (place walked w) 0 (place-below ren w l) ∙ ap flag (deloc w l) ∙ sym (upTo-at (delocalizedFlag atoms bonds m) n w 0 l))
+
+    permuted : Perm (completed n bs) (map (renumber walked) bs)
+    unfolding renumbered
+    permuted = bonds-permuted n bs (inside v)
+
+    pub matchable-same : matchable T U n m ≡ matchable atoms bonds n m
+    unfolding matchable
+    matchable-same =
+        let F = delocalizedFlags T U n m in
+        let G = delocalizedFlags atoms bonds n m in
+        ap (λ (l : List graph.Bond). some? (matchings (graph.isMatching F l) m)) (graph-list U 0 m ∙ ap (map graphBond) (M .listed))
+        ∙ subst (λ (k : ℕ). some? (matchings (tests F (completed n bs)) k) ≡ some? (matchings (tests G bs) k)) as-many
+        (same-matchable ren G F flag-same (length-upTo (delocalizedFlag atoms bonds m) 0 n) (length-upTo (delocalizedFlag T U m) 0 n) bs (completed n bs) (inside v) permuted)
+        ∙ sym (ap (λ (l : List graph.Bond). some? (matchings (graph.isMatching G l) m)) (graph-list bonds 0 m))

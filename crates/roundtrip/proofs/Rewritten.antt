@@ -1,0 +1,168 @@
+-- The tables that are read are valid, and writing them is accepted with the same bytes. Assumes nothing.
+use mathlib.Core.Path.{_≡_, refl, sym, ap, _∙_, subst}
+use mathlib.Core.Bool.{Bool, true, false, _&&_, _||_, not}
+use mathlib.Core.List.{List, [], _∷_, _++_, map}
+use Prim.Native.Nat.{ℕ, zero, suc, _+_, _-_, _*_, _<_, _≤_}
+use native.Mathlib.Omega.{arith}
+use lib.Dec.{eqb, leb, ltb}
+use lib.ListN.{length, getD}
+use lib.IntN.{ℤ, pos, negsuc}
+use borrow.Author.Tests.{eqb-true, eq-eqb, le-leb}
+use Rattle.loops.specs.Loop.{pick, each, upTo}
+use Rattle.loops.proofs.Loops.{and-left, and-right, each-at}
+use Rattle.table.specs.Limits.{maxAtoms, maxBonds, atomCells, bondCells, ELEMENT, SELECTED, ISOTOPE, HYDROGENS, CHARGE, EXTENSION, FIRST, SECOND, KIND}
+use Rattle.table.specs.Cells.{number, inRange, atomCell, bondCell, end1, end2}
+use Rattle.table.specs.Valid.{selectable, selectedOk, sameEnds, fresh, atomOk, bondOk, Valid, enough}
+use Rattle.table.specs.Valid as spec
+use Rattle.table.proofs.Valid.{range-of, BondFine, bond-fine-back}
+use Rattle.state.specs.Limits.{maxDepth}
+use Rattle.walk.specs.Token.{Bond, Tok, apart, along, ring, branch, back}
+use Rattle.walk.specs.Emit.{pre}
+use Rattle.walk.specs.Walk.{forestOf, renumber, renumbered}
+use Rattle.walk.specs.Check.{ends, nests}
+use Rattle.walk.proofs.Count.{bit, count, All, none, more}
+use Rattle.walk.proofs.Trip.{completed, Returned, round-trip, Renumbering}
+use Rattle.walk.proofs.Twice.{Distinct, completed-inside, distinct-map}
+use Rattle.walk.proofs.Natural.{onTok}
+use Rattle.walk.proofs.Made.{completed-made}
+use Rattle.walk.proofs.Order.{atom-below}
+use Rattle.writing.specs.Write.{bondList, tokens, textOf, renumbering, fewBridges, shallow}
+use Rattle.roundtrip.proofs.Cells.{bondCellsOf}
+use Rattle.roundtrip.proofs.Held.{nobond, rowOfBond}
+use Rattle.roundtrip.proofs.Simulation.{each-all}
+use Rattle.roundtrip.proofs.Bonds.{inside, small-kinds, distinct}
+use Rattle.roundtrip.proofs.Back.{Molecule, ren, as-many}
+use Rattle.roundtrip.proofs.Again.{cell-here, walkAtom, tokens-again}
+
+-- ---- an atom's row is valid by its cells
+abbrev okBy : ℤ → ℤ → ℤ → ℤ → ℤ → ℤ → Bool
+okBy e s i h c x =
+    inRange e (pos 0) (pos 118) && inRange i (pos 0) (pos 999) && inRange h (pos 0) (pos 9) && inRange c (negsuc 8) (pos 9) && inRange x (pos 0) (pos 9999)
+    && (inRange s (pos 0) (pos 1) && (eqb (number s) 0 || selectable (number e)))
+
+ok-cells : (t : List ℤ) (a : ℕ) → atomOk t a ≡ okBy (atomCell t a ELEMENT) (atomCell t a SELECTED) (atomCell t a ISOTOPE) (atomCell t a HYDROGENS) (atomCell t a CHARGE) (atomCell t a EXTENSION)
+unfolding atomOk selectedOk
+ok-cells t a = refl
+
+-- two that pass count twice
+count-one : (p : Bond → Bool) (l : List Bond) (i : ℕ) → i < length l → p (getD l i nobond) ≡ true → 1 ≤ count p l
+count-one p [] i h g = absurd (omega arith)
+count-one p (b ∷ l) zero h g = let e = ap bit g in omega arith
+count-one p (b ∷ l) (suc i) h g = let e = count-one p l i (omega arith) g in omega arith
+
+count-two : (p : Bond → Bool) (l : List Bond) (i j : ℕ) → i < j → j < length l → p (getD l i nobond) ≡ true → p (getD l j nobond) ≡ true → 2 ≤ count p l
+count-two p [] i j k h g f = absurd (omega arith)
+count-two p (b ∷ l) i zero k h g f = absurd (omega arith)
+count-two p (b ∷ l) zero (suc j) k h g f = let e = ap bit g in let r = count-one p l j (omega arith) f in omega arith
+count-two p (b ∷ l) (suc i) (suc j) k h g f = let r = count-two p l i j (omega arith) (omega arith) g f in omega arith
+
+all-at : (P : Bond → Type 0) (bs : List Bond) (i : ℕ) → All P bs → i < length bs → P (getD bs i nobond)
+all-at P [] i none l = absurd (omega arith)
+all-at P (b ∷ bs) zero (more h a) l = h
+all-at P (b ∷ bs) (suc i) (more h a) l = all-at P bs i a (omega arith)
+
+-- other numbers of the atoms change neither bridges nor branches
+few-map : (g : ℕ → ℕ) (ts : List Tok) → fewBridges (map (onTok g) ts) ≡ fewBridges ts
+unfolding fewBridges
+few-map g [] = refl
+few-map g (apart w ∷ ts) = few-map g ts
+few-map g (along k w ∷ ts) = few-map g ts
+few-map g (ring k r ∷ ts) = rw (few-map g ts)
+few-map g (branch ∷ ts) = few-map g ts
+few-map g (back ∷ ts) = few-map g ts
+
+nests-map : (am bm dm : ℕ) (g : ℕ → ℕ) (ts : List Tok) (d : ℕ) → nests am bm dm (map (onTok g) ts) d ≡ nests am bm dm ts d
+nests-map am bm dm g [] d = refl
+nests-map am bm dm g (apart w ∷ ts) d = nests-map am bm dm g ts d
+nests-map am bm dm g (along k w ∷ ts) d = nests-map am bm dm g ts d
+nests-map am bm dm g (ring k r ∷ ts) d = nests-map am bm dm g ts d
+nests-map am bm dm g (branch ∷ ts) d = ap (λ (x : Bool). ltb d dm && x) (nests-map am bm dm g ts (suc d))
+nests-map am bm dm g (back ∷ ts) zero = nests-map am bm dm g ts zero
+nests-map am bm dm g (back ∷ ts) (suc d) = nests-map am bm dm g ts d
+
+module _ (atoms bonds : List ℤ) (n m : ℕ) (v : Valid atoms bonds n m) {T U : List ℤ} {p q : ℕ} (M : Molecule atoms bonds n m T U p q) where
+  abbrev pre-order : List ℕ
+  pre-order = pre (forestOf n (bondList bonds m))
+
+  abbrev C : List Bond
+  C = completed n (bondList bonds m)
+
+  row-ok : (a : ℕ) → a < n → atomOk T a ≡ true
+  row-ok a l =
+      let w = getD pre-order a 0 in
+      let e = cell-here atoms bonds n m v M a ELEMENT l (omega arith) in
+      let s = cell-here atoms bonds n m v M a SELECTED l (omega arith) in
+      let i = cell-here atoms bonds n m v M a ISOTOPE l (omega arith) in
+      let h = cell-here atoms bonds n m v M a HYDROGENS l (omega arith) in
+      let c = cell-here atoms bonds n m v M a CHARGE l (omega arith) in
+      let x = cell-here atoms bonds n m v M a EXTENSION l (omega arith) in
+      ok-cells T a ∙ (λ j. okBy (e j) (s j) (i j) (h j) (c j) (x j)) ∙ sym (ok-cells atoms w) ∙ each-at (atomOk atoms) n w (v .atom-rows) (atom-below (ren atoms bonds n m v) a l)
+
+  in-list : (b : ℕ) → b < m → b < length C
+  in-list b l = let e = as-many atoms bonds n m v in omega arith
+
+  first-is : (b : ℕ) → b < m → end1 U b ≡ getD C b nobond .lo
+  unfolding number
+  first-is b l = ap number (M .bond-cells b FIRST l (omega arith))
+
+  second-is : (b : ℕ) → b < m → end2 U b ≡ getD C b nobond .hi
+  unfolding number
+  second-is b l = ap number (M .bond-cells b SECOND l (omega arith))
+
+  bond-ok : (b : ℕ) → b < m → bondOk U n b ≡ true
+  bond-ok b l =
+      let x = getD C b nobond in
+      let h = all-at (λ b. (b .lo < b .hi) × (b .hi < n)) C b (completed-inside n (bondList bonds m) (inside v)) (in-list b l) in
+      let k = all-at (λ b. b .kind ≤ 3) C b (completed-made (λ w. Unit {0}) (λ k. k ≤ 3) (omega arith) n (bondList bonds m) (inside v) (small-kinds v)) (in-list b l) in
+      let e = first-is b l in
+      let f = second-is b l in
+      bond-fine-back {t = U} {n = n} {b = b} (record {
+        kind = rw (M .bond-cells b KIND l (omega arith)) (range-of (x .kind) 3 k);
+        natural = rw (M .bond-cells b FIRST l (omega arith)) (le-leb 0 (x .lo) (omega arith));
+        order = omega arith;
+        second = omega arith;
+      })
+
+  distinct-read : Distinct C
+  unfolding renumbered
+  distinct-read x y =
+      let r = ren atoms bonds n m v in
+      let c : count (ends x y) C ≡ count (ends x y) (map (renumber pre-order) (bondList bonds m)) = round-trip n (λ a. a) (bondList bonds m) (inside v) .bonds (ends x y) in
+      let d = distinct-map n pre-order (r .every) (bondList bonds m) (inside v) (distinct v) x y in
+      omega arith
+
+  apart-read : (i j : ℕ) → i < m → j < i → sameEnds U i j ≡ false
+  unfolding sameEnds
+  apart-read i j l g = go (sameEnds U i j) refl
+    where
+      go : (x : Bool) → sameEnds U i j ≡ x → x ≡ false
+      go false e = refl
+      go true e =
+          let a = eqb-true (end1 U i) (end1 U j) (and-left (eqb (end1 U i) (end1 U j)) (eqb (end2 U i) (end2 U j)) e) in
+          let b = eqb-true (end2 U i) (end2 U j) (and-right (eqb (end1 U i) (end1 U j)) (eqb (end2 U i) (end2 U j)) e) in
+          let y = getD C j nobond in
+          let k = first-is i l in
+          let k2 = second-is i l in
+          let k3 = first-is j (omega arith) in
+          let k4 = second-is j (omega arith) in
+          let pj : ends (y .lo) (y .hi) y ≡ true = rw (eq-eqb (y .lo) (y .lo) refl, eq-eqb (y .hi) (y .hi) refl) in
+          let pi : ends (y .lo) (y .hi) (getD C i nobond) ≡ true = rw (eq-eqb (getD C i nobond .lo) (y .lo) (omega arith), eq-eqb (getD C i nobond .hi) (y .hi) (omega arith)) in
+          absurd (let c = count-two (ends (y .lo) (y .hi)) C j i g (in-list i l) pj pi in let d = distinct-read (y .lo) (y .hi) in omega arith)
+
+  -- THE TABLES READ are valid
+  pub valid-again : Valid T U n m
+  unfolding spec.distinct fresh
+  valid-again = record {
+    few-atoms = v .few-atoms;
+    few-bonds = v .few-bonds;
+    atom-rows = each-all (atomOk T) 0 n (λ a k l. row-ok a (omega arith));
+    bond-rows = each-all (bondOk U n) 0 m (λ b k l. bond-ok b (omega arith));
+    apart = each-all (fresh U) 0 m (λ i k l. each-all (λ j. not (sameEnds U i j)) 0 i (λ j a b. ap not (apart-read i j (omega arith) (omega arith))));
+  }
+
+  -- and need no more bridges and branches
+  pub few-again : fewBridges (tokens U n m) ≡ fewBridges (tokens bonds n m)
+  few-again = sym (few-map (walkAtom atoms bonds n m v M) (tokens U n m)) ∙ ap fewBridges (tokens-again atoms bonds n m v M)
+
+  pub shallow-again : shallow (tokens U n m) ≡ shallow (tokens bonds n m)
+  shallow-again = sym (nests-map maxAtoms maxBonds maxDepth (walkAtom atoms bonds n m v M) (tokens U n m) 0) ∙ ap shallow (tokens-again atoms bonds n m v M)

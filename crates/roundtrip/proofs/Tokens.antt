@@ -1,0 +1,163 @@
+-- Reading the bytes of tokens holds what reading the tokens holds. Assumes nothing.
+use mathlib.Core.Path.{_≡_, refl, sym, ap, _∙_, subst}
+use mathlib.Core.Bool.{Bool, true, false, _&&_, not, cond}
+use mathlib.Core.List.{List, [], _∷_, _++_}
+use Prim.Native.Nat.{ℕ, zero, suc, _+_, _-_, _*_, _<_, _≤_}
+use native.Mathlib.Omega.{arith}
+use lib.Dec.{eqb, leb, ltb}
+use lib.ListN.{length}
+use lib.IntN.{ℤ}
+use borrow.Author.Tests.{ne-eqb, eqb-true, ltb-true, lt-leb, not-true}
+use Rattle.loops.specs.Loop.{pick}
+use Rattle.loops.proofs.Loops.{and-left, and-right}
+use Rattle.element.specs.Symbols.{among, letters}
+use Rattle.element.specs.Lookup.{letterOf, selectedOf}
+use Rattle.grammar.specs.Grammar.{nonzero, bondSymbols}
+use Rattle.grammar.specs.declared.Last.{Last}
+use Rattle.grammar.specs.declared.Last.the-variants.{Plain as plain}
+use Rattle.grammar.specs.declared.Mode.the-variants.{Seq as seq, Inside as inside}
+use Rattle.grammar.specs.declared.State.{State}
+use Rattle.grammar.specs.declared.State.the-variants.{At as at}
+use Rattle.grammar.specs.Machine.{step, next, atomOr, bridgeOr}
+use Rattle.grammar.specs.Fold.{keeps}
+use Rattle.table.specs.Limits.{maxAtoms, maxBonds, atomCells, bondCells}
+use Rattle.table.proofs.Valid.{AtomFine}
+use Rattle.state.specs.Limits.{maxDepth, bridges}
+use Rattle.state.specs.State.{opened, closed}
+use Rattle.reading.specs.Memory.{Memory, nothing, dotted, kindOf, afterDot, bonded, begun, described, drafted, moved, awaiting, counting}
+use Rattle.reading.specs.Act.{act, modeAct, branchAct}
+use Rattle.walk.specs.Token.{Bond, bond, Tok, apart, along, ring, branch, back, Hook, hookAt, St, st, bridge}
+use Rattle.walk.specs.Token as token
+use Rattle.walk.specs.Check.{refusedBridge, refusal, Res, fine, refused, orNumber, reading, grammar}
+use Rattle.walk.proofs.Count.{All, none, more}
+use Rattle.writing.specs.Spell.{atomBytes, kindBytes, bridgeBytes, tokenBytes, restBytes}
+use Rattle.roundtrip.proofs.Feed.{Takes, stays, joins, byte}
+use Rattle.roundtrip.proofs.Letters.{Begins, Room, Atomed}
+use Rattle.roundtrip.proofs.Atoms.{draftRow, outsideFlag, takes-atom}
+use Rattle.roundtrip.proofs.Simulation.{Sim, Holds, sim-await, sim-count, sim-apart, sim-along, sim-branch, sim-back, Bridged, sim-ring}
+use Rattle.roundtrip.proofs.Signs.{Stance, after, fresh, Jointed, takes-dot, waiting, waiting-kind, takes-kind, Ringed, takes-ring}
+
+-- a token that the writer may emit for valid tables of n atoms
+abbrev pub Good : ℕ → Tok → Type 0
+Good n (apart w) = w < n
+Good n (along k w) = (k ≤ 3) × (w < n)
+Good n (ring k r) = (k ≤ 3) × (suc r < bridges)
+Good n branch = Unit {0}
+Good n back = Unit {0}
+
+abbrev pub nextOf : St → ℕ
+nextOf (st xs bs h n hs stk) = n
+
+abbrev pub depthOf : St → ℕ
+depthOf (st xs bs h n hs stk) = length stk
+
+-- what is not refused has room
+pub room-first : (a : Bool) → _≡_ {A = ℕ} (cond a 0 4) 0 → a ≡ true
+room-first true h = refl
+room-first false h = absurd (omega arith)
+
+pub room-both : (a b : Bool) → _≡_ {A = ℕ} (cond a (cond b 0 5) 4) 0 → (a ≡ true) × (b ≡ true)
+room-both true true h = (refl, refl)
+room-both true false h = absurd (omega arith)
+room-both false b h = absurd (omega arith)
+
+pub room-depth : (a : Bool) → _≡_ {A = ℕ} (cond a 0 6) 0 → a ≡ true
+room-depth true h = refl
+room-depth false h = absurd (omega arith)
+
+and-false : (a : Bool) → (a && false) ≡ false
+and-false true = refl
+and-false false = refl
+
+module _ (atoms bonds : List ℤ) (N m p q : ℕ) (fine-atoms : (v : ℕ) → v < N → AtomFine atoms v) (proom : atomCells * maxAtoms ≤ p) (qroom : bondCells * maxBonds ≤ q) where
+  abbrev pub Is : St → Memory → Type 0
+  Is s μ = Holds (draftRow atoms bonds m) (outsideFlag atoms bonds m) p q s μ
+
+  abbrev f : ℕ → List ℕ
+  f = atomBytes atoms bonds m
+
+  -- the bytes of a token lead from a memory to one that holds s, in a stance with d open branches
+  pub record Stepped (i : ℕ) (σ : State) (μ : Memory) (l : List ℕ) (s : St) (b : Bool) (d : ℕ) : Type 0 where
+    pub state : State
+    pub memory : Memory
+    pub takes : Takes i σ μ l state memory
+    pub stance : Stance b d state
+    pub waits : memory .pending ≡ nothing
+    pub holds : Is s memory
+
+  -- ---- atoms, after a joint
+  room-of : (xs : List ℕ) (bs : List Bond) (h n : ℕ) (hs : List Hook) (stk : List ℕ) (μ : Memory) → Is (st xs bs h n hs stk) μ → n < maxAtoms → (bonded μ && leb maxBonds (μ .st .bonds)) ≡ false → Room μ
+  room-of xs bs h n hs stk μ s l e =
+      let a = s .atoms in
+      let t = s .table .long in
+      record { atoms = lt-leb maxAtoms (μ .st .atoms) (omega arith); bonds = e; cells = omega arith }
+
+  pub atom-apart : (i : ℕ) (τ : State) (d : ℕ) (xs : List ℕ) (bs : List Bond) (h n : ℕ) (hs : List Hook) (stk : List ℕ) (ν : Memory) (w : ℕ) → w < N → Begins τ d → Is (st xs bs h n hs stk) ν → n < maxAtoms → bonded ν ≡ false
+      → Stepped i τ ν (f w) (token.step (apart w) (st xs bs h n hs stk)) false d
+  unfolding begun
+  atom-apart i τ d xs bs h n hs stk ν w g v s l e =
+      let a = takes-atom atoms bonds m w (fine-atoms w g) i τ d ν v (room-of xs bs h n hs stk ν s l (rw e)) in
+      record { state = at (seq (a .last)) d; memory = _; takes = a .is; stance = after; waits = refl; holds = sim-apart (draftRow atoms bonds m) (outsideFlag atoms bonds m) p q proom qroom xs bs h n hs stk ν s w (a .draft) l e }
+
+  atom-along : (i : ℕ) (τ : State) (d : ℕ) (xs : List ℕ) (bs : List Bond) (h n : ℕ) (hs : List Hook) (stk : List ℕ) (ν : Memory) (k w : ℕ) → w < N → Begins τ d → Is (st xs bs h n hs stk) ν → n < maxAtoms → length bs < maxBonds → 0 < n → bonded ν ≡ true → kindOf (ν .pending) ≡ k
+      → Stepped i τ ν (f w) (token.step (along k w) (st xs bs h n hs stk)) false d
+  unfolding begun
+  atom-along i τ d xs bs h n hs stk ν k w g v s l c z e t =
+      let y = s .bonds in
+      let a = takes-atom atoms bonds m w (fine-atoms w g) i τ d ν v (room-of xs bs h n hs stk ν s l (rw (e, lt-leb maxBonds (ν .st .bonds) (omega arith)))) in
+      record { state = at (seq (a .last)) d; memory = _; takes = a .is; stance = after; waits = refl; holds = sim-along (draftRow atoms bonds m) (outsideFlag atoms bonds m) p q proom qroom xs bs h n hs stk ν s k w (a .draft) l c z e t }
+
+  -- ---- the five tokens
+  pub step-apart : (i : ℕ) (σ : State) (μ : Memory) (x : Bool) (d : ℕ) (xs : List ℕ) (bs : List Bond) (h n : ℕ) (hs : List Hook) (stk : List ℕ) (w : ℕ) → w < N → Stance x d σ → Is (st xs bs h n hs stk) μ → n < maxAtoms
+      → Stepped i σ μ (46 ∷ f w) (token.step (apart w) (st xs bs h n hs stk)) false d
+  step-apart i σ μ x d xs bs h n hs stk w g v s l =
+      let j = takes-dot i μ v in
+      let ν = awaiting dotted μ in
+      let a = atom-apart (i + 1) (j .state) d xs bs h n hs stk ν w g (j .begins) (sim-await (draftRow atoms bonds m) (outsideFlag atoms bonds m) p q proom qroom xs bs h n hs stk μ s dotted) l (and-false (not (eqb (μ .st .atoms) 0))) in
+      record { state = a .state; memory = a .memory; takes = joins (46 ∷ []) (f w) (j .takes) (a .takes); stance = a .stance; waits = a .waits; holds = a .holds }
+
+  pub step-along : (i : ℕ) (σ : State) (μ : Memory) (x : Bool) (d : ℕ) (xs : List ℕ) (bs : List Bond) (h n : ℕ) (hs : List Hook) (stk : List ℕ) (k w : ℕ) → k ≤ 3 → w < N → Stance x d σ → μ .pending ≡ nothing → Is (st xs bs h n hs stk) μ → n < maxAtoms → length bs < maxBonds → 0 < n
+      → Stepped i σ μ (kindBytes k ++ f w) (token.step (along k w) (st xs bs h n hs stk)) false d
+  step-along i σ μ x d xs bs h n hs stk k w kk g v e s l c z =
+      let j = takes-kind i μ k kk e v in
+      let ν = awaiting (waiting k) μ in
+      let y = s .atoms in
+      let u : bonded ν ≡ true = rw (ne-eqb (μ .st .atoms) 0 (λ q. omega arith), waiting-kind k .1) in
+      let a = atom-along (i + length (kindBytes k)) (j .state) d xs bs h n hs stk ν k w g (j .begins) (sim-await (draftRow atoms bonds m) (outsideFlag atoms bonds m) p q proom qroom xs bs h n hs stk μ s (waiting k)) l c z u (waiting-kind k .0) in
+      record { state = a .state; memory = a .memory; takes = joins (kindBytes k) (f w) (j .takes) (a .takes); stance = a .stance; waits = a .waits; holds = a .holds }
+
+  pub step-ring : (i : ℕ) (x : Last) (μ : Memory) (d : ℕ) (xs : List ℕ) (bs : List Bond) (h n : ℕ) (hs : List Hook) (stk : List ℕ) (k r : ℕ) → k ≤ 3 → suc r < bridges → μ .pending ≡ nothing → Is (st xs bs h n hs stk) μ
+      → refusedBridge maxAtoms maxBonds maxDepth (hookAt hs r) k bs h ≡ 0 → Stepped i (at (seq x) d) μ (kindBytes k ++ bridgeBytes r) (token.step (ring k r) (st xs bs h n hs stk)) false d
+  step-ring i x μ d xs bs h n hs stk k r kk g e s z =
+      let R = draftRow atoms bonds m in
+      let F = outsideFlag atoms bonds m in
+      let w = sim-await R F p q proom qroom xs bs h n hs stk μ s (waiting k) in
+      let a = takes-ring R F p q (bridge (hookAt hs r) k r xs bs h n hs stk) r g i x d μ k kk e
+      (λ o t. sim-ring R F p q proom qroom xs bs h n hs stk (counting t (awaiting (waiting k) μ)) (sim-count R F p q proom qroom xs bs h n hs stk (awaiting (waiting k) μ) w t) r k g (waiting-kind k .0) o z) in
+      record { state = at (seq plain) d; memory = a .memory; takes = a .takes; stance = after; waits = a .waits; holds = a .holds }
+
+  pub step-branch : (i : ℕ) (x : Last) (μ : Memory) (d : ℕ) (xs : List ℕ) (bs : List Bond) (h n : ℕ) (hs : List Hook) (stk : List ℕ) → Is (st xs bs h n hs stk) μ → length stk < maxDepth → 0 < n
+      → Stepped i (at (seq x) d) μ (40 ∷ []) (token.step branch (st xs bs h n hs stk)) true (suc d)
+  unfolding step next atomOr bridgeOr among letters nonzero bondSymbols act modeAct letterOf selectedOf branchAct
+  step-branch i x μ d xs bs h n hs stk s l z =
+      let y = s .depth in
+      record {
+        state = at inside (suc d);
+        memory = moved (opened (μ .st)) μ;
+        takes = byte 40 [] refl refl (rw (lt-leb maxDepth (μ .st .depth) (omega arith))) stays;
+        stance = fresh;
+        waits = refl;
+        holds = sim-branch (draftRow atoms bonds m) (outsideFlag atoms bonds m) p q proom qroom xs bs h n hs stk μ s l z;
+      }
+
+  pub step-back : (i : ℕ) (x : Last) (μ : Memory) (d : ℕ) (xs : List ℕ) (bs : List Bond) (h n : ℕ) (hs : List Hook) (g : ℕ) (stk : List ℕ) → Is (st xs bs h n hs (g ∷ stk)) μ
+      → Stepped i (at (seq x) (suc d)) μ (41 ∷ []) (token.step back (st xs bs h n hs (g ∷ stk))) false d
+  unfolding step next atomOr bridgeOr among letters nonzero bondSymbols act modeAct letterOf selectedOf
+  step-back i x μ d xs bs h n hs g stk s = record {
+    state = at (seq plain) d;
+    memory = moved (closed (μ .st)) μ;
+    takes = byte 41 [] refl refl refl stays;
+    stance = after;
+    waits = refl;
+    holds = sim-back (draftRow atoms bonds m) (outsideFlag atoms bonds m) p q proom qroom xs bs h n hs g stk μ s;
+  }

@@ -1,0 +1,175 @@
+-- Reading the bytes of a written text whole holds what reading its tokens holds. Assumes nothing.
+use mathlib.Core.Path.{_≡_, refl, sym, ap, _∙_, subst}
+use mathlib.Core.Bool.{Bool, true, false, _&&_, not, cond}
+use mathlib.Core.List.{List, [], _∷_, _++_}
+use Prim.Native.Nat.{ℕ, zero, suc, _+_, _-_, _*_, _<_, _≤_}
+use native.Mathlib.Omega.{arith}
+use lib.Dec.{eqb, leb, ltb}
+use lib.ListN.{length, getD, replicate, length-replicate, getD-replicate, List·getD-eq-default}
+use lib.IntN.{ℤ, pos}
+use borrow.Author.Tests.{eqb-true, ltb-true, ltb-false}
+use Rattle.loops.proofs.Loops.{and-left, and-right}
+use Rattle.grammar.specs.declared.Last.{Last}
+use Rattle.grammar.specs.declared.Mode.the-variants.{Seq as seq}
+use Rattle.grammar.specs.declared.State.{State}
+use Rattle.grammar.specs.declared.State.the-variants.{Start as opening, At as at}
+use Rattle.grammar.specs.Machine.{accepting, resting}
+use Rattle.table.specs.Limits.{maxAtoms, maxBonds, atomCells, bondCells}
+use Rattle.table.proofs.Valid.{AtomFine}
+use Rattle.state.specs.Limits.{maxDepth, bridges}
+use Rattle.state.specs.State.{started}
+use Rattle.reading.specs.Memory.{Memory, nothing}
+use Rattle.reading.specs.Read.{zeros, beginning}
+use Rattle.walk.specs.Token.{Bond, Tok, apart, along, ring, branch, back, Hook, hookAt, St, st, start}
+use Rattle.walk.specs.Token as token
+use Rattle.walk.specs.Check.{refusal, Res, fine, refused, orNumber, reading, grammar, accepted}
+use Rattle.walk.proofs.Count.{All, none, more}
+use Rattle.writing.specs.Spell.{atomBytes, tokenBytes, restBytes, tokensBytes}
+use Rattle.roundtrip.proofs.Feed.{Takes, stays, joins}
+use Rattle.roundtrip.proofs.Letters.{begins-start}
+use Rattle.roundtrip.proofs.Atoms.{draftRow, outsideFlag}
+use Rattle.roundtrip.proofs.Simulation.{Sim, Holds}
+use Rattle.roundtrip.proofs.Signs.{Stance, after, fresh}
+use Rattle.roundtrip.proofs.Tokens.{Good, nextOf, depthOf, room-first, room-both, room-depth, Is, Stepped, atom-apart, step-apart, step-along, step-ring, step-branch, step-back}
+
+never : {P : Type 0} → false ≡ true → P
+never h = let z : _≡_ {A = ℕ} 0 1 = cc in absurd (omega arith)
+
+-- one token of a reading that is not refused
+record Passed (t : Tok) (ts : List Tok) (s s′ : St) : Type 0 where
+  here : refusal maxAtoms maxBonds maxDepth t s ≡ 0
+  rest : reading maxAtoms maxBonds maxDepth ts (token.step t s) ≡ fine s′
+
+passed : (t : Tok) (ts : List Tok) (s s′ : St) → reading maxAtoms maxBonds maxDepth (t ∷ ts) s ≡ fine s′ → Passed t ts s s′
+passed t ts s s′ = go (refusal maxAtoms maxBonds maxDepth t s) refl
+  where
+    go : (c : ℕ) → refusal maxAtoms maxBonds maxDepth t s ≡ c → orNumber c (reading maxAtoms maxBonds maxDepth ts (token.step t s)) ≡ fine s′ → Passed t ts s s′
+    go zero e h = record { here = e; rest = h }
+    go (suc c) e h = absurd (let z : _≡_ {A = ℕ} 0 1 = cc in omega arith)
+
+along-grammar : (k w : ℕ) (ts : List Tok) (d : ℕ) (b : Bool) → grammar (along k w ∷ ts) d b ≡ true → grammar ts d false ≡ true
+along-grammar k w ts zero true h = never h
+along-grammar k w ts zero false h = h
+along-grammar k w ts (suc d) b h = h
+
+module _ (atoms bonds : List ℤ) (N m p q : ℕ) (fine-atoms : (v : ℕ) → v < N → AtomFine atoms v) (proom : atomCells * maxAtoms ≤ p) (qroom : bondCells * maxBonds ≤ q) where
+  abbrev f : ℕ → List ℕ
+  f = atomBytes atoms bonds m
+
+  abbrev Now : St → Memory → Type 0
+  Now = Is atoms bonds N m p q fine-atoms proom qroom
+
+  -- the bytes lead to the end of a text
+  pub record Finished (i : ℕ) (σ : State) (μ : Memory) (l : List ℕ) (s : St) : Type 0 where
+    pub last : Last
+    pub memory : Memory
+    pub takes : Takes i σ μ l (at (seq last) 0) memory
+    pub holds : Holds (draftRow atoms bonds m) (outsideFlag atoms bonds m) p q s memory
+
+  abbrev Rest : List Tok → St → St → Bool → ℕ → Type 0
+  Rest ts s s′ b d = (i : ℕ) (σ : State) (μ : Memory) → Now s μ → μ .pending ≡ nothing → Stance b d σ → Finished i σ μ (restBytes f ts) s′
+
+  onward : {i : ℕ} {σ : State} {μ : Memory} {s s′ : St} {b : Bool} {d : ℕ} (l : List ℕ) (ts : List Tok) → Stepped atoms bonds N m p q fine-atoms proom qroom i σ μ l s b d → Rest ts s s′ b d → Finished i σ μ (l ++ restBytes f ts) s′
+  onward {i} l ts a k =
+      let z = k (i + length l) (a .state) (a .memory) (a .holds) (a .waits) (a .stance) in
+      record { last = z .last; memory = z .memory; takes = joins l (restBytes f ts) (a .takes) (z .takes); holds = z .holds }
+
+  simulate : (ts : List Tok) (s s′ : St) (b : Bool) (d i : ℕ) (σ : State) (μ : Memory) → Now s μ → μ .pending ≡ nothing → Stance b d σ → depthOf s ≡ d → 0 < nextOf s → grammar ts d b ≡ true → reading maxAtoms maxBonds maxDepth ts s ≡ fine s′ → All (Good N) ts → Finished i σ μ (restBytes f ts) s′
+  unfolding restBytes
+  simulate [] s s′ b zero i σ μ h e (after {x}) y z g r a = record { last = x; memory = μ; takes = stays; holds = subst (λ (s : St). Now s μ) (let w : s ≡ s′ = cc in w) h }
+  simulate [] s s′ b (suc d) i σ μ h e (after {x}) y z g r a = absurd (let w = eqb-true (suc d) 0 (and-left (eqb (suc d) 0) true g) in omega arith)
+  simulate [] s s′ b zero i σ μ h e fresh y z g r a = never g
+  simulate [] s s′ b (suc d) i σ μ h e fresh y z g r a = never (and-right (eqb (suc d) 0) false g)
+  simulate (apart w ∷ ts) (st xs bs u n hs stk) s′ b d i σ μ h e v y z g r (more t a) =
+      let c = passed (apart w) ts (st xs bs u n hs stk) s′ r in
+      let l = ltb-true n maxAtoms (room-first (ltb n maxAtoms) (c .here)) in
+      onward (46 ∷ f w) ts (step-apart atoms bonds N m p q fine-atoms proom qroom i σ μ b d xs bs u n hs stk w t v h l)
+      (λ i σ μ h e v. simulate ts (token.step (apart w) (st xs bs u n hs stk)) s′ false d i σ μ h e v y (omega arith) g (c .rest) a)
+  simulate (along k w ∷ ts) (st xs bs u n hs stk) s′ b d i σ μ h e v y z g r (more t a) =
+      let c = passed (along k w) ts (st xs bs u n hs stk) s′ r in
+      let l = room-both (ltb n maxAtoms) (ltb (length bs) maxBonds) (c .here) in
+      onward (tokenBytes f (along k w)) ts (step-along atoms bonds N m p q fine-atoms proom qroom i σ μ b d xs bs u n hs stk k w (t .0) (t .1) v e h (ltb-true n maxAtoms (l .0)) (ltb-true (length bs) maxBonds (l .1)) z)
+      (λ i σ μ h e v. simulate ts (token.step (along k w) (st xs bs u n hs stk)) s′ false d i σ μ h e v y (omega arith) (along-grammar k w ts d b g) (c .rest) a)
+  simulate (ring k o ∷ ts) (st xs bs u n hs stk) s′ b d i σ μ h e (after {x}) y z g r (more t a) =
+      let c = passed (ring k o) ts (st xs bs u n hs stk) s′ r in
+      onward (tokenBytes f (ring k o)) ts (step-ring atoms bonds N m p q fine-atoms proom qroom i x μ d xs bs u n hs stk k o (t .0) (t .1) e h (c .here))
+      (λ i σ μ h e v. simulate ts (token.step (ring k o) (st xs bs u n hs stk)) s′ false d i σ μ h e v (same (hookAt hs o) ∙ y) (more-atoms (hookAt hs o)) g (c .rest) a)
+    where
+      same : (j : Hook) → depthOf (token.bridge j k o xs bs u n hs stk) ≡ length stk
+      same token.vacant = refl
+      same (token.at w j) = refl
+
+      more-atoms : (j : Hook) → 0 < nextOf (token.bridge j k o xs bs u n hs stk)
+      more-atoms token.vacant = z
+      more-atoms (token.at w j) = z
+  simulate (ring k o ∷ ts) (st xs bs u n hs stk) s′ b d i σ μ h e fresh y z g r a = never g
+  simulate (branch ∷ ts) (st xs bs u n hs stk) s′ b d i σ μ h e (after {x}) y z g r (more t a) =
+      let c = passed branch ts (st xs bs u n hs stk) s′ r in
+      onward (40 ∷ []) ts (step-branch atoms bonds N m p q fine-atoms proom qroom i x μ d xs bs u n hs stk h (ltb-true (length stk) maxDepth (room-depth (ltb (length stk) maxDepth) (c .here))) z)
+      (λ i σ μ h e v. simulate ts (token.step branch (st xs bs u n hs stk)) s′ true (suc d) i σ μ h e v (ap suc y) z g (c .rest) a)
+  simulate (branch ∷ ts) (st xs bs u n hs stk) s′ b d i σ μ h e fresh y z g r a = never g
+  simulate (back ∷ ts) (st xs bs u n hs stk) s′ b zero i σ μ h e v y z g r a = never g
+  simulate (back ∷ ts) (st xs bs u n hs []) s′ b (suc d) i σ μ h e v y z g r a = absurd (omega arith)
+  simulate (back ∷ ts) (st xs bs u n hs (w ∷ stk)) s′ b (suc d) i σ μ h e (after {x}) y z g r (more t a) =
+      let c = passed back ts (st xs bs u n hs (w ∷ stk)) s′ r in
+      onward (41 ∷ []) ts (step-back atoms bonds N m p q fine-atoms proom qroom i x μ d xs bs u n hs w stk h)
+      (λ i σ μ h e v. simulate ts (token.step back (st xs bs u n hs (w ∷ stk))) s′ false d i σ μ h e v (omega arith) z g (c .rest) a)
+  simulate (back ∷ ts) (st xs bs u n hs (w ∷ stk)) s′ b (suc d) i σ μ h e fresh y z g r a = never g
+
+  -- ---- the beginning
+  module _ (A B : List ℤ) (la : length A ≡ p) (lb : length B ≡ q) where
+    zero-cell : (T : List ℤ) (j : ℕ) → getD (zeros T) j (pos 0) ≡ pos 0
+    zero-cell T j = go (ltb j (length T)) refl
+      where
+        go : (x : Bool) → ltb j (length T) ≡ x → getD (zeros T) j (pos 0) ≡ pos 0
+        go true e = getD-replicate (length T) j (pos 0) (pos 0) (ltb-true j (length T) e)
+        go false e = List·getD-eq-default (zeros T) (pos 0) (let w = ltb-false j (length T) e in let z = length-replicate (length T) (pos 0) in omega arith)
+
+    begins-empty : Now start (beginning (zeros A) (zeros B))
+    unfolding started
+    begins-empty = record {
+      hub = refl;
+      atoms = refl;
+      bonds = refl;
+      depth = refl;
+      below = λ z. absurd (omega arith);
+      hubs = none;
+      bridging = record {
+        openers = λ r l. getD-replicate bridges (suc r) 0 0 l;
+        symbols = λ r l. getD-replicate bridges (suc r) 0 0 l;
+        unused = refl;
+        opener-length = refl;
+        symbol-length = refl;
+      };
+      branching = record { hubs = tt; long = refl };
+      table = record {
+        many = refl;
+        flags = λ a l. absurd (omega arith);
+        cells = λ a f l k. absurd (omega arith);
+        after = λ j l. zero-cell A j;
+        outside-length = refl;
+        long = length-replicate (length A) (pos 0) ∙ la;
+      };
+      bonding = record { ordered = none; cells = λ b f l k. absurd (omega arith); after = λ j l. zero-cell B j; long = length-replicate (length B) (pos 0) ∙ lb };
+    }
+
+    -- THE TEXT: the bytes of accepted tokens are read to an accepted end, with what the tokens hold
+    pub record Held (l : List ℕ) (s : St) : Type 0 where
+      pub state : State
+      pub memory : Memory
+      pub takes : Takes 0 opening (beginning (zeros A) (zeros B)) l state memory
+      pub ends : accepting state ≡ true
+      pub holds : Holds (draftRow atoms bonds m) (outsideFlag atoms bonds m) p q s memory
+
+    pub text-read : (ts : List Tok) (s : St) → accepted ts ≡ true → reading maxAtoms maxBonds maxDepth ts start ≡ fine s → All (Good N) ts → Held (tokensBytes f ts) s
+    unfolding tokensBytes accepting resting started
+    text-read [] s g r a = record { state = opening; memory = beginning (zeros A) (zeros B); takes = stays; ends = refl; holds = subst (λ (s : St). Now s (beginning (zeros A) (zeros B))) (let w : start ≡ s = cc in w) begins-empty }
+    text-read (apart w ∷ ts) s g r (more t a) =
+        let c = passed (apart w) ts start s r in
+        let b = atom-apart atoms bonds N m p q fine-atoms proom qroom 0 opening 0 [] [] 0 0 [] [] (beginning (zeros A) (zeros B)) w t begins-start begins-empty (omega arith) refl in
+        let z = onward (f w) ts b (λ i σ μ h e v. simulate ts (token.step (apart w) start) s false 0 i σ μ h e v refl (omega arith) g (c .rest) a) in
+        record { state = at (seq (z .last)) 0; memory = z .memory; takes = z .takes; ends = refl; holds = z .holds }
+    text-read (along k w ∷ ts) s g r a = never g
+    text-read (ring k o ∷ ts) s g r a = never g
+    text-read (branch ∷ ts) s g r a = never g
+    text-read (back ∷ ts) s g r a = never g

@@ -1,0 +1,147 @@
+-- One law for each way through the walk's code. Assumes nothing.
+use Prim.Native.Nat.{ℕ, zero, suc, _+_, _*_, _-_, _<_, _≤_}
+use native.Mathlib.Omega.{arith}
+use native.Mathlib.Nat.{mul-le-mul-right, suc-mul}
+use native.Mathlib.Numerals.{add-one}
+use mathlib.Core.Path.{_≡_, refl, sym, ap, _∙_, subst}
+use mathlib.Core.Bool.{Bool, true, false}
+use mathlib.Core.List.{List, [], _∷_, _++_, append-assoc, append-nil}
+use lib.ListN.{length, getD, set, length-append}
+use lib.IntN.{ℤ}
+use Rattle.table.specs.Limits.{maxAtoms}
+use Rattle.table.specs.Cells.{kind}
+use Rattle.walk.specs.Emit.{Forest, leaf, node, size, pre}
+use Rattle.walk.specs.Walk.{member}
+use Rattle.walk.specs.Flat.{kinds, ups}
+use Rattle.walk.proofs.Trip.{size-length}
+use Rattle.tour.specs.Tour.{touching, firstFrom, otherEnd, lay, grow, unseen, BondsFit, Room, Stands, Sheet, sheet, Laid, Grown, markOf}
+use Rattle.tour.proofs.Ways.{Next, next-is, other-below, grow-end, grow-skip, grow-visit}
+use Rattle.tour.proofs.Seen.{unmarked, marked, room-left, stands-add, stands-cast, unseen-set}
+
+pub lay-append : (a b : List ℕ) (k : ℕ) (t : List ℕ) → lay k (a ++ b) t ≡ lay (k + length a) b (lay k a t)
+unfolding lay
+lay-append [] b k t = let e : k + 0 ≡ k = omega arith in rw e
+lay-append (x ∷ a) b k t = let e : k + suc (length a) ≡ suc k + length a = omega arith in rw e (lay-append a b (suc k) (set t k x))
+
+pub length-kinds : (f : Forest) → length (kinds f) ≡ size f
+length-kinds leaf = refl
+length-kinds (node w k f g) = ap suc (length-append (kinds f) (kinds g) ∙ (λ i. length-kinds f i + length-kinds g i))
+
+pub length-ups : (f : Forest) (p n : ℕ) → length (ups f p n) ≡ size f
+length-ups leaf p n = refl
+length-ups (node w k f g) p n = ap suc (length-append (ups f (suc n) (suc n)) (ups g p (suc n + size f)) ∙ (λ i. length-ups f (suc n) (suc n) i + length-ups g p (suc n + size f) i))
+
+-- nothing is added
+pub laid-leaf : (n p : ℕ) (s : List ℕ) (x : Sheet) → Stands n s (x .count) (x .number) → Laid n p leaf s x x
+unfolding lay
+laid-leaf n p s x st = record { order = refl; kind = refl; up = refl; stands = stands-cast n (x .count) s (s ++ []) (x .number) (sym (append-nil s)) st }
+
+-- an atom, what is below it, and what comes after it
+pub laid-node : (n p w k : ℕ) (f g : Forest) (s : List ℕ) (o v v1 u q : List ℕ) (c : ℕ) (y z : Sheet) → length s ≡ c
+    → Laid n (suc c) f (s ++ (w ∷ [])) (sheet (set o c w) v1 (set u c p) (set q c k) (c + 1)) y
+    → Laid n p g ((s ++ (w ∷ [])) ++ pre f) y z
+    → Laid n p (node w k f g) s (sheet o v u q c) z
+unfolding lay
+laid-node n p w k f g s o v v1 u q c y z e a b =
+    let d : c + 1 ≡ suc c = add-one c in
+    let l : y .count ≡ suc c + size f = sym (a .stands .long) ∙ length-append (s ++ (w ∷ [])) (pre f) ∙ omega (arith, length-append s (w ∷ []), size-length f) in
+    let l1 : suc c + length (pre f) ≡ suc c + size f = ap (λ (x : ℕ). suc c + x) (size-length f) in
+    let l2 : suc c + length (kinds f) ≡ suc c + size f = ap (λ (x : ℕ). suc c + x) (length-kinds f) in
+    let l3 : suc c + length (ups f (suc c) (suc c)) ≡ suc c + size f = ap (λ (x : ℕ). suc c + x) (length-ups f (suc c) (suc c)) in
+    record {
+      order = b .order ∙ (λ i. lay (l i) (pre g) ((a .order ∙ ap (λ (j : ℕ). lay j (pre f) (set o c w)) d) i)) ∙ sym (lay-append (pre f) (pre g) (suc c) (set o c w) ∙ ap (λ (j : ℕ). lay j (pre g) (lay (suc c) (pre f) (set o c w))) l1);
+      kind = b .kind ∙ (λ i. lay (l i) (kinds g) ((a .kind ∙ ap (λ (j : ℕ). lay j (kinds f) (set q c k)) d) i)) ∙ sym (lay-append (kinds f) (kinds g) (suc c) (set q c k) ∙ ap (λ (j : ℕ). lay j (kinds g) (lay (suc c) (kinds f) (set q c k))) l2);
+      up = b .up ∙ (λ i. lay (l i) (ups g p (l i)) ((a .up ∙ ap (λ (j : ℕ). lay j (ups f (suc c) j) (set u c p)) d) i))
+          ∙ sym (lay-append (ups f (suc c) (suc c)) (ups g p (suc c + size f)) (suc c) (set u c p) ∙ ap (λ (j : ℕ). lay j (ups g p (suc c + size f)) (lay (suc c) (ups f (suc c) (suc c)) (set u c p))) l3);
+      stands = stands-cast n (z .count) (((s ++ (w ∷ [])) ++ pre f) ++ pre g) (s ++ (w ∷ (pre f ++ pre g))) (z .number) (append-assoc (s ++ (w ∷ [])) (pre f) (pre g) ∙ append-assoc s (w ∷ []) (pre f ++ pre g)) (b .stands);
+    }
+
+laid-cast : (n p : ℕ) (F G : Forest) (s : List ℕ) (x y : Sheet) → F ≡ G → Laid n p G s x y → Laid n p F s x y
+laid-cast n p F G s x y e l = subst (λ (H : Forest). Laid n p H s x y) (sym e) l
+
+module _ {bonds : List ℤ} {n m : ℕ} (fit : BondsFit bonds n m) (v from r : ℕ) (at : from ≤ m) (found : r ≡ firstFrom (touching bonds v) from (m - from)) where
+  next : Next bonds v m from r
+  next = next-is bonds v m from r at found
+
+  abbrev w : ℕ
+  w = otherEnd bonds r v
+
+  -- no bond is left
+  pub at-end : (hub : ℕ) (x : Sheet) → m ≤ r → Grown n (suc hub) (grow bonds n m v from) x x
+  at-end hub x h = record { fewer = omega arith; laid = λ s st. laid-cast n (suc hub) (grow bonds n m v from s) leaf s x x (grow-end fit v from r next s h) (laid-leaf n (suc hub) s x st) }
+
+  -- the other end was visited
+  pub at-seen : (hub : ℕ) (x y : Sheet) → r < m → (z : ℕ) → z ≡ otherEnd bonds r v → (getD (x .number) z 0 ≡ 0 → ⊥) → Grown n (suc hub) (grow bonds n m v (r + 1)) x y → Grown n (suc hub) (grow bonds n m v from) x y
+  at-seen hub x y h z e k g =
+      record {
+        fewer = g .fewer;
+        laid = λ s st.
+            let b = other-below fit v r h in
+            let q : markOf s w ≡ getD (x .number) z 0 = sym (ap (λ (i : ℕ). getD (x .number) i 0) e ∙ st .marks w b) in
+            laid-cast n (suc hub) (grow bonds n m v from s) (grow bonds n m v (r + 1) s) s x y (grow-skip fit v from r next s h (marked s w (λ i. k (sym q ∙ i)))) (g .laid s st);
+      }
+
+  module _ (hub : ℕ) (o v1 u q : List ℕ) (count a : ℕ) (h : r < m) (e : a ≡ otherEnd bonds r v) (fresh : getD v1 a 0 ≡ 0) where
+    below : a < n
+    below = rw e (other-below fit v r h)
+
+    apart : (s : List ℕ) → Stands n s count v1 → member a s ≡ false
+    apart s st = unmarked s a (sym (st .marks a below) ∙ fresh)
+
+    -- all n atoms were visited: this cannot be
+    pub at-full : n ≤ count → Grown n (suc hub) (grow bonds n m v from) (sheet o v1 u q count) (sheet o v1 u q count)
+    at-full l = record { fewer = omega arith; laid = λ s st. absurd (let g = room-left n a count s v1 st below (apart s st) in omega arith) }
+
+    -- the other end is visited, then the rest
+    pub at-new : (k : ℕ) (o2 v2 u2 q2 : List ℕ) (y z : Sheet) → k ≡ kind bonds r → n ≤ length v1
+        → o2 ≡ set o count a → v2 ≡ set v1 a (count + 1) → u2 ≡ set u count (hub + 1) → q2 ≡ set q count k
+        → Grown n (suc count) (grow bonds n m a 0) (sheet o2 v2 u2 q2 (count + 1)) y → Grown n (suc hub) (grow bonds n m v (r + 1)) y z
+        → Grown n (suc hub) (grow bonds n m v from) (sheet o v1 u q count) z
+    at-new k o2 v2 u2 q2 y z ek long eo ev eu eq one two =
+        let b = below in
+        let e1 : v2 ≡ set v1 a (suc count) = ev ∙ ap (set v1 a) (add-one count) in
+        let d = unseen-set v1 a count (omega arith) fresh in
+        let d1 : unseen v2 ≡ unseen (set v1 a (suc count)) = ap unseen e1 in
+        let f1 = one .fewer in
+        let f2 = two .fewer in
+        record { fewer = omega arith; laid = laid }
+      where
+        laid : (s : List ℕ) → Stands n s count v1 → Laid n (suc hub) (grow bonds n m v from s) s (sheet o v1 u q count) z
+        laid s st =
+            let m0 = apart s st in
+            let b = below in
+            let st1 : Stands n (s ++ (a ∷ [])) (count + 1) v2 = rw ev (stands-add n a count s v1 st b long m0) in
+            let f = grow bonds n m a 0 (s ++ (a ∷ [])) in
+            let l1 = one .laid (s ++ (a ∷ [])) st1 in
+            let l1′ : Laid n (suc count) f (s ++ (a ∷ [])) (sheet (set o count a) v2 (set u count (suc hub)) (set q count k) (count + 1)) y =
+            subst (λ (x : Sheet). Laid n (suc count) f (s ++ (a ∷ [])) x y) (λ i. sheet (eo i) v2 ((eu ∙ ap (set u count) (add-one hub)) i) (eq i) (count + 1)) l1 in
+            let l2 = two .laid ((s ++ (a ∷ [])) ++ pre f) (l1 .stands) in
+            let g = grow bonds n m v (r + 1) ((s ++ (a ∷ [])) ++ pre f) in
+            let m1 : member (otherEnd bonds r v) s ≡ false = subst (λ (x : ℕ). member x s ≡ false) e m0 in
+            let same : grow bonds n m v from s ≡ node a k f g =
+            grow-visit fit v from r next s h m1 f (λ i. grow bonds n m (e i) 0 (s ++ (e i ∷ [])))
+            ∙ (λ i. node (sym e i) (sym ek i) f (grow bonds n m v (r + 1) ((s ++ (sym e i ∷ [])) ++ pre f))) in
+            laid-cast n (suc hub) (grow bonds n m v from s) (node a k f g) s (sheet o v1 u q count) z same
+            (laid-node n (suc hub) a k f g s o v1 v2 u q count y z (st .long) l1′ l2)
+
+-- the measure: the atoms left, and at each of them the bonds
+abbrev pub work : ℕ → ℕ → ℕ → ℕ
+work u m from = u * (m + 2) + (m + 1 - from)
+
+pub less-work : (u u′ m from from′ : ℕ) → u′ ≤ u → from < from′ → from ≤ m → work u′ m from′ < work u m from
+less-work u u′ m from from′ h g l = let q = mul-le-mul-right (m + 2) h in omega arith
+
+pub new-work : (u u′ m from from′ : ℕ) → u′ < u → from ≤ m → work u′ m from′ < work u m from
+new-work u u′ m from from′ h l =
+    let q : suc u′ * (m + 2) ≤ u * (m + 2) = mul-le-mul-right (m + 2) h in
+    let e : suc u′ * (m + 2) ≡ u′ * (m + 2) + (m + 2) = suc-mul u′ (m + 2) in
+    omega arith
+
+pub seen-less : (v1 v2 : List ℕ) (a count : ℕ) → a < length v1 → getD v1 a 0 ≡ 0 → v2 ≡ set v1 a (count + 1) → unseen v2 < unseen v1
+seen-less v1 v2 a count h e q =
+    let d = unseen-set v1 a count h e in
+    let x : unseen v2 ≡ unseen (set v1 a (suc count)) = ap unseen (q ∙ ap (set v1 a) (add-one count)) in
+    omega arith
+
+pub room-kept : {o v u k o2 v2 u2 k2 : List ℕ} → Room o v u k → length o2 ≡ length o → length v2 ≡ length v → length u2 ≡ length u → length k2 ≡ length k → Room o2 v2 u2 k2
+room-kept r a b c d = let x = r .order in let y = r .number in let z = r .up in let w = r .kind in record { order = omega arith; number = omega arith; up = omega arith; kind = omega arith }

@@ -1,0 +1,4 @@
+pub mod Ways
+pub mod Seen
+pub mod Laws
+pub mod Roots

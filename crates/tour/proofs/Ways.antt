@@ -1,0 +1,135 @@
+-- The bonds at an atom from a number on, and the forest that the walk adds along them. Assumes nothing.
+use Prim.Native.Nat.{ℕ, zero, suc, _+_, _-_, _<_, _≤_}
+use native.Mathlib.Omega.{arith}
+use native.Mathlib.Numerals.{add-one}
+use mathlib.Core.Path.{_≡_, refl, sym, ap, _∙_, subst}
+use mathlib.Core.Bool.{Bool, true, false, _||_, cond}
+use mathlib.Core.List.{List, [], _∷_, _++_}
+use lib.IntN.{ℤ}
+use lib.Dec.{eqb}
+use borrow.Author.Tests.{eqb-true}
+use Rattle.loops.specs.Loop.{pick, upTo}
+use Rattle.table.specs.Cells.{end1, end2, kind}
+use Rattle.walk.specs.Token.{Bond}
+use Rattle.walk.specs.Emit.{Forest, leaf, node, pre}
+use Rattle.walk.specs.Walk.{Way, way, member, ways, tour, walk}
+use Rattle.walk.proofs.Count.{All, none, more}
+use Rattle.walk.proofs.Walk.{Inside, same-fuel}
+use Rattle.writing.specs.Write.{bondAt, bondList}
+use Rattle.tour.specs.Tour.{touching, firstFrom, otherEnd, waysFrom, grow, BondsFit}
+
+-- a search stands at b: what is left to look at decides
+pub record Seeks (p : ℕ → Bool) (from m b : ℕ) : Type 0 where
+  pub low : from ≤ b
+  pub within : b ≤ m
+  pub same : firstFrom p from (m - from) ≡ firstFrom p b (m - b)
+
+module _ {p : ℕ → Bool} {from m b : ℕ} (s : Seeks p from m b) where
+  pub seeks-hit : b < m → p b ≡ true → b ≡ firstFrom p from (m - from)
+  unfolding firstFrom
+  seeks-hit h e = let d : m - b ≡ suc (m - (b + 1)) = omega arith in sym (s .same ∙ simp (d, e))
+
+  pub seeks-pass : b < m → p b ≡ false → Seeks p from m (b + 1)
+  unfolding firstFrom
+  seeks-pass h e =
+      let d : m - b ≡ suc (m - (b + 1)) = omega arith in
+      let l = s .low in
+      record { low = omega arith; within = omega arith; same = s .same ∙ simp (d, e, add-one b) }
+
+  pub seeks-end : m ≤ b → b ≡ firstFrom p from (m - from)
+  unfolding firstFrom
+  seeks-end h = let d : m - b ≡ 0 = omega arith in sym (s .same ∙ simp d)
+
+module _ (bonds : List ℤ) (v : ℕ) where
+  abbrev f : ℕ → Bond
+  f = bondAt bonds
+
+  apart : (k : ℕ) (l : List Bond) → touching bonds v k ≡ false → ways v (f k ∷ l) ≡ ways v l
+  unfolding touching
+  apart k l e = go (eqb (end1 bonds k) v) (eqb (end2 bonds k) v) e
+    where
+      go : (a b : Bool) → (a || b) ≡ false
+          → cond a (way (end2 bonds k) (kind bonds k) ∷ ways v l) (cond b (way (end1 bonds k) (kind bonds k) ∷ ways v l) (ways v l)) ≡ ways v l
+      go true b e = absurd (let z : _≡_ {A = ℕ} 0 1 = cc in omega arith)
+      go false true e = absurd (let z : _≡_ {A = ℕ} 0 1 = cc in omega arith)
+      go false false e = refl
+
+  together : (k : ℕ) (l : List Bond) → touching bonds v k ≡ true → ways v (f k ∷ l) ≡ way (otherEnd bonds k v) (kind bonds k) ∷ ways v l
+  unfolding touching otherEnd
+  together k l e = go (eqb (end1 bonds k) v) (eqb (end2 bonds k) v) e
+    where
+      go : (a b : Bool) → (a || b) ≡ true
+          → cond a (way (end2 bonds k) (kind bonds k) ∷ ways v l) (cond b (way (end1 bonds k) (kind bonds k) ∷ ways v l) (ways v l)) ≡ way (pick a (end2 bonds k) (end1 bonds k)) (kind bonds k) ∷ ways v l
+      go true b e = refl
+      go false true e = refl
+      go false false e = absurd (let z : _≡_ {A = ℕ} 0 1 = cc in omega arith)
+
+  -- what the search found
+  pub record Next (m from r : ℕ) : Type 0 where
+    pub low : from ≤ r
+    pub high : r ≤ m
+    pub here : r < m → touching bonds v r ≡ true
+    pub same : waysFrom bonds m v from ≡ waysFrom bonds m v r
+
+  next-from : (m d k : ℕ) → k + d ≡ m → Next m k (firstFrom (touching bonds v) k d)
+  unfolding firstFrom upTo
+  next-from m zero k h = record { low = omega arith; high = omega arith; here = λ g. absurd (omega arith); same = refl }
+  next-from m (suc d) k h = go (touching bonds v k) refl (next-from m d (suc k) (omega arith))
+    where
+      go : (t : Bool) → touching bonds v k ≡ t → Next m (suc k) (firstFrom (touching bonds v) (suc k) d) → Next m k (pick t k (firstFrom (touching bonds v) (suc k) d))
+      go true e r = record { low = omega arith; high = omega arith; here = λ g. e; same = refl }
+      go false e r =
+          let l = r .low in
+          let x : m - k ≡ suc (m - suc k) = omega arith in
+          record { low = omega arith; high = r .high; here = r .here; same = simp x (apart k (upTo f (suc k) (m - suc k)) e) ∙ r .same }
+
+  pub next-is : (m from r : ℕ) → from ≤ m → r ≡ firstFrom (touching bonds v) from (m - from) → Next m from r
+  next-is m from r h e = subst (Next m from) (sym e) (next-from m (m - from) from (omega arith))
+
+  pub ways-here : (m r : ℕ) → r < m → touching bonds v r ≡ true → waysFrom bonds m v r ≡ way (otherEnd bonds r v) (kind bonds r) ∷ waysFrom bonds m v (r + 1)
+  unfolding upTo
+  ways-here m r h e = let x : m - r ≡ suc (m - (r + 1)) = omega arith in simp (x, ← add-one r) (together r (upTo f (r + 1) (m - (r + 1))) e)
+
+  pub ways-end : (m r : ℕ) → m ≤ r → waysFrom bonds m v r ≡ []
+  unfolding upTo
+  ways-end m r h = let x : m - r ≡ 0 = omega arith in simp x
+
+-- the bonds join atoms below n
+all-upTo : {A : Type 0} (P : A → Type 0) (f : ℕ → A) (k d : ℕ) → ((b : ℕ) → k ≤ b → b < k + d → P (f b)) → All P (upTo f k d)
+unfolding upTo
+all-upTo P f k zero h = none
+all-upTo P f k (suc d) h = more (h k (omega arith) (omega arith)) (all-upTo P f (suc k) d (λ b g i. h b (omega arith) (omega arith)))
+
+module _ {bonds : List ℤ} {n m : ℕ} (fit : BondsFit bonds n m) where
+  pub bonds-inside : Inside n (bondList bonds m)
+  bonds-inside = all-upTo (λ b. (b .lo < b .hi) × (b .hi < n)) (bondAt bonds) 0 m (λ b g h. fit .ends b (omega arith))
+
+  pub other-below : (v b : ℕ) → b < m → otherEnd bonds b v < n
+  unfolding otherEnd
+  other-below v b h = go (eqb (end1 bonds b) v)
+    where
+      go : (t : Bool) → pick t (end2 bonds b) (end1 bonds b) < n
+      go true = fit .ends b h .1
+      go false = let q = fit .ends b h in omega arith
+
+  -- the forest at an atom from a bond number on
+  module _ (v from r : ℕ) (x : Next bonds v m from r) (s : List ℕ) where
+    abbrev w : ℕ
+    w = otherEnd bonds r v
+
+    pub grow-end : m ≤ r → grow bonds n m v from s ≡ leaf
+    unfolding grow
+    grow-end h = ap (λ cs. tour (walk (bondList bonds m) n) cs s) (x .same ∙ ways-end bonds v m r h)
+
+    pub grow-skip : r < m → member w s ≡ true → grow bonds n m v from s ≡ grow bonds n m v (r + 1) s
+    unfolding grow
+    grow-skip h e =
+        ap (λ cs. tour (walk (bondList bonds m) n) cs s) (x .same ∙ ways-here bonds v m r h (x .here h)) ∙ rw e
+
+    pub grow-visit : r < m → member w s ≡ false → (f : Forest) → f ≡ grow bonds n m w 0 (s ++ (w ∷ []))
+        → grow bonds n m v from s ≡ node w (kind bonds r) f (grow bonds n m v (r + 1) ((s ++ (w ∷ [])) ++ pre f))
+    unfolding grow
+    grow-visit h e f q =
+        let z : m - 0 ≡ m = omega arith in
+        let g : walk (bondList bonds m) n w (s ++ (w ∷ [])) ≡ f = same-fuel n (bondList bonds m) bonds-inside w (s ++ (w ∷ [])) ∙ sym (q ∙ simp z) in
+        ap (λ cs. tour (walk (bondList bonds m) n) cs s) (x .same ∙ ways-here bonds v m r h (x .here h)) ∙ rw (e, g)

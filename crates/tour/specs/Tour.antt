@@ -1,0 +1,107 @@
+-- The walk as it fills arrays: what stands in them after a part of the walk (01, Writing)
+use Prim.Native.Nat.{ℕ, zero, suc, _+_, _-_, _<_, _≤_}
+use mathlib.Core.Path.{_≡_}
+use mathlib.Core.Bool.{Bool, true, false, _&&_, _||_}
+use mathlib.Core.List.{List, [], _∷_, _++_}
+use lib.ListN.{length, getD, set}
+use lib.IntN.{ℤ}
+use lib.Dec.{eqb}
+use Rattle.loops.specs.Loop.{pick, upTo}
+use Rattle.table.specs.Limits.{maxAtoms, maxBonds}
+use Rattle.table.specs.Cells.{end1, end2, kind}
+use Rattle.walk.specs.Emit.{Forest, leaf, node, size, pre}
+use Rattle.walk.specs.Walk.{Way, way, member, ways, tour, walk, roots, forestOf, place}
+use Rattle.walk.specs.Flat.{kinds, ups}
+use Rattle.walk.proofs.Count.{All}
+use Rattle.walk.proofs.Walk.{Once}
+use Rattle.writing.specs.Write.{bondAt, bondList}
+
+-- a bond has the atom v as an end
+unfoldable pub touching : List ℤ → ℕ → ℕ → Bool
+touching bonds v b = eqb (end1 bonds b) v || eqb (end2 bonds b) v
+
+-- the first of d numbers from k on that passes, or k + d
+unfoldable pub firstFrom : (ℕ → Bool) → ℕ → ℕ → ℕ
+firstFrom p k zero = k
+firstFrom p k (suc d) = pick (p k) k (firstFrom p (suc k) d)
+
+-- the other end of the bond b, seen from v
+unfoldable pub otherEnd : List ℤ → ℕ → ℕ → ℕ
+otherEnd bonds b v = pick (eqb (end1 bonds b) v) (end2 bonds b) (end1 bonds b)
+
+-- a list laid over an array from the place k on
+unfoldable pub lay : ℕ → List ℕ → List ℕ → List ℕ
+lay k [] t = t
+lay k (x ∷ l) t = lay (suc k) l (set t k x)
+
+-- the bonds at v from the number b on, in ascending number
+abbrev pub waysFrom : List ℤ → ℕ → ℕ → ℕ → List Way
+waysFrom bonds m v b = ways v (upTo (bondAt bonds) b (m - b))
+
+-- the forest that the walk adds at the atom v from the bond number b on, s being visited
+unfoldable pub grow : List ℤ → ℕ → ℕ → ℕ → ℕ → List ℕ → Forest
+grow bonds n m v b s = tour (walk (bondList bonds m) n) (waysFrom bonds m v b) s
+
+-- the walk number of an atom plus 1, 0 before it is visited
+unfoldable pub markOf : List ℕ → ℕ → ℕ
+markOf s v = pick (member v s) (suc (place s v)) 0
+
+-- how many atoms are not yet visited
+unfoldable pub unseen : List ℕ → ℕ
+unseen [] = 0
+unseen (x ∷ t) = pick (eqb x 0) (suc (unseen t)) (unseen t)
+
+-- the bonds join atoms below n, and their kinds are small
+pub record BondsFit (bonds : List ℤ) (n m : ℕ) : Type 0 where
+  pub few-atoms : n ≤ maxAtoms
+  pub few-bonds : m ≤ maxBonds
+  pub ends : (b : ℕ) → b < m → (end1 bonds b < end2 bonds b) × (end2 bonds b < n)
+  pub kinds : (b : ℕ) → b < m → kind bonds b < 4
+
+-- the arrays have room
+pub record Room (o v u k : List ℕ) : Type 0 where
+  pub order : maxAtoms ≤ length o
+  pub number : maxAtoms ≤ length v
+  pub up : maxAtoms ≤ length u
+  pub kind : maxAtoms ≤ length k
+
+-- s was visited, in this order
+pub record Stands (n : ℕ) (s : List ℕ) (count : ℕ) (number : List ℕ) : Type 0 where
+  pub once : Once s
+  pub inside : All (λ v. v < n) s
+  pub long : length s ≡ count
+  pub marks : (v : ℕ) → v < n → getD number v 0 ≡ markOf s v
+
+-- the four arrays, and how many atoms were visited
+pub record Sheet : Type 0 where
+  pub order : List ℕ
+  pub number : List ℕ
+  pub up : List ℕ
+  pub kind : List ℕ
+  pub count : ℕ
+
+abbrev pub sheet : List ℕ → List ℕ → List ℕ → List ℕ → ℕ → Sheet
+sheet o v u k c = record { order = o; number = v; up = u; kind = k; count = c }
+
+-- the forest F was laid under the parent p (its walk number plus 1, 0 for none), s being visited before
+pub record Laid (n p : ℕ) (F : Forest) (s : List ℕ) (x y : Sheet) : Type 0 where
+  pub order : y .order ≡ lay (x .count) (pre F) (x .order)
+  pub kind : y .kind ≡ lay (x .count) (kinds F) (x .kind)
+  pub up : y .up ≡ lay (x .count) (ups F p (x .count)) (x .up)
+  pub stands : Stands n (s ++ pre F) (y .count) (y .number)
+
+-- the same for whatever was visited before, with no mark lost
+pub record Grown (n p : ℕ) (F : List ℕ → Forest) (x y : Sheet) : Type 0 where
+  pub fewer : unseen (y .number) ≤ unseen (x .number)
+  pub laid : (s : List ℕ) → Stands n s (x .count) (x .number) → Laid n p (F s) s x y
+
+-- a root: the atom a, if it was not visited
+unfoldable pub rootForest : List ℤ → ℕ → ℕ → ℕ → List ℕ → Forest
+rootForest bonds n m a s = tour (walk (bondList bonds m) n) (way a 0 ∷ []) s
+
+-- the arrays of a whole walk
+pub record Walked (bonds : List ℤ) (n m : ℕ) (o v u k : List ℕ) : Type 0 where
+  pub order : (x : ℕ) → x < n → getD o x 0 ≡ getD (pre (forestOf n (bondList bonds m))) x 0
+  pub number : (a : ℕ) → a < n → getD v a 0 ≡ suc (place (pre (forestOf n (bondList bonds m))) a)
+  pub up : (x : ℕ) → x < n → getD u x 0 ≡ getD (ups (forestOf n (bondList bonds m)) 0 0) x 0
+  pub kind : (x : ℕ) → x < n → getD k x 0 ≡ getD (kinds (forestOf n (bondList bonds m))) x 0
