@@ -2,6 +2,8 @@
 
 -- the memory of every reading that goes on is sane; an accepted text gives valid tables with their counts
 pub use Rattle.reading.proofs.Accepted.{read-sane, read-valid}
+-- so does every sane memory, between any two bytes and once its atoms got their hydrogens, and the test says so
+pub use Rattle.reading.proofs.Valid.{sane-between, sane-valid, valid-true}
 -- an accepted text: its counts, its rows with 01's hydrogens, zeros after them, no open bridge, a matching
 pub use Rattle.reading.proofs.Accepted.{impliedAt, Given, Accepted, read-accepted}
 -- what stands in the tables is what was read: complete atoms, letters, the fields before each `]`, bonds
