@@ -78,6 +78,9 @@ letter-first b k = split (eqb b 42) (eqb (selectedOf b) 0) refl refl
     split false false e f = selected-first b (selected-letter b f) k
     split false true e f = others (among b letters) (eqb b 65) (eqb b 84) (eqb b 91) refl
 
+pub nothing-first : (b : ℕ) → letterOf b ≡ Nothing → (k : Out) → atomOr b k ≡ k
+nothing-first b e k = letter-first b k ∙ ap (λ (l : Letter). firstOut b l k) e
+
 -- after an atom the byte does the same whatever the atom's letter was, unless it is the letter's second one
 pub last-free : (s : List ℕ) (p : ℕ) (x : Last) (μ : Memory) {c : ℕ} → Peeked s p c → goesOn x c ≡ stop → rest s p (seq x) μ ≡ rest s p (seq plain) μ
 unfolding next modeAct resting bridgeOr

@@ -43,15 +43,15 @@ module _ (s : List ℕ) (p : ℕ) (m : Mode) (μ : Memory) where
   unfolding rest read accepting
   rest-end h = rw (drop-of-length-le s h)
 
-  stopped : {b : ℕ} → Peeked s p b → p < length s → next m b ≡ stop → rest s p m μ ≡ bad 3 p
-  stopped k h e = rest-fed k h ∙ rw e (ap (finish (length s)) (read-halted (drop (suc p) s) (suc p) 3 p))
+  pub rest-dead : {b : ℕ} → Peeked s p b → p < length s → next m b ≡ stop → rest s p m μ ≡ bad 3 p
+  rest-dead k h e = rest-fed k h ∙ rw e (ap (finish (length s)) (read-halted (drop (suc p) s) (suc p) 3 p))
 
   -- no text goes on so, or the text ends too soon
   pub rest-stop : {b : ℕ} → Peeked s p b → p ≤ length s → next m b ≡ stop → resting m (μ .st .depth) ≡ false → rest s p m μ ≡ bad 3 p
   rest-stop k h e r = split (decLt p (length s))
     where
       split : Dec (p < length s) → rest s p m μ ≡ bad 3 p
-      split (yes l) = stopped k l e
+      split (yes l) = rest-dead k l e
       split (no l) = let q : length s ≡ p = omega arith in rest-end (omega arith) ∙ rw (r, q)
 
   module _ {b : ℕ} (k : Peeked s p b) (h : p < length s) {m′ : Mode} (e : next m b ≡ to m′) where
@@ -78,13 +78,17 @@ module _ (s : List ℕ) (p : ℕ) (m : Mode) (μ : Memory) where
     pub rest-down-stop : μ .st .depth ≡ 0 → rest s p m μ ≡ bad 3 p
     rest-down-stop d = rest-fed k h ∙ rw (e, d) (ap (finish (length s)) (read-halted (drop (suc p) s) (suc p) 3 p))
 
--- two modes in which the byte does the same
+-- two modes in which a byte of the text does the same
+pub alike-in : (s : List ℕ) (p : ℕ) (m n : Mode) (μ : Memory) {b : ℕ} → Peeked s p b → p < length s → next m b ≡ next n b → modeAct m b p μ ≡ modeAct n b p μ → rest s p m μ ≡ rest s p n μ
+alike-in s p m n μ k l e a = rest-fed s p m μ k l ∙ rw (e, a) (sym (rest-fed s p n μ k l))
+
+-- the same where the text may end, and the one rests as the other does
 pub alike : (s : List ℕ) (p : ℕ) (m n : Mode) (μ : Memory) {b : ℕ} → Peeked s p b → next m b ≡ next n b → modeAct m b p μ ≡ modeAct n b p μ
     → resting m (μ .st .depth) ≡ resting n (μ .st .depth) → rest s p m μ ≡ rest s p n μ
 alike s p m n μ k e a r = split (decLt p (length s))
   where
     split : Dec (p < length s) → rest s p m μ ≡ rest s p n μ
-    split (yes l) = rest-fed s p m μ k l ∙ rw (e, a) (sym (rest-fed s p n μ k l))
+    split (yes l) = alike-in s p m n μ k l e a
     split (no l) = rest-end s p m μ (omega arith) ∙ rw r (sym (rest-end s p n μ (omega arith)))
 
 -- two modes that no text goes on from by the byte
@@ -93,5 +97,5 @@ pub alike-dead : (s : List ℕ) (p : ℕ) (m n : Mode) (μ : Memory) {b : ℕ} �
 alike-dead s p m n μ k e f r = split (decLt p (length s))
   where
     split : Dec (p < length s) → rest s p m μ ≡ rest s p n μ
-    split (yes l) = stopped s p m μ k l e ∙ sym (stopped s p n μ k l f)
+    split (yes l) = rest-dead s p m μ k l e ∙ sym (rest-dead s p n μ k l f)
     split (no l) = rest-end s p m μ (omega arith) ∙ rw r (sym (rest-end s p n μ (omega arith)))

@@ -93,7 +93,7 @@ symbol-shaped : (s : List ℕ) → listed s symbols ≡ true → shaped s ≡ tr
 unfolding all shaped symbols
 symbol-shaped s e = all-listed shaped symbols s refl e
 
-no-second : (a b : ℕ) → leb 97 b ≡ false → listed (a ∷ b ∷ []) symbols ≡ false
+pub no-second : (a b : ℕ) → leb 97 b ≡ false → listed (a ∷ b ∷ []) symbols ≡ false
 unfolding shaped
 no-second a b h = split (listed (a ∷ b ∷ []) symbols) refl
   where

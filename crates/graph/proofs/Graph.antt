@@ -3,7 +3,7 @@ use Prim.Native.Nat.{ℕ, zero, suc, _+_, _≤_, _<_}
 use native.Mathlib.Omega.{arith}
 use mathlib.Core.Path.{_≡_, refl, sym, ap, _∙_}
 use mathlib.Core.Bool.{Bool, true, false}
-use mathlib.Core.List.{List, [], _∷_}
+use mathlib.Core.List.{List}
 use lib.ListN.{length, take, getD}
 use lib.IntN.{ℤ}
 use lib.Dec.{eqb}
@@ -13,7 +13,6 @@ use Rattle.table.specs.Cells.{element, selected, hydrogens, end1, end2, kind}
 use Rattle.table.specs.Valid.{Valid}
 use Rattle.table.proofs.Valid.{first-end, second-end}
 use Rattle.valence.specs.Valence.{delocalized}
-use Rattle.matching.specs.Graph.{Bond}
 use Rattle.matching.specs.Model.{bondsOf, Shape}
 use Rattle.graph.specs.Graph.{bondSum, flag, elidedFlag, delocalizedFlag, delocalizedFlags, bondOf, graphOf}
 use Rattle.graph.specs.Built.{sumFlag, Built}

@@ -1,11 +1,9 @@
--- 01, Hydrogens and kept atoms: the bond sum, the keeping rule, and the graph that the placements see
-use Prim.Native.Nat.{ℕ, zero, suc, _+_, _≤_}
-use mathlib.Core.Path.{_≡_}
-use lib.ListN.{length, take}
+-- 01, Hydrogens and kept atoms: the bond sum, the delocalized ("kept") atoms, and the graph that matchings ("placements") see
+use Prim.Native.Nat.{ℕ, _+_}
 use mathlib.Core.List.{List}
-use mathlib.Core.Bool.{Bool, true, false, _&&_, _||_}
+use mathlib.Core.Bool.{Bool, true, false, _||_}
 use lib.IntN.{ℤ}
-use lib.Dec.{eqb, leb}
+use lib.Dec.{eqb}
 use Rattle.loops.specs.Loop.{pick, run, upTo}
 use Rattle.table.specs.Cells.{element, selected, hydrogens, end1, end2, kind}
 use Rattle.valence.specs.Valence.{order, delocalized}
@@ -13,6 +11,7 @@ use Rattle.matching.specs.Enumeration.{Row, matchings}
 use Rattle.matching.specs.Graph.{Bond, isMatching}
 use Rattle.matching.specs.Model.{some?}
 
+-- the atom a is an end of the bond b
 unfoldable pub touches : List ℤ → ℕ → ℕ → Bool
 touches bonds a b = eqb (end1 bonds b) a || eqb (end2 bonds b) a
 
@@ -23,7 +22,7 @@ share bonds a b = pick (touches bonds a b) (order (kind bonds b)) 0
 abbrev pub addShare : List ℤ → ℕ → ℕ → ℕ → ℕ
 addShare bonds a b s = s + share bonds a b
 
--- the bond sum of the atom a, over m bonds
+-- 01: the bond sum of an atom adds the kinds of its bonds, an elided bond counting 1
 unfoldable pub bondSum : List ℤ → ℕ → ℕ → ℕ
 bondSum bonds m a = run (addShare bonds a) 0 m 0
 
@@ -41,7 +40,7 @@ delocalizedFlag atoms bonds m a = flag (delocalizedAt atoms bonds m a)
 abbrev pub elidedFlag : List ℤ → ℕ → ℕ
 elidedFlag bonds b = flag (eqb (kind bonds b) 0)
 
--- the flags of n atoms, and the bonds, as the placements see them
+-- the flags of n atoms, and the bonds, as matchings see them
 abbrev pub delocalizedFlags : List ℤ → List ℤ → ℕ → ℕ → List ℕ
 delocalizedFlags atoms bonds n m = upTo (delocalizedFlag atoms bonds m) 0 n
 

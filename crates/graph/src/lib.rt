@@ -21,11 +21,12 @@ use table::SECOND;
 use table::SELECTED;
 use table::cell;
 
-// Adds to one bond sum; nothing past the end.
-fn add(sums: &mut [u16], i: usize, x: usize)
-    requires { ⌜ getD (now sums) i 0 + x < 2 ^ 16 ⌝ }
-    ensures { λ _. ⌜ now (sums .exit) ≡ bump (now (sums .entry)) i x ⌝ }
+// Adds to the bond sum of an atom; nothing past the end.
+fn add(sums: &mut [u16], a: AtomId, x: usize)
+    requires { ⌜ getD (now sums) (a .0) 0 + x < 2 ^ 16 ⌝ }
+    ensures { λ _. ⌜ now (sums .exit) ≡ bump (now (sums .entry)) (a .0) x ⌝ }
 {
+    let i = a.0;
     if sums.len() <= i {
         return;
     }
@@ -42,9 +43,9 @@ fn add_bond(bonds: &[i32], b: BondId, sums: &mut [u16])
     let e = cell::bond_number(bonds, b, FIRST);
     let f = cell::bond_number(bonds, b, SECOND);
     let x = valence::order(cell::bond_number(bonds, b, KIND));
-    add(sums, e, x);
+    add(sums, AtomId(e), x);
     if e != f {
-        add(sums, f, x);
+        add(sums, AtomId(f), x);
     }
 }
 

@@ -1,20 +1,20 @@
 -- A list of calls: made one after the other they give what the enumeration of the molecule gives. Assumes nothing.
-use Prim.Native.Nat.{ℕ, zero, suc, _+_, _-_, _≤_, _<_}
+use Prim.Native.Nat.{ℕ, suc, _+_, _-_, _≤_, _<_}
 use native.Mathlib.Omega.{arith}
-use native.Mathlib.Nat.{add-zero, add-suc}
+use native.Mathlib.Nat.{add-zero}
 use mathlib.Core.Path.{_≡_, refl, sym, ap, ap₂, _∙_}
 use mathlib.Core.Bool.{Bool, true, false, _&&_}
-use mathlib.Core.List.{List, [], _∷_, _++_, map, append-assoc, append-nil}
+use mathlib.Core.List.{List, [], _∷_, _++_, map, append-assoc}
 use lib.ListN.{length, take, drop, getD, set, replicate, length-set, length-append, length-map, length-replicate, take-append-drop}
 use lib.Seq.{take-at, take-suc-set, drop-set-lt}
 use borrow.Author.Tests.{le-leb, lt-leb}
 use lib.IntN.{ℤ}
-use Rattle.loops.specs.Loop.{pick, run, upTo}
+use Rattle.loops.specs.Loop.{pick, run}
 use Rattle.loops.proofs.Loops.{and-left, length-upTo, Ran, ran-start, ran-step}
 use Rattle.refusal.specs.declared.Refusal.the-variants.{Short, Invalid}
-use Rattle.table.specs.Valid.{Valid, valid}
+use Rattle.table.specs.Valid.{valid}
 use Rattle.table.proofs.Valid.{facts}
-use Rattle.matching.specs.Enumeration.{Row, Reply, matchings, isRow, orZeroed, zeroed, rowCall, rowReplies}
+use Rattle.matching.specs.Enumeration.{Row, matchings, isRow, orZeroed, zeroed, rowCall, rowReplies}
 use Rattle.matching.specs.Graph.{enumeration}
 use Rattle.matching.specs.declared.Answer.{Answer}
 use Rattle.matching.specs.declared.Answer.the-variants.{Refused as answerRefused, Absent, Ended}

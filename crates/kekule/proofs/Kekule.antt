@@ -2,7 +2,7 @@
 use Prim.Native.Nat.{ℕ, zero, suc, _-_, _≤_}
 use native.Mathlib.Omega.{arith}
 use mathlib.Core.Path.{_≡_, refl, sym, ap, _∙_}
-use mathlib.Core.Bool.{Bool, true, false, not, _&&_}
+use mathlib.Core.Bool.{Bool, true, false, not}
 use mathlib.Core.List.{List, _++_}
 use borrow.Author.Tests.{not-true, not-false, leb-true}
 use lib.ListN.{length, take, replicate}
@@ -11,8 +11,7 @@ use lib.Dec.{leb}
 use Rattle.loops.proofs.Loops.{and-left}
 use Rattle.table.specs.Limits.{maxBonds}
 use Rattle.table.specs.Valid.{Valid, valid, enough}
-use Rattle.table.proofs.Valid.{facts}
-use Rattle.matching.specs.Enumeration.{Reply, rowFirst, rowNext, rowCall, isRow}
+use Rattle.matching.specs.Enumeration.{Reply, rowFirst, rowNext, rowCall}
 use Rattle.matching.specs.Graph.{isMatching}
 use Rattle.matching.specs.Model.{bondsOf, matchingFrom, part}
 use Rattle.matching.specs.declared.Call.{Call}

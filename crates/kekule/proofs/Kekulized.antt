@@ -1,16 +1,16 @@
 -- A kekulized molecule: valid tables, no selected atom, no delocalized atom. Assumes nothing.
-use Prim.Native.Nat.{ℕ, zero, suc, _+_, _*_, _≤_, _<_}
+use Prim.Native.Nat.{ℕ, zero, suc, _+_, _<_}
 use native.Mathlib.Omega.{arith}
-use mathlib.Core.Path.{_≡_, refl, sym, ap, _∙_}
-use mathlib.Core.Bool.{Bool, true, false, _&&_, _||_, not}
+use mathlib.Core.Path.{_≡_, refl, ap, _∙_}
+use mathlib.Core.Bool.{Bool, true, false, not}
 use mathlib.Core.List.{List, [], _∷_}
 use lib.ListN.{length, getD, replicate}
 use lib.IntN.{ℤ, pos}
 use lib.Dec.{eqb, leb}
-use Rattle.loops.specs.Loop.{pick, each, upTo}
+use Rattle.loops.specs.Loop.{pick, upTo}
 use Rattle.loops.proofs.Loops.{and-right, each-all, each-same, length-upTo}
-use Rattle.table.specs.Limits.{maxAtoms, maxBonds, atomCells, bondCells, ELEMENT, SELECTED, ISOTOPE, HYDROGENS, CHARGE, EXTENSION, FIRST, SECOND, KIND}
-use Rattle.table.specs.Cells.{number, inRange, atomPlace, bondPlace, atomCell, bondCell, element, selected, hydrogens, end1, end2}
+use Rattle.table.specs.Limits.{maxBonds, atomCells, ELEMENT, SELECTED, ISOTOPE, HYDROGENS, CHARGE, EXTENSION, FIRST, SECOND, KIND}
+use Rattle.table.specs.Cells.{number, inRange, bondPlace, atomCell, bondCell, element, selected, hydrogens}
 use Rattle.table.specs.Valid.{selectedOk, sameEnds, fresh, distinct, atomOk, bondOk, Valid, valid, enough}
 use Rattle.table.specs.Edits.{unselectedAtoms, doubledBonds}
 use Rattle.table.proofs.Valid.{facts, enough-facts, Enough, AtomFine, atom-row, atom-fine-back, BondFine, bond-row, bond-fine-back}
@@ -21,7 +21,7 @@ use Rattle.valence.specs.Valence.{delocalized}
 use Rattle.matching.specs.Enumeration.{matchings}
 use Rattle.matching.specs.Graph.{noneFlagged}
 use Rattle.matching.proofs.Graph.{only-zeros, matching-pairs}
-use Rattle.graph.specs.Graph.{bondSum, delocalizedAt, delocalizedFlag, delocalizedFlags, flag, bondOf, graphOf, matchingOf}
+use Rattle.graph.specs.Graph.{delocalizedAt, delocalizedFlag, delocalizedFlags, flag, bondOf, graphOf, matchingOf}
 use Rattle.kekule.specs.Kekule.{roomy, isMatchingOf, tables, kekulized, kekulizedOf}
 
 -- flags that are all 0

@@ -15,7 +15,6 @@ use Rattle.grammar.specs.declared.Mode.the-variants.{Seq as seq, LetterA as let
 use Rattle.grammar.specs.declared.Out.{Out}
 use Rattle.grammar.specs.declared.State.the-variants.{Start as start, At as at}
 use Rattle.grammar.specs.Machine.{turn}
-use Rattle.grammar.specs.Fold.{keeps, refuses}
 use Rattle.grammar.proofs.Ends.{never}
 use Rattle.table.specs.declared.Atom.{Atom}
 use Rattle.table.specs.Limits.{maxAtoms, maxBonds}
@@ -98,13 +97,16 @@ first-byte Begins.letter-a h a b = sane-of letterA (held-described (bareRow 0 0)
 first-byte Begins.letter-t h a b = sane-of letterT (held-described (bareRow 0 0) (bare-row 0 (omega arith)) (begun-held 1 h a b)) tt
 first-byte Begins.opening h a b = sane-of bracket (begun-held 0 h a b) (blank-range 0 0)
 
-pub atom-act : {p q d i : ℕ} {μ : Memory} (b : ℕ) {o : Out} → Begins (letterOf b) o → Ready p q d i μ → SaneAct p q (turn o d) (suc i) (atomAct b i μ)
-unfolding atomAct
-atom-act {p} {q} {d} {i} {μ} b {o} w h =
-    by-test (SaneAct p q (turn o d) (suc i)) _ _ _ (λ e. tt) (λ e.
-    by-test (SaneAct p q (turn o d) (suc i)) _ _ _ (λ f. tt) (λ f.
-    first-byte w h (leb-false maxAtoms (μ .st .atoms) e) (λ t. leb-false maxBonds (μ .st .bonds) (room (bonded μ) (leb maxBonds (μ .st .bonds)) f t))))
+-- 5 was not told: another bond has room
+pub bond-room : (μ : Memory) → (bonded μ && leb maxBonds (μ .st .bonds)) ≡ false → bonded μ ≡ true → μ .st .bonds < maxBonds
+bond-room μ f t = leb-false maxBonds (μ .st .bonds) (room (bonded μ) (leb maxBonds (μ .st .bonds)) f t)
   where
     room : (t u : Bool) → (t && u) ≡ false → t ≡ true → u ≡ false
     room true u e f = e
     room false u e f = never f
+
+pub atom-act : {p q d i : ℕ} {μ : Memory} (b : ℕ) {o : Out} → Begins (letterOf b) o → Ready p q d i μ → SaneAct p q (turn o d) (suc i) (atomAct b i μ)
+unfolding atomAct
+atom-act {p} {q} {d} {i} {μ} b {o} w h =
+    by-test (SaneAct p q (turn o d) (suc i)) _ _ _ (λ e. tt) (λ e.
+    by-test (SaneAct p q (turn o d) (suc i)) _ _ _ (λ f. tt) (λ f. first-byte w h (leb-false maxAtoms (μ .st .atoms) e) (bond-room μ f)))

@@ -78,8 +78,8 @@ module _ {a e : ℕ} {f : Fields} (r : InRange a e f) where
   unfolding symbolled
   symbolled-range b =
       by-test (InRange a e) _ _ _
-        (λ q. elemented-range (numberOf (b ∷ [])) 0 (number-small (b ∷ [])) (omega arith) refl)
-        (λ q. let z = selected-fine b q in elemented-range (selectedOf b) 1 (z .1) (omega arith) (z .0))
+      (λ q. elemented-range (numberOf (b ∷ [])) 0 (number-small (b ∷ [])) (omega arith) refl)
+      (λ q. let z = selected-fine b q in elemented-range (selectedOf b) 1 (z .1) (omega arith) (z .0))
 
   pub hydrogened-range : (h : ℕ) → h ≤ 9 → InRange a e (hydrogened h f)
   hydrogened-range h l = record { element = r .element; selected = r .selected; selectable = r .selectable; isotope = r .isotope; hydrogens = l; charge = r .charge; extension = r .extension }

@@ -120,9 +120,6 @@ module _ {p q d i : ℕ} {μ : Memory} (h : Held p q d i μ) where
   unfolding next modeAct
   symbol-step a r b = split (listed (a ∷ b ∷ []) symbols) (listed (a ∷ []) symbols)
     where
-      e : ℕ
-      e = numberOf (a ∷ b ∷ [])
-
       split : (t u : Bool) → Follows p q i (turn (pick t (to symbolled) (pick u (machine.hydrating b) stop)) d) (pick t (keeps (drafted (elemented (numberOf (a ∷ b ∷ [])) 0 (μ .draft)) μ)) (hydrating b μ))
       split true u v = sane-of symbolled (held-drafted (elemented (numberOf (a ∷ b ∷ [])) 0 (μ .draft)) h) (elemented-range r (numberOf (a ∷ b ∷ [])) 0 (number-small (a ∷ b ∷ [])) (omega arith) refl)
       split false true v = hydrate-act r b v

@@ -5,7 +5,7 @@ use mathlib.Core.Path.{_≡_, refl, sym, _∙_}
 use mathlib.Core.Bool.{Bool, true, false, _&&_, _||_, not}
 use mathlib.Core.List.{List}
 use lib.IntN.{ℤ}
-use lib.Dec.{eqb, leb, ltb}
+use lib.Dec.{eqb, leb}
 use borrow.Author.Tests.{eqb-false, eq-eqb, leb-false, ltb-true, ltb-false, not-true, not-false}
 use Rattle.loops.specs.Loop.{pick, each}
 use Rattle.loops.proofs.Loops.{each-at}
@@ -16,7 +16,7 @@ use Rattle.grammar.specs.Fold.{keeps, refuses}
 use Rattle.grammar.proofs.Ends.{never}
 use Rattle.table.specs.Limits.{maxBonds}
 use Rattle.table.specs.Cells.{end1, end2}
-use Rattle.reading.specs.Memory.{Memory, dotted, symbol, symbolKind, kindOf, bondRow, between, awaiting, moved, counting, meet, clash, joins, joinedAlready, closeRefusal}
+use Rattle.reading.specs.Memory.{Memory, dotted, symbol, symbolKind, kindOf, between, awaiting, moved, counting, meet, clash, joins, joinedAlready, closeRefusal}
 use Rattle.reading.specs.Act.{bridgeBond, orRefuse, bridgeAct, branchAct}
 use Rattle.reading.proofs.Cases.{by-test}
 use Rattle.reading.proofs.Sane.{Tables, Sane, SaneAct}
@@ -31,12 +31,12 @@ use Rattle.reading.proofs.Atoms.{Held}
 -- ---- a bridge
 
 -- what was not refused
-record Allowed (bonds : List ℤ) (m u h : ℕ) : Type 0 where
+pub record Allowed (bonds : List ℤ) (m u h : ℕ) : Type 0 where
   pub few : m < maxBonds
   pub apart : u ≡ h → ⊥
   pub fresh : (j : ℕ) → j < m → joins bonds u h j ≡ false
 
-allowed : (bonds : List ℤ) (m u h j k : ℕ) → closeRefusal bonds m u h j k ≡ 0 → Allowed bonds m u h
+pub allowed : (bonds : List ℤ) (m u h j k : ℕ) → closeRefusal bonds m u h j k ≡ 0 → Allowed bonds m u h
 unfolding closeRefusal joinedAlready
 allowed bonds m u h j k =
     by-test (λ c. c ≡ 0 → Allowed bonds m u h) (leb maxBonds m) 5 _ (λ e (z : 5 ≡ 0). absurd (omega arith)) (λ few.
@@ -69,8 +69,8 @@ bridge-tables : {p q n m : ℕ} {atoms bonds : List ℤ} (u h k : ℕ) → Table
     → Tables p q n (m + 1) atoms (withBond bonds m (between u h k))
 bridge-tables {p} {q} {n} {m} {atoms} {bonds} u h k w a un hn k3 =
     by-test (λ x. Tables p q n (m + 1) atoms (withBond bonds m x)) _ _ _
-      (λ e. bond-added w u h k (a .few) (ltb-true u h e) hn k3 (λ j l. no-way bonds u h j (a .fresh j l)))
-      (λ e. bond-added w h u k (a .few) (not-above (ltb-false u h e)) un k3 (λ j l. no-way-back bonds u h j (a .fresh j l)))
+    (λ e. bond-added w u h k (a .few) (ltb-true u h e) hn k3 (λ j l. no-way bonds u h j (a .fresh j l)))
+    (λ e. bond-added w h u k (a .few) (not-above (ltb-false u h e)) un k3 (λ j l. no-way-back bonds u h j (a .fresh j l)))
   where
     not-above : h ≤ u → h < u
     not-above g = omega (arith, a .apart)

@@ -3,13 +3,11 @@ use Prim.Native.Nat.{ℕ, zero, suc, _+_, _≤_, _<_}
 use native.Mathlib.Omega.{arith}
 use native.Mathlib.Decide.{ℕ-discrete, decLt}
 use mathlib.Core.Path.{_≡_, refl, sym, _∙_}
-use mathlib.Core.Bool.{Bool, true, false}
 use mathlib.Core.Logic.{_⊎_, inl, inr}
 use mathlib.Core.List.{List}
 use lib.ListN.{length, getD, List·getD-eq-default}
-use lib.Dec.{eqb, ltb}
 use borrow.Author.Tests.{eqb-true, eqb-false, ltb-true, ltb-false}
-use Rattle.loops.specs.Loop.{pick, run}
+use Rattle.loops.specs.Loop.{run}
 use Rattle.state.specs.Limits.{bridges, maxText}
 use Rattle.reading.proofs.Cases.{by-test}
 use Rattle.reading.specs.Read.{earlier, leftmost}
@@ -35,8 +33,8 @@ module _ (opener offset : List ℕ) where
   one r p =
       by-test (One r p) _ _ _ (λ e. let z : getD opener r 0 ≡ 0 = eqb-true (getD opener r 0) 0 e in record { below = omega arith; least = λ o. absurd (omega arith); told = inl refl }) (λ e.
       by-test (One r p) _ _ _
-        (λ f. record { below = omega (arith, ltb-true (getD offset r 0) p f); least = λ o. omega arith; told = inr (positive (eqb-false (getD opener r 0) 0 e), refl) })
-        (λ f. record { below = omega arith; least = λ o. ltb-false (getD offset r 0) p f; told = inl refl }))
+      (λ f. record { below = omega (arith, ltb-true (getD offset r 0) p f); least = λ o. omega arith; told = inr (positive (eqb-false (getD opener r 0) 0 e), refl) })
+      (λ f. record { below = omega arith; least = λ o. ltb-false (getD offset r 0) p f; told = inl refl }))
     where
       positive : (getD opener r 0 ≡ 0 → ⊥) → Open opener r
       positive n = omega arith

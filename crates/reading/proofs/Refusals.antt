@@ -1,14 +1,13 @@
 -- Why a byte is refused with 4 to 9: each check of 01, with those that are asked before it. Assumes nothing.
 use Prim.Native.Nat.{ℕ, _+_, _-_, _*_, _≤_, _<_}
 use native.Mathlib.Omega.{arith}
-use mathlib.Core.Path.{_≡_, refl, subst}
-use mathlib.Core.Bool.{Bool, true, false, _&&_}
+use mathlib.Core.Path.{_≡_, subst}
+use mathlib.Core.Bool.{true, false}
 use mathlib.Core.Logic.{⊎-elim}
 use mathlib.Core.List.{[], _∷_}
 use lib.ListN.{getD}
 use lib.Dec.{eqb, leb}
 use borrow.Author.Tests.{eqb-true, eqb-false, leb-true, leb-false}
-use Rattle.loops.specs.Loop.{pick}
 use Rattle.loops.proofs.Loops.{and-left, and-right}
 use Rattle.element.specs.declared.Letter.{Letter}
 use Rattle.element.specs.declared.Letter.the-variants.{Plain, Selected, Half, Bracket, Nothing}
@@ -31,7 +30,7 @@ use Rattle.state.specs.Limits.{maxDepth}
 use Rattle.state.specs.State.{opened, joined}
 use Rattle.reading.specs.Memory.{Memory, kindOf, bonded, moved, clash, joinedAlready, closeRefusal}
 use Rattle.reading.specs.Bracket.{digit}
-use Rattle.reading.specs.Act.{Acts, firstByte, bridgeBond, closing, charging, hydrating, jointAct, orAtom, atomAct, orRefuse, bridgeAct, branchAct, goesOn, modeAct, act}
+use Rattle.reading.specs.Act.{Acts, bridgeBond, charging, hydrating, jointAct, orAtom, atomAct, orRefuse, bridgeAct, branchAct, goesOn, modeAct, act}
 use Rattle.reading.proofs.Cases.{by-test}
 use Rattle.reading.proofs.Letters.{Begins, begins}
 
@@ -76,8 +75,8 @@ module _ (σ : State) (b i : ℕ) (μ : Memory) where
   atom-why n =
       by-test (Explained σ b i μ) _ _ _ (λ e. Why.many-atoms n (leb-true maxAtoms (μ .st .atoms) e)) (λ e.
       by-test (Explained σ b i μ) _ _ _
-        (λ f. Why.many-bonds n (leb-false maxAtoms (μ .st .atoms) e) (and-left (bonded μ) (leb maxBonds (μ .st .bonds)) f) (leb-true maxBonds (μ .st .bonds) (and-right (bonded μ) (leb maxBonds (μ .st .bonds)) f)))
-        (λ f. tt))
+      (λ f. Why.many-bonds n (leb-false maxAtoms (μ .st .atoms) e) (and-left (bonded μ) (leb maxBonds (μ .st .bonds)) f) (leb-true maxBonds (μ .st .bonds) (and-right (bonded μ) (leb maxBonds (μ .st .bonds)) f)))
+      (λ f. tt))
 
   bridge-why : (r p : ℕ) → Completes σ b i μ r p → Explained σ b i μ (bridgeAct r p μ)
   unfolding bridgeAct closeRefusal
@@ -139,12 +138,12 @@ module _ (d b i : ℕ) (μ : Memory) where
   unfolding modeAct step next
   mode-why (seq x) =
       first-why (at (seq x) d) b i μ _
-        (by-test (Explained (at (seq x) d) b i μ) (among b nonzero) (bridgeAct (digit b) i μ) _ (digit-why (at (seq x) d)) (λ e1.
-        by-test (Explained (at (seq x) d) b i μ) (eqb b 37) _ _ (λ e. tt) (λ e2.
-        by-test (Explained (at (seq x) d) b i μ) (among b bondSymbols) (jointAct b μ) _ (λ e. tt) (λ e3.
-        by-test (Explained (at (seq x) d) b i μ) (eqb b 46) (jointAct b μ) _ (λ e. tt) (λ e4.
-        by-test (Explained (at (seq x) d) b i μ) (eqb b 40) (branchAct i μ) _ (λ e. branch-why (at (seq x) d) b i μ (eqb-true b 40 e)) (λ e5.
-        by-test (Explained (at (seq x) d) b i μ) (eqb b 41) _ (goesOn x μ) (λ e. tt) (λ e6. goes-why (at (seq x) d) b i μ x)))))))
+      (by-test (Explained (at (seq x) d) b i μ) (among b nonzero) (bridgeAct (digit b) i μ) _ (digit-why (at (seq x) d)) (λ e1.
+      by-test (Explained (at (seq x) d) b i μ) (eqb b 37) _ _ (λ e. tt) (λ e2.
+      by-test (Explained (at (seq x) d) b i μ) (among b bondSymbols) (jointAct b μ) _ (λ e. tt) (λ e3.
+      by-test (Explained (at (seq x) d) b i μ) (eqb b 46) (jointAct b μ) _ (λ e. tt) (λ e4.
+      by-test (Explained (at (seq x) d) b i μ) (eqb b 40) (branchAct i μ) _ (λ e. branch-why (at (seq x) d) b i μ (eqb-true b 40 e)) (λ e5.
+      by-test (Explained (at (seq x) d) b i μ) (eqb b 41) _ (goesOn x μ) (λ e. tt) (λ e6. goes-why (at (seq x) d) b i μ x)))))))
   mode-why bond = first-why (at bond d) b i μ _ (by-test (Explained (at bond d) b i μ) (among b nonzero) (bridgeAct (digit b) i μ) _ (digit-why (at bond d)) (λ e. tt))
   mode-why dot = atom-why (at dot d) b i μ (atom-only b d)
   mode-why inside = first-why (at inside d) b i μ (jointAct b μ) tt

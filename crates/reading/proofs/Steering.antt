@@ -3,16 +3,13 @@ use Prim.Native.Nat.{ℕ, zero, suc, _+_, _-_, _≤_, _<_}
 use native.Mathlib.Omega.{arith}
 use native.Mathlib.Decide.{ℕ-discrete}
 use mathlib.Core.Path.{_≡_, refl, _∙_}
-use mathlib.Core.Bool.{Bool, true, false}
 use mathlib.Core.List.{List}
 use lib.ListN.{length, getD, set, replicate, length-set, length-replicate}
 use lib.Seq.{getD-set-same, getD-set-other}
-use lib.Dec.{eqb}
-use Rattle.loops.specs.Loop.{pick}
 use Rattle.table.specs.Limits.{maxAtoms}
 use Rattle.state.specs.Limits.{maxDepth, bridges}
 use Rattle.state.specs.declared.State.{State}
-use Rattle.state.specs.State.{started, opened, closed, bridged, joined}
+use Rattle.state.specs.State.{started, opened, closed, bridged}
 use Rattle.reading.specs.Memory.{extended}
 use Rattle.reading.proofs.Sane.{Steering}
 
@@ -148,11 +145,3 @@ module _ {i : ℕ} {s : State} (w : Steering i s) where
           split (no n) l =
               let o : getD (set (s .opener) r a) c 0 ≡ getD (s .opener) c 0 = getD-set-other (s .opener) r c a 0 n in
               rw (getD-set-other (s .offset) r c p 0 n) (omega (arith, w .offset c (omega arith)))
-
-  pub joined-steering : (r k p : ℕ) → r < bridges → s .hub .0 < s .atoms → k ≤ 3 → p ≤ i → Steering (suc i) (joined s r k p)
-  unfolding joined
-  joined-steering r k p hr hh hk hp = split (eqb (getD (s .opener) r 0) 0)
-    where
-      split : (t : Bool) → Steering (suc i) (pick t (bridged s r (s .hub .0 + 1) k p (s .bonds)) (bridged s r 0 0 0 (s .bonds + 1)))
-      split true = bridged-steering r (s .hub .0 + 1) k p (s .bonds) hr (omega arith) hk hp
-      split false = bridged-steering r 0 0 0 (s .bonds + 1) hr (omega arith) (omega arith) (omega arith)

@@ -1,16 +1,15 @@
 -- A sane memory whose atoms got their hydrogens holds valid tables. Assumes nothing.
-use Prim.Native.Nat.{ℕ, zero, suc, _+_, _*_, _≤_, _<_}
+use Prim.Native.Nat.{ℕ, zero, suc, _+_, _≤_, _<_}
 use native.Mathlib.Omega.{arith}
 use mathlib.Core.Path.{_≡_, refl}
 use mathlib.Core.Bool.{Bool, true, false, _&&_, not}
 use mathlib.Core.List.{List}
-use lib.ListN.{length}
 use lib.IntN.{ℤ}
 use lib.Dec.{eqb}
 use borrow.Author.Tests.{eqb-true, lt-ltb, le-leb}
 use Rattle.loops.specs.Loop.{each}
 use Rattle.grammar.specs.declared.State.{State}
-use Rattle.table.specs.Limits.{maxAtoms, maxBonds, atomCells}
+use Rattle.table.specs.Limits.{maxAtoms, maxBonds}
 use Rattle.table.specs.Cells.{end1, end2}
 use Rattle.table.specs.Valid.{atomOk, bondOk, sameEnds, fresh, distinct, valid, Valid}
 use Rattle.reading.specs.Memory.{Memory}
@@ -44,23 +43,30 @@ all-distinct : (t : List ℤ) (m : ℕ) → ((i j : ℕ) → j < i → i < m →
 unfolding distinct fresh
 all-distinct t m f = each-below (λ i. each (λ j. not (sameEnds t i j)) 0 i) m (λ i l. each-below (λ j. not (sameEnds t i j)) i (λ j s. differ t i j (f i j s l)))
 
--- with the hydrogens given by any flags
-pub tables-valid : {p q n m : ℕ} {atoms bonds : List ℤ} (outside : List ℕ) → Tables p q n m atoms bonds → Valid (hydrogenated outside bonds m n atoms) bonds n m
-tables-valid {p} {q} {n} {m} {atoms} {bonds} outside w =
+-- with any atom table whose rows are valid
+valid-with : {p q n m : ℕ} {atoms bonds : List ℤ} (t : List ℤ) → Tables p q n m atoms bonds → ((a : ℕ) → a < n → atomOk t a ≡ true) → Valid t bonds n m
+valid-with {n = n} {m = m} {bonds = bonds} t w rows =
     record {
       few-atoms = w .few-atoms;
       few-bonds = w .few-bonds;
-      atom-rows = each-below (atomOk (hydrogenated outside bonds m n atoms)) n (λ a l. hydrogenated-ok outside bonds m n atoms a l (room a l) (w .atom-rows a l));
+      atom-rows = each-below (atomOk t) n rows;
       bond-rows = each-below (bondOk bonds n) m (λ b l. bond-ok (w .bond-rows b l));
       apart = all-distinct bonds m (w .apart);
     }
-  where
-    room : (a : ℕ) → a < n → atomCells * a + atomCells ≤ length atoms
-    room a l = omega (arith, w .atom-length, w .atom-room, w .few-atoms)
 
+-- the tables are valid between any two bytes
+pub sane-between : {p q i : ℕ} {σ : State} {μ : Memory} → Sane p q σ i μ → Valid (μ .atoms) (μ .bonds) (μ .st .atoms) (μ .st .bonds)
+sane-between {μ = μ} w = valid-with (μ .atoms) (w .tables) (w .tables .atom-rows)
+
+-- and with the hydrogens that are given at the end
 pub sane-valid : {p q i : ℕ} {σ : State} {μ : Memory} → Sane p q σ i μ
     → Valid (hydrogenated (μ .st .outside) (μ .bonds) (μ .st .bonds) (μ .st .atoms) (μ .atoms)) (μ .bonds) (μ .st .atoms) (μ .st .bonds)
-sane-valid {μ = μ} w = tables-valid (μ .st .outside) (w .tables)
+sane-valid {μ = μ} w = valid-with (hydrogenated (μ .st .outside) (μ .bonds) (μ .st .bonds) (μ .st .atoms) (μ .atoms)) (w .tables) rows
+  where
+    rows : (a : ℕ) → a < μ .st .atoms → atomOk (hydrogenated (μ .st .outside) (μ .bonds) (μ .st .bonds) (μ .st .atoms) (μ .atoms)) a ≡ true
+    rows a l =
+        hydrogenated-ok (μ .st .outside) (μ .bonds) (μ .st .bonds) (μ .st .atoms) (μ .atoms) a l
+        (omega (arith, w .tables .atom-length, w .tables .atom-room, w .tables .few-atoms)) (w .tables .atom-rows a l)
 
 -- the test says so too
 pub valid-true : {atoms bonds : List ℤ} {n m : ℕ} → Valid atoms bonds n m → valid atoms bonds n m ≡ true

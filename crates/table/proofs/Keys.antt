@@ -13,7 +13,6 @@ use Rattle.loops.proofs.Loops.{each-same, filled-at}
 use Rattle.table.specs.Cells.{end1, end2}
 use Rattle.table.specs.Valid.{sameEnds, fresh, distinct, bondOk}
 use Rattle.table.specs.Keys.{ShortEnds, endsKey, freshKey}
-use Rattle.table.specs.Limits.{maxAtoms}
 use Rattle.table.proofs.Valid.{bond-fine}
 
 key-same : (a b c d : ℕ) → b < 65536 → d < 65536 → eqb (a * 65536 + b) (c * 65536 + d) ≡ (eqb c a && eqb d b)

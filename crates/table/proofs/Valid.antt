@@ -1,19 +1,19 @@
 -- What valid tables have, a law for each condition of 01, as facts on numbers. Assumes nothing.
-use Prim.Native.Nat.{ℕ, _+_, _*_, _<_, _≤_}
+use Prim.Native.Nat.{ℕ, _*_, _<_, _≤_}
 use native.Mathlib.Omega.{arith}
-use mathlib.Core.Path.{_≡_, refl, sym, _∙_}
-use mathlib.Core.Bool.{Bool, true, false, _&&_, _||_, not}
+use mathlib.Core.Path.{_≡_, refl}
+use mathlib.Core.Bool.{Bool, true, false, _&&_, not}
 use mathlib.Core.List.{List}
 use lib.ListN.{length}
 use lib.IntN.{ℤ, pos, negsuc}
 use lib.Signed.{leZ}
-use lib.Dec.{eqb, leb, ltb}
-use borrow.Author.Tests.{leb-true, ltb-true, le-leb, lt-ltb, eqb-true, not-true}
+use lib.Dec.{leb, ltb}
+use borrow.Author.Tests.{leb-true, ltb-true, le-leb, lt-ltb, not-true}
 use Rattle.loops.specs.Loop.{each}
 use Rattle.loops.proofs.Loops.{and-left, and-right, each-at}
-use Rattle.table.specs.Limits.{maxAtoms, maxBonds, atomCells, bondCells, ELEMENT, SELECTED, ISOTOPE, HYDROGENS, CHARGE, EXTENSION, FIRST, SECOND, KIND}
+use Rattle.table.specs.Limits.{maxAtoms, maxBonds, atomCells, bondCells, HYDROGENS, FIRST, KIND}
 use Rattle.table.specs.Cells.{number, inRange, atomCell, bondCell, element, selected, hydrogens, end1, end2, kind}
-use Rattle.table.specs.Valid.{countsOk, elementOk, isotopeOk, hydrogensOk, chargeOk, extensionOk, selectable, selectedOk, kindOk, orderOk, secondOk, sameEnds, fresh, distinct, atomOk, bondOk, valid, Valid, enough}
+use Rattle.table.specs.Valid.{countsOk, elementOk, isotopeOk, hydrogensOk, chargeOk, extensionOk, selectedOk, kindOk, sameEnds, fresh, distinct, atomOk, bondOk, valid, Valid, enough}
 
 -- the test is true exactly if the facts hold
 pub facts : (atoms bonds : List ℤ) (n m : ℕ) → valid atoms bonds n m ≡ true → Valid atoms bonds n m

@@ -13,7 +13,7 @@ use crate::BOND_CELLS;
 use ids::AtomId;
 use ids::BondId;
 
-// The cell at a place, 0 past the end.
+// internal: the cell at a place, 0 past the end.
 pub fn cell(t: &[i32], i: usize) -> i32
     ensures { λ r. ⌜ r ≡ getD (now (t .entry)) i (pos 0) ⌝ }
     ensures { λ r. ⌜ SFits w32 r ⌝ }
@@ -24,7 +24,7 @@ pub fn cell(t: &[i32], i: usize) -> i32
     0
 }
 
-// Writes the cell at a place; nothing past the end.
+// internal: writes the cell at a place; nothing past the end.
 pub fn put(t: &mut [i32], i: usize, v: i32)
     ensures { λ _. ⌜ now (t .exit) ≡ set (now (t .entry)) i v ⌝ }
 {
@@ -34,35 +34,35 @@ pub fn put(t: &mut [i32], i: usize, v: i32)
     t[i] = v;
 }
 
-// Whether a number lies between two bounds.
+// internal: whether a number lies between two bounds.
 pub fn within(x: i32, low: i32, high: i32) -> bool
     ensures { λ r. ⌜ r ≡ inRange x low high ⌝ }
 {
     (low <= x) & (x <= high)
 }
 
-// The number in a cell, 0 for a negative one.
+// internal: the number in a cell, 0 for a negative one.
 pub fn number(x: i32) -> usize
     ensures { λ r. ⌜ r ≡ number x ⌝ }
 {
     if x < 0 { 0 } else { x as usize }
 }
 
-// Whether the cell at a place lies between two bounds.
+// internal: whether the cell at a place lies between two bounds.
 pub fn cell_within(t: &[i32], i: usize, low: i32, high: i32) -> bool
     ensures { λ r. ⌜ r ≡ inRange (getD (now (t .entry)) i (pos 0)) low high ⌝ }
 {
     within(cell(t, i), low, high)
 }
 
-// Whether the cell at a place is not negative.
+// internal: whether the cell at a place is not negative.
 pub fn cell_natural(t: &[i32], i: usize) -> bool
     ensures { λ r. ⌜ r ≡ leZ (pos 0) (getD (now (t .entry)) i (pos 0)) ⌝ }
 {
     0 <= cell(t, i)
 }
 
-// The number in the cell at a place.
+// internal: the number in the cell at a place.
 pub fn cell_number(t: &[i32], i: usize) -> usize
     ensures { λ r. ⌜ r ≡ number (getD (now (t .entry)) i (pos 0)) ⌝ }
 {

@@ -24,7 +24,7 @@ use crate::cell;
 use ids::AtomId;
 use ids::BondId;
 
-// An element that a selected atom may have.
+// internal: an element that a selected atom may have.
 pub fn selectable(e: usize) -> bool
     ensures { λ r. ⌜ r ≡ selectable e ⌝ }
 {
@@ -153,7 +153,7 @@ fn distinct(t: &[i32], m: usize) -> bool
     all_different(&keys, m)
 }
 
-// The tables with their counts are valid; a cell past the end counts as 0.
+// internal: the tables with their counts are valid; a cell past the end counts as 0.
 pub fn valid(atoms: &[i32], bonds: &[i32], n: usize, m: usize) -> bool
     ensures { λ r. ⌜ r ≡ valid (now (atoms .entry)) (now (bonds .entry)) n m ⌝ }
 {
@@ -172,7 +172,7 @@ pub fn valid(atoms: &[i32], bonds: &[i32], n: usize, m: usize) -> bool
     distinct(bonds, m)
 }
 
-// The tables are as long as they have to be.
+// internal: the tables are as long as they have to be.
 pub fn enough(atoms: &[i32], bonds: &[i32]) -> bool
     ensures { λ r. ⌜ r ≡ enough (now (atoms .entry)) (now (bonds .entry)) ⌝ }
 {

@@ -172,7 +172,7 @@ lay-at (y ∷ l) k t (suc x) h g =
     let z : k + suc x ≡ suc k + x = omega arith in
     rw z (lay-at l (suc k) (set t k y) x (omega arith) (simp length-set (omega arith)))
 
-laid-at : (l t : List ℕ) (x : ℕ) → x < length l → length l ≤ length t → getD (lay 0 l t) x 0 ≡ getD l x 0
+pub laid-at : (l t : List ℕ) (x : ℕ) → x < length l → length l ≤ length t → getD (lay 0 l t) x 0 ≡ getD l x 0
 laid-at l t x h g = let z : 0 + x ≡ x = omega arith in rw z at (lay-at l 0 t x h (omega arith))
 
 module _ {bonds : List ℤ} {n m : ℕ} (fit : BondsFit bonds n m) where

@@ -122,7 +122,17 @@ fn visit(
 }
 
 // A root of the walk, if the atom was not visited, with all that is reached from it. The number of atoms visited then.
-fn root(bonds: &[i32], n: usize, m: usize, order: &mut [u16], number: &mut [u16], up: &mut [u16], kind: &mut [u8], a: AtomId, count: usize) -> usize
+fn root(
+    bonds: &[i32],
+    n: usize,
+    m: usize,
+    order: &mut [u16],
+    number: &mut [u16],
+    up: &mut [u16],
+    kind: &mut [u8],
+    a: AtomId,
+    count: usize,
+) -> usize
     requires { ⌜ BondsFit (now bonds) n m ⌝ }
     requires { ⌜ Room (now order) (now number) (now up) (now kind) ⌝ }
     requires { ⌜ a .0 < n ⌝ }
@@ -136,11 +146,31 @@ fn root(bonds: &[i32], n: usize, m: usize, order: &mut [u16], number: &mut [u16]
         return count;
     }
     add(order, number, up, kind, AtomId(v), 0, 0, count);
-    visit(bonds, n, m, order, number, up, kind, AtomId(v), count, 0, count + 1)
+    visit(
+        bonds,
+        n,
+        m,
+        order,
+        number,
+        up,
+        kind,
+        AtomId(v),
+        count,
+        0,
+        count + 1,
+    )
 }
 
 // internal: the walk of a molecule, by walk number: the atom, its parent's walk number plus 1 (0 for a root) and the kind of the bond to it; and each atom's walk number plus 1.
-pub fn walk(bonds: &[i32], n: usize, m: usize, order: &mut [u16], number: &mut [u16], up: &mut [u16], kind: &mut [u8])
+pub fn walk(
+    bonds: &[i32],
+    n: usize,
+    m: usize,
+    order: &mut [u16],
+    number: &mut [u16],
+    up: &mut [u16],
+    kind: &mut [u8],
+)
     requires { ⌜ BondsFit (now bonds) n m ⌝ }
     requires { ⌜ Room (now order) (now number) (now up) (now kind) ⌝ }
     requires { ⌜ now number ≡ replicate (length (now number)) 0 ⌝ }

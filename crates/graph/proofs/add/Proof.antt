@@ -6,7 +6,7 @@ use Rattle.graph.proofs.add.Statement.{statement}
 use Rattle.graph.proofs.add.Tie as tie
 
 returns : tie.Need-returns
-returns c = let a = c .before .args in sym (set-out (now (a .sums)) (a .i) _ (c .if1 .taken))
+returns c = let a = c .before .args in sym (set-out (now (a .sums)) (a .a .0) _ (c .if1 .taken))
 
 mul-s : tie.Need-mul-s
 mul-s c = search needs

@@ -1,0 +1,19 @@
+-- An answer's code beside the buffers that the answer leaves. Assumes nothing.
+use Prim.Native.Nat.{ℕ}
+use mathlib.Core.Path.{_≡_, ap, _∙_}
+use mathlib.Core.List.{List}
+use lib.IntN.{ℤ}
+use Rattle.table.specs.declared.Check.{Check}
+use Rattle.kekule.specs.declared.Found.{Found}
+use Rattle.kekule.specs.Kekule.{Out, out, Tables, tables, foundCode}
+use Rattle.kekule.specs.Calls.{Replayed, replayed}
+use Rattle.capi.specs.Capi.{checkCode, rowOut, rowOutOf, tablesOut, tablesOutOf, replayOut, replayOutOf}
+
+pub row-law : {c : ℕ} {f : Found} {row : List ℕ} {o : Out} → c ≡ foundCode f → out f row ≡ o → rowOut c row ≡ rowOutOf o
+row-law {row = row} e g = ap (λ (k : ℕ). rowOut k row) e ∙ ap rowOutOf g
+
+pub tables-law : {c : ℕ} {a : Check} {atoms bonds : List ℤ} {t : Tables} → c ≡ checkCode a → tables a atoms bonds ≡ t → tablesOut c atoms bonds ≡ tablesOutOf t
+tables-law {atoms = atoms} {bonds} e g = ap (λ (k : ℕ). tablesOut k atoms bonds) e ∙ ap tablesOutOf g
+
+pub replay-law : {c : ℕ} {a : Check} {row codes : List ℕ} {r : Replayed} → c ≡ checkCode a → replayed a row codes ≡ r → replayOut c row codes ≡ replayOutOf r
+replay-law {row = row} {codes} e g = ap (λ (k : ℕ). replayOut k row codes) e ∙ ap replayOutOf g

@@ -1,0 +1,56 @@
+-- What the exported calls hand back: each answer as a code, with the buffers as they are then
+use Prim.Native.Nat.{ℕ}
+use mathlib.Core.List.{List}
+use lib.IntN.{ℤ}
+use Rattle.refusal.specs.Code.{codeOf}
+use Rattle.table.specs.declared.Check.{Check}
+use Rattle.table.specs.declared.Check.the-variants.{Fine, Refused}
+use Rattle.kekule.specs.declared.Asked.{Asked}
+use Rattle.kekule.specs.declared.Asked.the-variants.{Yes, No, Refused as askedRefused}
+use Rattle.kekule.specs.Kekule.{Out, Tables, foundCode}
+use Rattle.kekule.specs.Calls.{Replayed}
+
+abbrev pub checkCode : Check → ℕ
+checkCode Fine = 0
+checkCode (Refused r) = codeOf r
+
+-- a row that is no matching has 01's code 12
+abbrev pub askedCode : Asked → ℕ
+askedCode Yes = 0
+askedCode No = 12
+askedCode (askedRefused r) = codeOf r
+
+-- a code and the matching row
+pub record RowOut : Type 0 where
+  pub code : ℕ
+  pub row : List ℕ
+
+abbrev pub rowOut : ℕ → List ℕ → RowOut
+rowOut c row = record { code = c; row = row }
+
+abbrev pub rowOutOf : Out → RowOut
+rowOutOf o = rowOut (foundCode (o .found)) (o .row)
+
+-- a code and both tables
+pub record TablesOut : Type 0 where
+  pub code : ℕ
+  pub atoms : List ℤ
+  pub bonds : List ℤ
+
+abbrev pub tablesOut : ℕ → List ℤ → List ℤ → TablesOut
+tablesOut c atoms bonds = record { code = c; atoms = atoms; bonds = bonds }
+
+abbrev pub tablesOutOf : Tables → TablesOut
+tablesOutOf t = tablesOut (checkCode (t .check)) (t .atoms) (t .bonds)
+
+-- a code, the matching row and the codes of the calls
+pub record ReplayOut : Type 0 where
+  pub code : ℕ
+  pub row : List ℕ
+  pub codes : List ℕ
+
+abbrev pub replayOut : ℕ → List ℕ → List ℕ → ReplayOut
+replayOut c row codes = record { code = c; row = row; codes = codes }
+
+abbrev pub replayOutOf : Replayed → ReplayOut
+replayOutOf r = replayOut (checkCode (r .check)) (r .row) (r .codes)

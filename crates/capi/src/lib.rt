@@ -1,0 +1,112 @@
+// The public calls for C and Rust: slices, counts and numbers in, codes out.
+ghost use mathlib.Core.Path.{_≡_};
+ghost use Rattle.matching.specs.declared.Call.the-variants.{First, Next};
+ghost use Rattle.kekule.specs.Kekule.{callOn, askedOf, kekulizedOf};
+ghost use Rattle.kekule.specs.Calls.{replayedOf};
+ghost use Rattle.table.specs.Valid.{checkOf};
+ghost use Rattle.capi.specs.Capi.{checkCode, askedCode, rowOut, rowOutOf, tablesOut, tablesOutOf, replayOut, replayOutOf};
+use kekule::Asked;
+use kekule::Found;
+use table::Check;
+
+// The code of a check: 0, or the refusal's.
+fn check_code(c: Check) -> u32
+    ensures { λ r. ⌜ r ≡ checkCode c ⌝ }
+{
+    match c {
+        Check::Fine => 0,
+        Check::Refused(r) => refusal::code(r) as u32,
+    }
+}
+
+// The code of the answer to the question for a matching: 0 for yes, 12 for no.
+fn asked_code(a: Asked) -> u32
+    ensures { λ r. ⌜ r ≡ askedCode a ⌝ }
+{
+    match a {
+        Asked::Yes => 0,
+        Asked::No => 12,
+        Asked::Refused(r) => refusal::code(r) as u32,
+    }
+}
+
+// Whether the tables can be worked with: 0, 1 or 13.
+#[no_mangle]
+pub extern "C" fn balsa_check(atoms: &[i32], bonds: &[i32], n: usize, m: usize) -> u32
+    ensures { λ r. ⌜ r ≡ checkCode (checkOf (now (atoms .entry)) (now (bonds .entry)) n m) ⌝ }
+{
+    check_code(table::check_tables(atoms, bonds, n, m))
+}
+
+// The first matching, into the row: 0, 1, 13 or 11.
+#[no_mangle]
+pub extern "C" fn balsa_first(
+    atoms: &[i32],
+    bonds: &[i32],
+    n: usize,
+    m: usize,
+    row: &mut [u8],
+) -> u32
+    ensures { λ r. ⌜ rowOut r (now (row .exit)) ≡ rowOutOf (callOn First (now (atoms .entry)) (now (bonds .entry)) n m (now (row .entry))) ⌝ }
+{
+    kekule::found_code(kekule::first(atoms, bonds, n, m, row)) as u32
+}
+
+// The next matching, into the row: 0, 255 for the end, 1, 13 or 12.
+#[no_mangle]
+pub extern "C" fn balsa_next(
+    atoms: &[i32],
+    bonds: &[i32],
+    n: usize,
+    m: usize,
+    row: &mut [u8],
+) -> u32
+    ensures { λ r. ⌜ rowOut r (now (row .exit)) ≡ rowOutOf (callOn Next (now (atoms .entry)) (now (bonds .entry)) n m (now (row .entry))) ⌝ }
+{
+    kekule::found_code(kekule::next(atoms, bonds, n, m, row)) as u32
+}
+
+// Whether the row is a matching: 0, 12 for no, 1 or 13.
+#[no_mangle]
+pub extern "C" fn balsa_is_matching(
+    atoms: &[i32],
+    bonds: &[i32],
+    n: usize,
+    m: usize,
+    row: &[u8],
+) -> u32
+    ensures { λ r. ⌜ r ≡ askedCode (askedOf (now (atoms .entry)) (now (bonds .entry)) n m (now (row .entry))) ⌝ }
+{
+    asked_code(kekule::is_matching(atoms, bonds, n, m, row))
+}
+
+// Kekulizes the tables by the row: 0, 1, 13 or 12.
+#[no_mangle]
+pub extern "C" fn balsa_kekulize(
+    atoms: &mut [i32],
+    bonds: &mut [i32],
+    n: usize,
+    m: usize,
+    row: &[u8],
+) -> u32
+    ensures { λ r. ⌜ tablesOut r (now (atoms .exit)) (now (bonds .exit)) ≡ tablesOutOf (kekulizedOf (now (atoms .entry)) (now (bonds .entry)) n m (now (row .entry))) ⌝ }
+{
+    check_code(kekule::kekulize(atoms, bonds, n, m, row))
+}
+
+// A list of calls on one row, 0 for the first matching and any other byte for the next; the code of each answer: 0, or 1 where
+// codes is shorter than calls.
+#[no_mangle]
+pub extern "C" fn balsa_replay(
+    calls: &[u8],
+    atoms: &[i32],
+    bonds: &[i32],
+    n: usize,
+    m: usize,
+    row: &mut [u8],
+    codes: &mut [u8],
+) -> u32
+    ensures { λ r. ⌜ replayOut r (now (row .exit)) (now (codes .exit)) ≡ replayOutOf (replayedOf (now (calls .entry)) (now (atoms .entry)) (now (bonds .entry)) n m (now (row .entry)) (now (codes .entry))) ⌝ }
+{
+    check_code(kekule::replay(calls, atoms, bonds, n, m, row, codes))
+}

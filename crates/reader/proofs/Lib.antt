@@ -1,0 +1,5 @@
+pub mod Pieces
+pub mod Atoms
+pub mod Bridges
+pub mod Turns
+pub mod Branches

@@ -1,0 +1,121 @@
+use native.Mathlib.Omega.{arith}
+use mathlib.Core.Path.{sym, _∙_}
+use borrow.Author.Tests.{not-true, not-false}
+use Rattle.reader.proofs.Atoms.{as-row, as-nothing, as-broken, crowd-atoms, crowd-bonds, adds-unbonded, adds-bonded, adds-crowded, adds-broken, adds-nothing}
+use borrow.Author.Needs.{needs}
+use Rattle.reader.proofs.atom.atom_at.Statement.{statement}
+use Rattle.reader.proofs.atom.atom_at.Tie as tie
+use Rattle.reader.proofs.atom.atom_at.Reads as reads
+use Rattle.reader.proofs.atom.atom_at.Lts as lts
+use Rattle.field.proofs.spelled.spell_at.Reads as spell-at-reads
+use Rattle.reader.proofs.atom.bond_of.Reads as bond-of-reads
+use Rattle.reader.proofs.atom.crowd_at.Reads as crowd-at-reads
+use Rattle.reader.proofs.atom.is_bonded.Reads as is-bonded-reads
+use Rattle.reader.proofs.atom.kind_of.Reads as kind-of-reads
+use Rattle.table.proofs.row.put_atom.Reads as put-atom-reads
+use Rattle.table.proofs.row.put_bond.Reads as put-bond-reads
+
+is-bonded-requires : tie.Need-is-bonded-requires
+is-bonded-requires c κs = search needs
+
+spell-at-requires : tie.Need-spell-at-requires
+spell-at-requires c κs = search needs
+
+enum-known-x : tie.Need-enum-known-x
+enum-known-x c = search needs
+
+crowd-at-requires : tie.Need-crowd-at-requires
+crowd-at-requires c κs = search needs
+
+enum-told : tie.Need-enum-told
+enum-told c = search needs
+
+put-atom-requires : tie.Need-put-atom-requires
+put-atom-requires c κs = search needs
+
+same-length : tie.Need-same-length
+same-length c = search needs
+
+returns : tie.Need-returns
+returns c = adds-unbonded _ _ _ _ _ _ _ _ (c .before .before .before .before .before .before .crowd-at .ensures) (c .before .before .before .before .before .before .before .before .before .before .before .is-bonded .ensures) (as-row (c .before .before .before .before .before .before .before .before .before .before .spell-at .ensures) (c .before .before .before .before .before .before .before .before .x .given .1)) (c .before .before .before .before .enum-told .given .1) (c .before .before .put-atom .ensures) (not-true _ (c .if1 .taken))
+
+kind-of-requires : tie.Need-kind-of-requires
+kind-of-requires c κs = search needs
+
+bond-of-requires : tie.Need-bond-of-requires
+bond-of-requires c κs = (c .before .before .before .before .before .before .before .before .before .before .before .before .before .before .before .pre .1, omega (arith, crowd-atoms (c .before .before .before .before .before .before .before .before .before .before .before .before .before .before .before .args .n) (c .before .before .before .before .before .before .before .before .before .before .before .before .before .before .before .args .m) (c .before .before .before .before .before .before .before .before .before .before .before .before .before .is-bonded .result) (c .before .before .before .before .before .before .before .before .crowd-at .ensures) (c .before .before .before .before .before .before .enum-told .given .1)))
+
+put-bond-requires : tie.Need-put-bond-requires
+put-bond-requires c κs = search needs
+
+add-t30 : tie.Need-add-t30
+add-t30 c = omega (arith, crowd-bonds (c .before .before .before .before .before .before .before .before .before .before .before .before .before .before .before .before .before .before .args .n) (c .before .before .before .before .before .before .before .before .before .before .before .before .before .before .before .before .before .before .args .m) (c .before .before .before .before .before .before .before .before .before .before .before .before .before .before .before .before .is-bonded .result) (c .before .before .before .before .before .before .before .before .before .before .before .crowd-at .ensures) (c .before .before .before .before .before .before .before .before .before .enum-told .given .1) (not-false _ (c .before .before .before .before .before .if1 .left)))
+
+enum-known-r : tie.Need-enum-known-r
+enum-known-r c = search needs
+
+enum-told-2 : tie.Need-enum-told-2
+enum-told-2 c = search needs
+
+enum-known-p : tie.Need-enum-known-p
+enum-known-p c = search needs
+
+crowd-at-requires-2 : tie.Need-crowd-at-requires-2
+crowd-at-requires-2 c κs = search needs
+
+enum-told-3 : tie.Need-enum-told-3
+enum-told-3 c = search needs
+
+enum-known-r-2 : tie.Need-enum-known-r-2
+enum-known-r-2 c = search needs
+
+same-length-2 : tie.Need-same-length-2
+same-length-2 c = search needs
+
+same-length-3 : tie.Need-same-length-3
+same-length-3 c = search needs
+
+returns-2 : tie.Need-returns-2
+returns-2 c = adds-bonded _ _ _ _ _ _ _ _ (c .before .before .before .before .before .before .before .before .before .before .before .crowd-at .ensures) (c .before .before .before .before .before .before .before .before .before .before .before .before .before .before .before .before .is-bonded .ensures) (as-row (c .before .before .before .before .before .before .before .before .before .before .before .before .before .before .before .spell-at .ensures) (c .before .before .before .before .before .before .before .before .before .before .before .before .before .x .given .1)) (c .before .before .before .before .before .before .before .before .before .enum-told .given .1) (c .before .before .before .before .before .before .before .put-atom .ensures) (not-false _ (c .before .before .before .before .before .if1 .left)) (c .before .before .before .kind-of .ensures) (c .before .before .bond-of .ensures) (c .before .put-bond .ensures)
+
+returns-3 : tie.Need-returns-3
+returns-3 c = adds-crowded _ _ _ _ _ _ _ _ (c .before .before .before .crowd-at .ensures) (c .before .before .before .before .before .before .before .before .is-bonded .ensures) (as-row (c .before .before .before .before .before .before .before .spell-at .ensures) (c .before .before .before .before .before .x .given .1) .begins) (c .before .r .given .1)
+
+returns-4 : tie.Need-returns-4
+returns-4 c = adds-nothing _ _ _ _ _ _ _ _ (as-nothing (c .before .before .spell-at .ensures) (c .enum-told2 .given .1))
+
+returns-5 : tie.Need-returns-5
+returns-5 c = adds-broken _ _ _ _ _ _ _ _ (c .before .before .crowd-at2 .ensures) (c .before .before .before .before .before .before .before .is-bonded .ensures) (as-broken (c .before .before .before .before .before .before .spell-at .ensures) (c .before .before .before .before .p .given .1)) (c .enum-told3 .given .1)
+
+returns-6 : tie.Need-returns-6
+returns-6 c = adds-crowded _ _ _ _ _ _ _ _ (c .before .before .before .crowd-at2 .ensures) (c .before .before .before .before .before .before .before .before .is-bonded .ensures) (as-broken (c .before .before .before .before .before .before .before .spell-at .ensures) (c .before .before .before .before .before .p .given .1) .begins) (c .before .r2 .given .1)
+
+pub atom-at-spec : {M : Type 1} → statement M
+atom-at-spec =
+    tie.close
+    (tie.spec
+    is-bonded-requires
+    spell-at-requires
+    enum-known-x
+    crowd-at-requires
+    enum-told
+    put-atom-requires
+    same-length
+    returns
+    kind-of-requires
+    bond-of-requires
+    put-bond-requires
+    add-t30
+    enum-known-r
+    enum-told-2
+    enum-known-p
+    crowd-at-requires-2
+    enum-told-3
+    enum-known-r-2
+    same-length-2
+    same-length-3
+    returns-2
+    returns-3
+    returns-4
+    returns-5
+    returns-6)

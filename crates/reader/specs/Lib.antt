@@ -1,0 +1,4 @@
+pub mod Piece
+pub mod Added
+pub mod Went
+pub mod Bridge

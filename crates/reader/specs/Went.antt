@@ -1,0 +1,65 @@
+-- What reading a sequence and a branch promises: the work that remained at the start is the work that remains at the end
+use Prim.Native.Nat.{ℕ, _+_, _≤_, _<_}
+use mathlib.Core.Path.{_≡_}
+use mathlib.Core.List.{List}
+use lib.ListN.{length, getD}
+use lib.IntN.{ℤ}
+use Rattle.refusal.specs.declared.Refusal.{Refusal}
+use Rattle.refusal.specs.Code.{codeOf}
+use Rattle.grammar.specs.declared.Last.the-variants.{Plain as plain}
+use Rattle.grammar.specs.declared.Mode.{Mode}
+use Rattle.grammar.specs.declared.Mode.the-variants.{Seq as seq, Dot as dot}
+use Rattle.grammar.specs.Fold.{bad}
+use Rattle.table.specs.Limits.{maxAtoms, maxBonds}
+use Rattle.state.specs.declared.State.{State}
+use Rattle.state.specs.declared.Fields.{Fields}
+use Rattle.state.specs.Limits.{maxDepth}
+use Rattle.reading.specs.Memory.{Pending, nothing}
+use Rattle.field.specs.Rest.{rest, memory}
+use Rattle.reader.specs.declared.piece.Joint.{Joint}
+use Rattle.reader.specs.declared.bridge.Why.{Why}
+use Rattle.reader.specs.declared.bridge.Out.{Out}
+use Rattle.reader.specs.Piece.{pendingOf}
+use Rattle.reader.specs.Added.{Reaches}
+
+-- the counts are within the limits, and the atoms that the state holds are numbers of atoms
+pub record Fair (t : State) : Type 0 where
+  pub atoms : t .atoms ≤ maxAtoms
+  pub bonds : t .bonds ≤ maxBonds
+  pub depth : t .depth ≤ maxDepth
+  pub hub : t .hub .0 ≤ maxAtoms
+  pub stack : (i : ℕ) → getD (t .stack) i 0 ≤ maxAtoms
+  pub opener : (i : ℕ) → getD (t .opener) i 0 ≤ maxAtoms + 1
+
+abbrev pub refusedAt : Refusal → ℕ → State → Out
+refusedAt r p t = record { why = Why.Refused r p; at = p; st = t }
+
+-- from p in the mode m with the joint k, the state t and the tables a, b, the reading goes on as it went
+abbrev pub Goes : List ℕ → ℕ → Mode → Pending → State → List ℤ → List ℤ → Why → ℕ → State → List ℤ → List ℤ → Type 0
+Goes s p m k t a b Why.Fine q u a′ b′ = (i : ℕ) (f : Fields) → Reaches s (rest s p m (memory t a b k i f)) q (seq plain) nothing u a′ b′
+Goes s p m k t a b (Why.Refused r e) q u a′ b′ = (i : ℕ) (f : Fields) → rest s p m (memory t a b k i f) ≡ bad (codeOf r) e
+
+-- after a part that was read from p in t: it lies after p and within the text, and the state is fair and as deep
+pub record PastFine (s : List ℕ) (p : ℕ) (t : State) (q : ℕ) (u : State) : Type 0 where
+  pub later : p < q
+  pub within : q ≤ length s
+  pub fair : Fair u
+  pub deep : u .depth ≡ t .depth
+
+abbrev pub Past : List ℕ → ℕ → State → Why → ℕ → State → Type 0
+Past s p t Why.Fine q u = PastFine s p t q u
+Past s p t (Why.Refused r e) q u = Unit {0}
+
+-- the sequence ends at a `)` or at the end of the text
+abbrev pub Stops : List ℕ → Why → ℕ → Type 0
+Stops s Why.Fine q = (getD s q 0 ≡ 41 → ⊥) → q ≡ length s
+Stops s (Why.Refused r e) q = Unit {0}
+
+pub record Sequenced (s : List ℕ) (p : ℕ) (j : Joint) (t : State) (a b a′ b′ : List ℤ) (o : Out) : Type 0 where
+  pub goes : Goes s p dot (pendingOf j) t a b (o .why) (o .at) (o .st) a′ b′
+  pub past : Past s p t (o .why) (o .at) (o .st)
+  pub stops : Stops s (o .why) (o .at)
+
+pub record Branched (s : List ℕ) (p : ℕ) (t : State) (a b a′ b′ : List ℤ) (o : Out) : Type 0 where
+  pub goes : Goes s p (seq plain) nothing t a b (o .why) (o .at) (o .st) a′ b′
+  pub past : Past s p t (o .why) (o .at) (o .st)

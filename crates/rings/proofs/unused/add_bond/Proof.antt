@@ -1,0 +1,87 @@
+use Rattle.rings.proofs.Bag.{left-out, taken-in}
+use Prim.Native.Nat.{_-_}
+use native.Mathlib.Omega.{arith}
+use borrow.Author.Needs.{needs}
+use Rattle.rings.proofs.unused.add_bond.Statement.{statement}
+use Rattle.rings.proofs.unused.add_bond.Tie as tie
+
+sub-high : tie.Need-sub-high
+sub-high c = search needs
+
+mul-if1 : tie.Need-mul-if1
+mul-if1 c = search needs
+
+shared-slice-read-if1 : tie.Need-shared-slice-read-if1
+shared-slice-read-if1 c = search needs
+
+cast-if1 : tie.Need-cast-if1
+cast-if1 c = omega (arith, c .shared-slice-known .given (c .before .args .q - 1))
+
+returns : tie.Need-returns
+returns c = let s = c .before .before in let a = s .args in left-out _ _ _ _ (a .p) (a .q) (a .kind) (a .used) (s .pre .1 .1 .0 .0) (omega (arith, s .pre .1 .1 .0 .0, s .pre .1 .1 .0 .1)) (c .if1 .taken)
+
+sub-los : tie.Need-sub-los
+sub-los c = search needs
+
+cast-los : tie.Need-cast-los
+cast-los c = search needs
+
+mul-los : tie.Need-mul-los
+mul-los c = search needs
+
+slice-write-los : tie.Need-slice-write-los
+slice-write-los c = search needs
+
+cast-his : tie.Need-cast-his
+cast-his c = search needs
+
+mul-his : tie.Need-mul-his
+mul-his c = search needs
+
+slice-write-his : tie.Need-slice-write-his
+slice-write-his c = search needs
+
+cast-kinds : tie.Need-cast-kinds
+cast-kinds c = search needs
+
+slice-write-kinds : tie.Need-slice-write-kinds
+slice-write-kinds c = search needs
+
+add-result : tie.Need-add-result
+add-result c = search needs
+
+same-length : tie.Need-same-length
+same-length c = search needs
+
+same-length-2 : tie.Need-same-length-2
+same-length-2 c = search needs
+
+same-length-3 : tie.Need-same-length-3
+same-length-3 c = search needs
+
+returns-2 : tie.Need-returns-2
+returns-2 c = let s = c .before .before in let a = s .args in taken-in _ _ _ _ (a .p) (a .q) (a .kind) (a .used) (s .pre .1 .1 .0 .0) (c .if1 .left)
+
+pub add-bond-spec : {M : Type 1} → statement M
+add-bond-spec =
+    tie.close
+    (tie.spec
+    sub-high
+    mul-if1
+    shared-slice-read-if1
+    cast-if1
+    returns
+    sub-los
+    cast-los
+    mul-los
+    slice-write-los
+    cast-his
+    mul-his
+    slice-write-his
+    cast-kinds
+    slice-write-kinds
+    add-result
+    same-length
+    same-length-2
+    same-length-3
+    returns-2)

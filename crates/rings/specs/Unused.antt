@@ -1,0 +1,51 @@
+-- The bonds that the walk does not use, in three arrays (01, Writing: they become bridges)
+use Prim.Native.Nat.{ℕ, zero, suc, _+_, _<_, _≤_}
+use mathlib.Core.Path.{_≡_}
+use mathlib.Core.Bool.{Bool, true, false, not}
+use mathlib.Core.List.{List, [], _∷_}
+use lib.ListN.{length, getD, set}
+use lib.IntN.{ℤ}
+use lib.Dec.{eqb}
+use Rattle.loops.specs.Loop.{pick, run}
+use Rattle.table.specs.Limits.{maxAtoms, maxBonds}
+use Rattle.walk.specs.Token.{Bond, bond}
+use Rattle.walk.specs.Emit.{pre}
+use Rattle.walk.specs.Walk.{forestOf, place, renumber}
+use Rattle.walk.specs.Flat.{ups}
+use Rattle.writing.specs.Write.{bondAt, bondList}
+
+-- three arrays, and how many of their places are used
+pub record Bag : Type 0 where
+  pub los : List ℕ
+  pub his : List ℕ
+  pub kinds : List ℕ
+  pub used : ℕ
+
+abbrev pub bag : List ℕ → List ℕ → List ℕ → ℕ → Bag
+bag l h k c = record { los = l; his = h; kinds = k; used = c }
+
+-- a bond in walk numbers that joins an atom to its parent
+abbrev pub treeBond : List ℕ → Bond → Bool
+treeBond up b = eqb (getD up (b .hi) 0) (suc (b .lo))
+
+-- a bond that is none is added
+unfoldable pub addBond : List ℕ → Bond → Bag → Bag
+addBond up b g = pick (treeBond up b) g (bag (set (g .los) (g .used) (b .lo)) (set (g .his) (g .used) (b .hi)) (set (g .kinds) (g .used) (b .kind)) (suc (g .used)))
+
+-- the bond b in walk numbers
+unfoldable pub inWalk : List ℤ → ℕ → ℕ → ℕ → Bond
+inWalk bonds n m b = renumber (pre (forestOf n (bondList bonds m))) (bondAt bonds b)
+
+-- the walk numbers plus 1, and the parents' walk numbers plus 1
+pub record Numbered (bonds : List ℤ) (n m : ℕ) (v u : List ℕ) : Type 0 where
+  pub number : (a : ℕ) → a < n → getD v a 0 ≡ suc (place (pre (forestOf n (bondList bonds m))) a)
+  pub up : (x : ℕ) → x < n → getD u x 0 ≡ getD (ups (forestOf n (bondList bonds m)) 0 0) x 0
+  pub below : (a : ℕ) → a < n → place (pre (forestOf n (bondList bonds m))) a < n
+  pub numbers : maxAtoms ≤ length v
+  pub ups : maxAtoms ≤ length u
+
+-- the arrays have room
+pub record BagRoom (l h k : List ℕ) : Type 0 where
+  pub los : maxBonds ≤ length l
+  pub his : maxBonds ≤ length h
+  pub kinds : maxBonds ≤ length k
