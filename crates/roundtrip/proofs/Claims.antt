@@ -168,7 +168,7 @@ module _ (atoms bonds : List ℤ) (n m : ℕ) (w : Writable atoms bonds n m) (A 
   unfolding delocalized
   unselected-round-trip h = round-trip (localized-matchable atoms bonds n m (λ a l. rw (h a l)))
 
--- DEMAND 2, for every writing that is not refused and every buffers to read into
+-- DEMAND 2, for every writing that is not refused and all buffers long enough to read into
 pub demand-2 : (atoms bonds : List ℤ) (n m : ℕ) (out ren : List ℕ) → writeOf atoms bonds n m out ren .code ≡ 0 → (A B : List ℤ) → enough A B ≡ true → Demand2 atoms bonds n m out ren A B
 demand-2 atoms bonds n m out ren h A B long =
     let w = written atoms bonds n m out ren h in

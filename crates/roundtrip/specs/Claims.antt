@@ -39,7 +39,7 @@ renamed r b = joined (numbered r (b .lo)) (numbered r (b .hi)) (b .kind)
 abbrev pub accepted : ℕ → ℕ → List ℤ → List ℤ → Told
 accepted n m atoms bonds = record { code = 0; offset = 0; atomCount = n; bondCount = m; atoms = atoms; bonds = bonds }
 
--- the tables T and U hold the molecule of atoms and bonds under its renumbering: every atom cell, every bond with its kind, 0 in the cells after
+-- 01, Writing: "reading back keeps every atom cell, every bond and its kind under" the renumbering: the tables T and U hold the molecule of atoms and bonds so, with 0 in the cells after
 pub record Same (atoms bonds : List ℤ) (n m : ℕ) (T U : List ℤ) : Type 0 where
   pub cells : (v f : ℕ) → v < n → f < atomCells → atomCell T (numbered (renumbering bonds n m) v) f ≡ atomCell atoms v f
   pub permuted : Perm (bondList U m) (map (renamed (renumbering bonds n m)) (bondList bonds m))
@@ -57,7 +57,7 @@ pub record RoundTrip (atoms bonds : List ℤ) (n m : ℕ) (A B : List ℤ) : Typ
   pub still-valid : valid T U n m ≡ true
   pub again : (out ren : List ℕ) → lent T U out ren ≡ true → writeOf T U n m out ren ≡ write.accepted (textOf atoms bonds n m) (upTo (λ v. v) 0 n) out ren
 
--- a permutation of the numbers below n
+-- "The renumbering gives each atom's walk number": a permutation of the numbers below n
 pub record Permutes (n : ℕ) (r : List ℕ) : Type 0 where
   pub long : length r ≡ n
   pub below : (v : ℕ) → v < n → numbered r v < n
@@ -69,11 +69,13 @@ pub record Demand2 (atoms bonds : List ℤ) (n m : ℕ) (out ren : List ℕ) (A 
   pub text : take (writeOf atoms bonds n m out ren .size) (writeOf atoms bonds n m out ren .output) ≡ textOf atoms bonds n m
   pub numbers : take n (writeOf atoms bonds n m out ren .numbers) ≡ renumbering bonds n m
   pub permutes : Permutes n (renumbering bonds n m)
+  -- a molecule with a matching is read back
   pub matching : matchable atoms bonds n m ≡ true → RoundTrip atoms bonds n m A B
+  -- "A sound molecule without a placement is written by the same rules; reading its text gives 11."
   pub no-matching : matchable atoms bonds n m ≡ false → readOf (textOf atoms bonds n m) A B ≡ refused 11 0 A B
 
 -- ---- 14 and 15
--- the numbers 1 to 99: as many bridges may be open at once
+-- 14, "over 99 bridges open at once": the numbers are 1 to 99
 abbrev pub mostBridges : ℕ
 mostBridges = bridges - 1
 
@@ -81,7 +83,7 @@ mostBridges = bridges - 1
 abbrev pub openAt : List ℤ → ℕ → ℕ → ℕ → ℕ
 openAt bonds n m x = count (pending x) (unused n (bondList bonds m))
 
--- how many branches are open after the tokens, d before them
+-- 15, "the written branches nest over 64 deep": how many branches are open after the tokens, d before them
 abbrev pub depthAfter : List Tok → ℕ → ℕ
 depthAfter [] d = d
 depthAfter (apart w ∷ ts) d = depthAfter ts d
