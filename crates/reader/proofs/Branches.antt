@@ -47,7 +47,7 @@ open-act : (b p : ℕ) (μ : Memory) → b ≡ 40 → modeAct (seq plain) b p μ
 unfolding modeAct letters among nonzero bondSymbols letterOf selectedOf
 open-act b p μ e = rw e
 
-close-down : (b : ℕ) → b ≡ 41 → next (seq plain) b ≡ down
+pub close-down : (b : ℕ) → b ≡ 41 → next (seq plain) b ≡ down
 unfolding next atomOr bridgeOr letters among nonzero bondSymbols
 close-down b e = rw e
 
