@@ -1,27 +1,23 @@
 -- The end of a text, and what the public call tells of it. Assumes nothing.
-use Prim.Native.Nat.{ℕ, zero, suc, _+_, _-_, _≤_, _<_}
+use Prim.Native.Nat.{ℕ, zero, suc, _+_, _≤_, _<_}
 use native.Mathlib.Omega.{arith}
 use mathlib.Core.Path.{_≡_, refl, sym, ap, _∙_, subst, subst⁻¹}
 use mathlib.Core.Bool.{Bool, true, false}
 use mathlib.Core.List.{List, [], _∷_}
-use lib.ListN.{length, getD, set, replicate, length-replicate, drop}
+use lib.ListN.{length, getD, set, replicate, length-replicate}
 use lib.IntN.{ℤ, pos}
-use lib.Dec.{eqb, leb, ltb}
-use borrow.Author.Tests.{eqb-true, eqb-false, eq-eqb, ne-eqb, le-leb, lt-leb, lt-ltb, le-ltb}
+use lib.Dec.{eqb}
+use borrow.Author.Tests.{eqb-true, eqb-false, eq-eqb, le-leb, lt-leb, lt-ltb, le-ltb}
 use mir.Val.{toZ}
 use mir.Syntax.{w32}
 use mir.Facts.{toZ-pos}
-use Rattle.loops.specs.Loop.{pick, run, upTo}
+use Rattle.loops.specs.Loop.{pick, upTo}
 use Rattle.loops.proofs.Loops.{upTo-at}
-use Rattle.element.specs.Symbols.{among, letters}
 use Rattle.refusal.specs.declared.Refusal.{Refusal}
 use Rattle.refusal.specs.declared.Refusal.the-variants.{Short, LongText, Grammar, OpenBridge, NoMatching}
-use Rattle.refusal.specs.Code.{codeOf}
 use Rattle.valence.specs.Valence.{implied}
-use Rattle.grammar.specs.Grammar.{nonzero, bondSymbols}
 use Rattle.grammar.specs.declared.Last.the-variants.{Plain as plain}
 use Rattle.grammar.specs.declared.Mode.the-variants.{Seq as seq, Dot as dot}
-use Rattle.grammar.specs.declared.Out.the-variants.{Down as down}
 use Rattle.grammar.specs.declared.State as machine
 use Rattle.grammar.specs.declared.State.the-variants.{Start as start}
 use Rattle.grammar.specs.Machine.{next, step, resting, accepting}
@@ -36,13 +32,11 @@ use Rattle.state.specs.Limits.{maxText, maxDepth, bridges}
 use Rattle.state.specs.State.{started}
 use Rattle.reading.specs.Memory.{Memory, nothing, blank}
 use Rattle.reading.specs.Act.{act, modeAct}
-use Rattle.reading.specs.Read.{Told, zeros, refused, short, beginning, hydrogenate, hydrogenated, leftmost, placed, ended, finished, readFrom, readOf}
+use Rattle.reading.specs.Read.{Told, zeros, refused, short, beginning, hydrogenate, hydrogenated, leftmost, ended, finished, readFrom, readOf}
 use Rattle.reading.proofs.Hydrogens.{implied-small}
-use Rattle.reading.proofs.Outcome.{Fits}
 use Rattle.reading.proofs.Valid.{sane-valid}
 use Rattle.reading.proofs.Claims.{read-sane}
 use Rattle.field.specs.Rest.{rest, memory}
-use Rattle.field.specs.Field.{Peeked}
 use Rattle.field.proofs.Rest.{rest-end, rest-down-stop}
 use Rattle.field.proofs.Bytes.{there}
 use Rattle.reader.specs.declared.piece.Joint.{Joint}

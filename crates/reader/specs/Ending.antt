@@ -2,13 +2,12 @@
 use Prim.Native.Nat.{ℕ}
 use mathlib.Core.Path.{_≡_}
 use mathlib.Core.List.{List}
-use lib.ListN.{length, set}
+use lib.ListN.{set}
 use lib.IntN.{ℤ, pos}
 use lib.Dec.{eqb}
 use Rattle.loops.specs.Loop.{pick}
 use Rattle.refusal.specs.Code.{codeOf}
 use Rattle.valence.specs.Valence.{implied}
-use Rattle.grammar.specs.declared.State.the-variants.{Start as start}
 use Rattle.grammar.specs.Fold.{Answer, good, bad, answer}
 use Rattle.table.specs.Limits.{HYDROGENS}
 use Rattle.table.specs.Cells.{atomPlace, element, selected}

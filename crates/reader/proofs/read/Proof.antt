@@ -4,12 +4,6 @@ use Rattle.reader.proofs.Ends.{told-short, told-long, told-refused, tol
 use borrow.Author.Needs.{needs}
 use Rattle.reader.proofs.read.Statement.{statement}
 use Rattle.reader.proofs.read.Tie as tie
-use Rattle.reader.proofs.read.Reads as reads
-use Rattle.reader.proofs.read.Lts as lts
-use Rattle.reader.proofs.ending.end.Reads as end-reads
-use Rattle.reader.proofs.read_text.Reads as read-text-reads
-use Rattle.table.proofs.row.clear.Reads as clear-reads
-use Rattle.table.proofs.validity.enough.Reads as enough-reads
 
 enough-requires : tie.Need-enough-requires
 enough-requires c κs = search needs

@@ -3,11 +3,6 @@ use Rattle.reader.proofs.Ends.{fair-started, text-empty, text-refused, 
 use borrow.Author.Needs.{needs}
 use Rattle.reader.proofs.read_text.Statement.{statement}
 use Rattle.reader.proofs.read_text.Tie as tie
-use Rattle.reader.proofs.read_text.Reads as reads
-use Rattle.reader.proofs.read_text.Lts as lts
-use Rattle.reader.proofs.bridge.refuse.Reads as refuse-reads
-use Rattle.reader.proofs.sequence.sequence.Reads as sequence-reads
-use Rattle.state.proofs.State.new.Reads as new-reads
 
 new-requires : tie.Need-new-requires
 new-requires c κs = search needs

@@ -1,8 +1,6 @@
 use borrow.Author.Tests.{eq-eqb, ne-eqb, lt-ltb, le-ltb}
 use Rattle.reader.proofs.ending.earlier.Statement.{statement}
 use Rattle.reader.proofs.ending.earlier.Tie as tie
-use Rattle.reader.proofs.ending.earlier.Reads as reads
-use Rattle.reader.proofs.ending.earlier.Lts as lts
 
 returns : tie.Need-returns
 returns c = simp (eq-eqb _ _ (c .if1 .taken))

@@ -3,12 +3,6 @@ use Rattle.reader.proofs.Ends.{ended-open, ended-matched, ended-unmatch
 use borrow.Author.Needs.{needs}
 use Rattle.reader.proofs.ending.end.Statement.{statement}
 use Rattle.reader.proofs.ending.end.Tie as tie
-use Rattle.reader.proofs.ending.end.Reads as reads
-use Rattle.reader.proofs.ending.end.Lts as lts
-use Rattle.kekule.proofs.matchable.Reads as matchable-reads
-use Rattle.reader.proofs.ending.hydrogenate.Reads as hydrogenate-reads
-use Rattle.reader.proofs.ending.leftmost.Reads as leftmost-reads
-use Rattle.table.proofs.row.clear.Reads as clear-reads
 
 leftmost-requires : tie.Need-leftmost-requires
 leftmost-requires c κs = search needs

@@ -2,7 +2,6 @@ use Prim.Native.Nat.{_-_}
 use mathlib.Core.Path.{_≡_, _∙_}
 use native.Mathlib.Omega.{arith}
 use borrow.Author.Needs.{needs}
-use lib.ListN.{getD}
 use Rattle.loops.specs.Loop.{upTo}
 use Rattle.loops.proofs.Loops.{Edited, edited-start, edited-step, edited-end}
 use Rattle.table.specs.Limits.{maxAtoms}
@@ -11,10 +10,6 @@ use Rattle.reading.specs.Read as reading
 use Rattle.reader.proofs.Ends.{hydrogens-step}
 use Rattle.reader.proofs.ending.hydrogenate.Statement.{statement}
 use Rattle.reader.proofs.ending.hydrogenate.Tie as tie
-use Rattle.reader.proofs.ending.hydrogenate.Reads as reads
-use Rattle.reader.proofs.ending.hydrogenate.Lts as lts
-use Rattle.graph.proofs.fill_sums.Reads as fill-sums-reads
-use Rattle.reader.proofs.ending.hydrogenate_atom.Reads as hydrogenate-atom-reads
 
 abbrev Inv-loop : tie.InvT-loop
 Inv-loop atoms₀ bonds st sums n i₀ atoms i = (sums ≡ upTo (bondSum bonds (st .bonds)) 0 maxAtoms) × Edited (reading.hydrogenate (st .outside) bonds (st .bonds)) atoms₀ n i atoms

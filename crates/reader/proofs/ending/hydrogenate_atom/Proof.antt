@@ -5,11 +5,6 @@ use Rattle.reader.proofs.Ends.{hydrogens-put}
 use borrow.Author.Needs.{needs}
 use Rattle.reader.proofs.ending.hydrogenate_atom.Statement.{statement}
 use Rattle.reader.proofs.ending.hydrogenate_atom.Tie as tie
-use Rattle.reader.proofs.ending.hydrogenate_atom.Reads as reads
-use Rattle.reader.proofs.ending.hydrogenate_atom.Lts as lts
-use Rattle.table.proofs.cell.atom_number.Reads as atom-number-reads
-use Rattle.table.proofs.cell.put_atom_cell.Reads as put-atom-cell-reads
-use Rattle.valence.proofs.implied.Reads as implied-reads
 
 returns : tie.Need-returns
 returns c = simp (ne-eqb _ _ (c .if1 .taken))

@@ -7,9 +7,6 @@ use Rattle.state.specs.Limits.{bridges, maxText}
 use Rattle.reading.specs.Read.{earlier, leftmost}
 use Rattle.reader.proofs.ending.leftmost.Statement.{statement}
 use Rattle.reader.proofs.ending.leftmost.Tie as tie
-use Rattle.reader.proofs.ending.leftmost.Reads as reads
-use Rattle.reader.proofs.ending.leftmost.Lts as lts
-use Rattle.reader.proofs.ending.earlier.Reads as earlier-reads
 
 abbrev Inv-loop : tie.InvT-loop
 Inv-loop st p₀ i₀ p i = Ran (λ r q. earlier q (getD (st .opener) r 0) (getD (st .offset) r 0)) maxText bridges i p
