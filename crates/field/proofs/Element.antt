@@ -1,13 +1,13 @@
 -- The symbol of a bracket: what the machine does at its bytes is what looking it up says. Assumes nothing.
-use Prim.Native.Nat.{ℕ, zero, suc, _+_, _≤_, _<_}
+use Prim.Native.Nat.{ℕ, _+_, _≤_, _<_}
 use native.Mathlib.Omega.{arith}
 use mathlib.Core.Path.{_≡_, refl, sym, ap, _∙_}
 use mathlib.Core.Bool.{Bool, true, false}
 use mathlib.Core.List.{List, [], _∷_}
-use lib.ListN.{length, getD}
-use lib.IntN.{ℤ, pos}
+use lib.ListN.{length}
+use lib.IntN.{pos}
 use lib.Dec.{eqb, ltb}
-use borrow.Author.Tests.{eq-eqb, ne-eqb, eqb-true, ltb-true}
+use borrow.Author.Tests.{eqb-true, ltb-true}
 use Rattle.loops.specs.Loop.{pick}
 use Rattle.element.specs.Symbols.{among, listed, starts, symbols, marks, sameBytes}
 use Rattle.element.specs.Lookup.{symbolOf, selectedOf, numberOf, indexFrom}
@@ -15,16 +15,15 @@ use Rattle.element.specs.declared.Symbol.{Symbol}
 use Rattle.element.specs.declared.Symbol.the-variants.{Long, Brief, Selected, Half, Nothing}
 use Rattle.grammar.specs.Grammar.{digits}
 use Rattle.grammar.specs.declared.Mode.the-variants.{Isotope as isotope, Symbol1 as symbol1, Symbolled as symbolled}
-use Rattle.grammar.specs.declared.Out.{Out}
 use Rattle.grammar.specs.declared.Out.the-variants.{Stop as stop, To as to}
-use Rattle.grammar.specs.Machine.{next, resting, symbolOr, hydrating}
+use Rattle.grammar.specs.Machine.{next, resting, symbolOr}
 use Rattle.grammar.specs.Fold.{Answer, bad}
-use Rattle.grammar.proofs.Ends.{never, each, all, all-listed}
+use Rattle.grammar.proofs.Ends.{each, all, all-listed}
 use Rattle.grammar.proofs.Complete.{on-element}
 use Rattle.reading.specs.Memory.{Memory, drafted}
 use Rattle.reading.specs.Bracket as bytes
 use Rattle.reading.specs.Act.{modeAct}
-use Rattle.field.specs.Field.{Peeked, fields, restIn, Symbolled, namedEnd, afterNamed}
+use Rattle.field.specs.Field.{Peeked, fields, restIn, Symbolled}
 use Rattle.field.specs.declared.bracket.Named.{Named}
 use Rattle.field.proofs.Rest.{rest-stop, rest-to, alike}
 use Rattle.field.proofs.Bytes.{digit-no-symbol, some-in}

@@ -14,12 +14,11 @@ use borrow.Author.Tests.{eq-eqb, ne-eqb, lt-ltb}
 use Rattle.loops.specs.Loop.{pick}
 use Rattle.element.specs.Symbols.{among}
 use Rattle.grammar.specs.Grammar.{nonzero, digits, several, signs, symbols, starts, marks}
-use Rattle.grammar.specs.declared.Mode.{Mode}
 use Rattle.grammar.specs.declared.Mode.the-variants.{Bracket as bracket, Isotope as isotope, Symbolled as symbolled, Hydrogen as hydrogen, Hydrogens as hydrogens, Sign as sign, Charged as charged, Colon as colon, Extension as extension, Seq as seq}
 use Rattle.grammar.specs.declared.Last.the-variants.{Plain as plain}
 use Rattle.grammar.specs.declared.Out.the-variants.{Stop as stop, To as to}
 use Rattle.grammar.specs.Machine.{next, resting, symbolOr, hydrating, charging, extending, closing}
-use Rattle.grammar.specs.Fold.{Answer, bad, keeps}
+use Rattle.grammar.specs.Fold.{bad}
 use Rattle.reading.specs.Memory.{Memory, blank, rowOf, drafted, described}
 use Rattle.reading.specs.Bracket.{digit, signed, positive}
 use Rattle.reading.specs.Act.{modeAct}

@@ -4,17 +4,17 @@ use native.Mathlib.Omega.{arith}
 use mathlib.Core.Path.{_≡_, refl, sym, ap, _∙_, subst}
 use mathlib.Core.Bool.{Bool, true, false, _||_, _&&_}
 use mathlib.Core.List.{List, [], _∷_}
-use lib.ListN.{length, getD}
+use lib.ListN.{length}
 use lib.IntN.{ℤ, pos}
 use lib.Dec.{eqb}
 use mir.Val.{toZ}
 use mir.Syntax.{w32}
 use mir.Facts.{toZ-pos}
-use borrow.Author.Tests.{eq-eqb, ne-eqb, eqb-true, eqb-false}
+use borrow.Author.Tests.{ne-eqb, eqb-true}
 use Rattle.loops.specs.Loop.{pick}
 use Rattle.loops.proofs.Loops.{and-left, and-right}
-use Rattle.element.specs.Symbols.{among, letters, symbols, sameBytes}
-use Rattle.element.specs.Lookup.{letterOf, selectedOf, numberOf, indexFrom}
+use Rattle.element.specs.Symbols.{among, letters}
+use Rattle.element.specs.Lookup.{letterOf, selectedOf, numberOf}
 use Rattle.element.specs.declared.Letter.{Letter}
 use Rattle.element.specs.declared.Letter.the-variants.{Plain as Alone, Selected, Half, Bracket as Opening, Nothing}
 use Rattle.grammar.specs.Grammar.{nonzero, bondSymbols}
@@ -25,15 +25,15 @@ use Rattle.grammar.specs.declared.Mode.the-variants.{Seq as seq, Dot as dot, Le
 use Rattle.grammar.specs.declared.Out.{Out}
 use Rattle.grammar.specs.declared.Out.the-variants.{Stop as stop, To as to}
 use Rattle.grammar.specs.Machine.{next, resting, atomOr, bridgeOr, lastOf, goesOn}
-use Rattle.grammar.specs.Fold.{Answer, bad, keeps}
+use Rattle.grammar.specs.Fold.{keeps}
 use Rattle.grammar.proofs.Ends.{each}
 use Rattle.table.specs.declared.Atom.{Atom}
 use Rattle.state.specs.declared.Fields.{Fields}
-use Rattle.reading.specs.Memory.{Memory, begun, described, drafted, bareRow, rowOf, blank}
-use Rattle.reading.specs.Act.{modeAct, atomAct, firstByte, orAtom}
+use Rattle.reading.specs.Memory.{Memory, begun, described, bareRow, rowOf, blank}
+use Rattle.reading.specs.Act.{modeAct, atomAct, firstByte}
 use Rattle.field.specs.Rest.{rest}
 use Rattle.field.specs.Field.{Peeked, Bracketed}
-use Rattle.field.specs.Spelled.{Begins, Admitted, SpellsRow, SpellsNothing, SpellsNot, Spells}
+use Rattle.field.specs.Spelled.{Begins, Admitted, SpellsRow, Spells}
 use Rattle.field.specs.declared.spelled.Spelled.{Spelled}
 use Rattle.field.specs.declared.bracket.Bracket.{Bracket}
 use Rattle.field.proofs.Rest.{rest-stop, rest-to, alike, alike-dead}

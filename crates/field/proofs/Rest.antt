@@ -1,23 +1,21 @@
 -- Laws of the work that remains: one for each thing that a byte can do. Assumes nothing.
-use Prim.Native.Nat.{ℕ, zero, suc, _+_, _≤_, _<_}
+use Prim.Native.Nat.{ℕ, suc, _+_, _≤_, _<_}
 use native.Mathlib.Omega.{arith}
 use native.Mathlib.Numerals.{add-one}
 use native.Mathlib.Decide.{decLt}
 use mathlib.Core.Path.{_≡_, refl, sym, ap, _∙_}
-use mathlib.Core.Bool.{Bool, true, false}
+use mathlib.Core.Bool.{false}
 use mathlib.Core.List.{List, [], _∷_}
-use lib.ListN.{length, getD, drop, drop-of-length-le}
+use lib.ListN.{length, drop, drop-of-length-le}
 use lib.Seq.{drop-cons}
 use Rattle.loops.specs.Loop.{pick}
 use Rattle.grammar.specs.declared.Mode.{Mode}
 use Rattle.grammar.specs.declared.Mode.the-variants.{Inside as inside, Seq as seq}
 use Rattle.grammar.specs.declared.Last.the-variants.{Plain as plain}
 use Rattle.grammar.specs.declared.State.{State}
-use Rattle.grammar.specs.declared.State.the-variants.{Dead as dead, At as at}
-use Rattle.grammar.specs.declared.Out.{Out}
 use Rattle.grammar.specs.declared.Out.the-variants.{Stop as stop, To as to, Up as up, Down as down}
 use Rattle.grammar.specs.Machine.{next, turn, step, resting, alive, accepting}
-use Rattle.grammar.specs.Fold.{Act, keeps, refuses, Reading, going, halted, after, feed, read, Answer, good, bad, finish}
+use Rattle.grammar.specs.Fold.{keeps, refuses, Reading, halted, after, feed, read, good, bad, finish}
 use Rattle.reading.specs.Memory.{Memory}
 use Rattle.reading.specs.Act.{Acts, act, modeAct}
 use Rattle.field.specs.Rest.{rest}

@@ -1,8 +1,7 @@
 -- What the field readers promise: after the field, the reading of the bracket goes on with the field in its draft, or is refused
-use Prim.Native.Nat.{ℕ, suc, _+_, _*_, _≤_, _<_}
+use Prim.Native.Nat.{ℕ, _+_, _*_, _≤_, _<_}
 use mathlib.Core.Path.{_≡_}
 use mathlib.Core.List.{List}
-use mathlib.Core.Bool.{Bool, true, false}
 use lib.ListN.{length, getD}
 use lib.IntN.{ℤ, pos}
 use Rattle.loops.specs.Loop.{pick}

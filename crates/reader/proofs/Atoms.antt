@@ -1,16 +1,16 @@
 -- One atom more: a law for each way that it can go. Assumes nothing.
-use Prim.Native.Nat.{ℕ, zero, suc, _+_, _≤_, _<_}
+use Prim.Native.Nat.{ℕ, _+_, _<_}
 use native.Mathlib.Omega.{arith}
 use mathlib.Core.Path.{_≡_, refl, sym, ap, _∙_, subst}
-use mathlib.Core.Bool.{Bool, true, false, _&&_, not}
+use mathlib.Core.Bool.{Bool, true, false, _&&_}
 use mathlib.Core.List.{List}
-use lib.ListN.{length, getD}
-use lib.IntN.{ℤ, pos}
-use lib.Dec.{eqb, leb}
+use lib.ListN.{getD}
+use lib.IntN.{ℤ}
+use lib.Dec.{leb}
 use mir.Val.{toZ}
 use mir.Syntax.{w32}
 use mir.Facts.{toZ-pos}
-use borrow.Author.Tests.{lt-ltb, leb-false, leb-true}
+use borrow.Author.Tests.{lt-ltb, leb-false}
 use Rattle.loops.specs.Loop.{pick}
 use Rattle.ids.specs.declared.AtomId.{AtomId}
 use Rattle.element.specs.Lookup.{letterOf}
@@ -19,14 +19,14 @@ use Rattle.refusal.specs.declared.Refusal.the-variants.{Grammar, ManyAtoms, Man
 use Rattle.refusal.specs.Code.{codeOf}
 use Rattle.grammar.specs.declared.Last.the-variants.{Plain as plain}
 use Rattle.grammar.specs.declared.Mode.the-variants.{Seq as seq, Dot as dot}
-use Rattle.grammar.specs.Fold.{keeps, refuses, bad}
+use Rattle.grammar.specs.Fold.{keeps, refuses}
 use Rattle.table.specs.Limits.{maxAtoms, maxBonds}
 use Rattle.table.specs.Rows.{withAtom, putAtom, withBond, putBond}
 use Rattle.table.specs.declared.Atom.{Atom}
 use Rattle.table.specs.declared.Bond.{Bond}
 use Rattle.state.specs.declared.State.{State}
 use Rattle.state.specs.declared.Fields.{Fields}
-use Rattle.reading.specs.Memory.{Memory, nothing, kindOf, afterDot, bondRow, extended, begun, described, drafted}
+use Rattle.reading.specs.Memory.{Memory, nothing, kindOf, bondRow, extended, begun, described, drafted}
 use Rattle.reading.specs.Act.{Acts, modeAct, atomAct, firstByte}
 use Rattle.field.specs.Rest.{rest, memory}
 use Rattle.field.specs.Spelled.{Begins, Admitted, SpellsRow, SpellsNothing, SpellsNot, Spells}
@@ -37,7 +37,7 @@ use Rattle.reader.specs.declared.piece.Joint.{Joint}
 use Rattle.reader.specs.declared.atom.Added.{Added}
 use Rattle.reader.specs.declared.atom.Crowd.{Crowd}
 use Rattle.reader.specs.Piece.{pendingOf}
-use Rattle.reader.specs.Added.{bondedBy, crowdOf, Reaches, Counts, AddsAtom, AddsNot, Adds}
+use Rattle.reader.specs.Added.{bondedBy, crowdOf, Counts, AddsNot, Adds}
 
 pub bond-row : (a b k : ℕ) → a < 65536 → b < 65536 → k < 256 → _≡_ {A = Bond} (record { first = toZ w32 a; second = toZ w32 b; kind = toZ w32 k }) (bondRow a b k)
 bond-row a b k ha hb hk = simp (toZ-pos w32 {n = a} (omega arith), toZ-pos w32 {n = b} (omega arith), toZ-pos w32 {n = k} (omega arith))

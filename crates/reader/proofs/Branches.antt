@@ -1,9 +1,8 @@
 -- A branch: what is left to read before its `(` is what is left after its `)`. Assumes nothing.
-use Prim.Native.Nat.{ℕ, zero, suc, _+_, _-_, _≤_, _<_}
+use Prim.Native.Nat.{ℕ, suc, _+_, _-_, _≤_, _<_}
 use native.Mathlib.Omega.{arith}
 use native.Mathlib.Numerals.{add-one}
-use mathlib.Core.Path.{_≡_, refl, sym, ap, _∙_, subst, subst⁻¹}
-use mathlib.Core.Bool.{true, false}
+use mathlib.Core.Path.{_≡_, sym, ap, _∙_, subst, subst⁻¹}
 use mathlib.Core.List.{List}
 use lib.ListN.{length, getD}
 use lib.IntN.{ℤ}
@@ -13,13 +12,12 @@ use Rattle.element.specs.Symbols.{among, letters}
 use Rattle.element.specs.Lookup.{letterOf, selectedOf}
 use Rattle.refusal.specs.declared.Refusal.{Refusal}
 use Rattle.refusal.specs.declared.Refusal.the-variants.{Grammar, DeepBranch}
-use Rattle.refusal.specs.Code.{codeOf}
 use Rattle.grammar.specs.Grammar.{nonzero, bondSymbols}
 use Rattle.grammar.specs.declared.Last.the-variants.{Plain as plain}
-use Rattle.grammar.specs.declared.Mode.the-variants.{Seq as seq, Dot as dot, Inside as inside}
+use Rattle.grammar.specs.declared.Mode.the-variants.{Seq as seq, Dot as dot}
 use Rattle.grammar.specs.declared.Out.the-variants.{Up as up, Down as down}
 use Rattle.grammar.specs.Machine.{next, resting, atomOr, bridgeOr}
-use Rattle.grammar.specs.Fold.{keeps, refuses, good, bad}
+use Rattle.grammar.specs.Fold.{keeps, good, bad}
 use Rattle.table.specs.Limits.{maxAtoms}
 use Rattle.state.specs.declared.State.{State}
 use Rattle.state.specs.declared.Fields.{Fields}
@@ -47,7 +45,7 @@ open-act : (b p : ℕ) (μ : Memory) → b ≡ 40 → modeAct (seq plain) b p μ
 unfolding modeAct letters among nonzero bondSymbols letterOf selectedOf
 open-act b p μ e = rw e
 
-close-down : (b : ℕ) → b ≡ 41 → next (seq plain) b ≡ down
+pub close-down : (b : ℕ) → b ≡ 41 → next (seq plain) b ≡ down
 unfolding next atomOr bridgeOr letters among nonzero bondSymbols
 close-down b e = rw e
 

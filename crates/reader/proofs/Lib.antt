@@ -3,3 +3,4 @@ pub mod Atoms
 pub mod Bridges
 pub mod Turns
 pub mod Branches
+pub mod Ends

@@ -1,13 +1,13 @@
 -- What the bytes at an offset make the next piece: a law for each way. Assumes nothing.
 use Prim.Native.Nat.{ℕ, zero, suc, _+_, _-_, _*_, _≤_, _<_}
 use native.Mathlib.Omega.{arith}
-use mathlib.Core.Path.{_≡_, refl, sym, ap, _∙_, subst}
+use mathlib.Core.Path.{_≡_, refl, sym, ap, _∙_}
 use mathlib.Core.Bool.{Bool, true, false}
-use mathlib.Core.List.{List, [], _∷_}
+use mathlib.Core.List.{List}
 use lib.ListN.{length, getD}
 use lib.IntN.{ℤ}
 use lib.Dec.{eqb}
-use borrow.Author.Tests.{eq-eqb, ne-eqb, eqb-true, eqb-false}
+use borrow.Author.Tests.{ne-eqb, eqb-true}
 use Rattle.loops.specs.Loop.{pick}
 use Rattle.element.specs.Symbols.{among, letters}
 use Rattle.element.specs.Lookup.{letterOf, selectedOf}
@@ -19,24 +19,22 @@ use Rattle.grammar.specs.declared.Mode.{Mode}
 use Rattle.grammar.specs.declared.Mode.the-variants.{Seq as seq, Bond as bond, Dot as dot, Inside as inside, Percent as percent, Percent1 as percent1}
 use Rattle.grammar.specs.declared.Out.the-variants.{Stop as stop, To as to}
 use Rattle.grammar.specs.Machine.{next, resting, atomOr, bridgeOr}
-use Rattle.grammar.specs.Fold.{Answer, bad, keeps, refuses}
+use Rattle.grammar.specs.Fold.{keeps, refuses}
 use Rattle.grammar.proofs.Ends.{each}
 use Rattle.state.specs.declared.State.{State}
 use Rattle.state.specs.declared.Fields.{Fields}
 use Rattle.state.specs.State.{joined, bridged}
-use Rattle.state.specs.Limits.{bridges}
-use Rattle.reading.specs.Memory.{Memory, Pending, nothing, dotted, symbol, symbolKind, awaiting, counting, moved, kindOf, closeRefusal}
+use Rattle.reading.specs.Memory.{Memory, nothing, dotted, symbol, symbolKind, counting, moved, kindOf, closeRefusal}
 use Rattle.reading.specs.Bracket.{digit}
-use Rattle.reading.specs.Act.{Acts, modeAct, atomAct, bridgeAct, orRefuse, bridgeBond}
+use Rattle.reading.specs.Act.{Acts, modeAct, bridgeAct, orRefuse, bridgeBond}
 use Rattle.field.specs.Rest.{rest, memory}
 use Rattle.field.specs.Field.{Peeked}
 use Rattle.field.proofs.Rest.{rest-to, rest-refused, rest-stop, rest-dead, alike, alike-in, alike-dead}
-use Rattle.field.proofs.Bytes.{digit-low, digit-high, nonzero-digit, digit-in, byte-in, there}
+use Rattle.field.proofs.Bytes.{digit-high, nonzero-digit, digit-in, byte-in}
 use Rattle.field.proofs.Letters.{nothing-first}
 use Rattle.reader.specs.declared.piece.Joint.{Joint}
-use Rattle.reader.specs.declared.piece.Start.{Start}
 use Rattle.reader.specs.declared.piece.Piece.{Piece}
-use Rattle.reader.specs.Piece.{pendingOf, jointOf, kindMode, kindPending, Loose, Free, afterBridge, SeenAtom, SeenBridge, SeenBranch, SeenEnd, SeenWrong, Seen, Joined}
+use Rattle.reader.specs.Piece.{jointOf, kindMode, kindPending, Loose, Free, afterBridge, SeenAtom, Seen, Joined}
 
 -- ---- an atom, where no other piece can begin
 plain-dot : (s : List ℕ) (p : ℕ) {b : ℕ} (μ : Memory) → Peeked s p b → p < length s → among b nonzero ≡ false → eqb b 37 ≡ false → among b bondSymbols ≡ false → eqb b 46 ≡ false → eqb b 40 ≡ false → eqb b 41 ≡ false

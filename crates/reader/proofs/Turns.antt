@@ -1,7 +1,7 @@
 -- The loop over the pieces of a sequence: what was left to read before a piece is what is left after it. Assumes nothing.
-use Prim.Native.Nat.{ℕ, zero, suc, _+_, _≤_, _<_}
+use Prim.Native.Nat.{ℕ, _+_, _≤_, _<_}
 use native.Mathlib.Omega.{arith}
-use mathlib.Core.Path.{_≡_, refl, sym, ap, _∙_, subst, subst⁻¹}
+use mathlib.Core.Path.{_≡_, refl, ap, _∙_, subst, subst⁻¹}
 use mathlib.Core.List.{List}
 use lib.ListN.{length, getD}
 use lib.IntN.{ℤ}
@@ -11,7 +11,7 @@ use Rattle.refusal.specs.Code.{codeOf}
 use Rattle.grammar.specs.declared.Last.the-variants.{Plain as plain}
 use Rattle.grammar.specs.declared.Mode.the-variants.{Seq as seq, Dot as dot}
 use Rattle.grammar.specs.Fold.{Answer, bad}
-use Rattle.table.specs.Limits.{maxAtoms, maxBonds}
+use Rattle.table.specs.Limits.{maxAtoms}
 use Rattle.state.specs.declared.State.{State}
 use Rattle.state.specs.declared.Fields.{Fields}
 use Rattle.state.specs.Limits.{bridges}

@@ -1,8 +1,8 @@
 -- What adding an atom promises
-use Prim.Native.Nat.{ℕ, _+_, _≤_, _<_}
+use Prim.Native.Nat.{ℕ, _≤_, _<_}
 use mathlib.Core.Path.{_≡_}
 use mathlib.Core.List.{List}
-use mathlib.Core.Bool.{Bool, true, false, _&&_, not}
+use mathlib.Core.Bool.{Bool, _&&_, not}
 use lib.ListN.{length}
 use lib.IntN.{ℤ}
 use lib.Dec.{eqb, leb}

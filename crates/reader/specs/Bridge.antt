@@ -1,13 +1,10 @@
 -- What a bridge promises
-use Prim.Native.Nat.{ℕ, _+_, _≤_, _<_}
+use Prim.Native.Nat.{ℕ}
 use mathlib.Core.Path.{_≡_}
 use mathlib.Core.List.{List}
-use mathlib.Core.Bool.{Bool, true, false, _&&_, not}
-use lib.ListN.{length}
 use lib.IntN.{ℤ}
 use lib.Dec.{eqb, leb}
 use Rattle.loops.specs.Loop.{pick}
-use Rattle.refusal.specs.declared.Refusal.{Refusal}
 use Rattle.refusal.specs.declared.Refusal.the-variants.{ManyBonds, SelfBridge, RepeatedBond, SymbolClash}
 use Rattle.refusal.specs.Code.{codeOf}
 use Rattle.grammar.specs.Fold.{keeps, refuses}

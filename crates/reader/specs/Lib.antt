@@ -2,3 +2,4 @@ pub mod Piece
 pub mod Added
 pub mod Went
 pub mod Bridge
+pub mod Ending

@@ -1,6 +1,79 @@
 // Reading a text into an atom table and a bond table.
+ghost use mathlib.Core.Path.{_≡_};
+ghost use Prim.Native.Nat.{_≤_};
+ghost use lib.ListN.{length};
+ghost use Rattle.state.specs.Limits.{maxText};
+ghost use Rattle.reading.specs.Read.{readOf};
+ghost use Rattle.reader.specs.Ending.{told, TextRead};
+use crate::bridge::refuse;
+use crate::bridge::Out;
+use crate::bridge::Why;
+use crate::ending::Answer;
+use crate::ending::MAX_TEXT;
+use crate::piece::Joint;
+use crate::sequence::sequence;
+use refusal::Refusal;
+use state::State;
+use table::row::clear;
+use table::validity;
 
 pub mod atom;
 pub mod bridge;
+pub mod ending;
 pub mod piece;
 pub mod sequence;
+
+// The whole text, into zeroed tables: empty, or one sequence.
+fn read_text(text: &[u8], atoms: &mut [i32], bonds: &mut [i32]) -> Out
+    requires { ⌜ length (now text) ≤ maxText ⌝ }
+    ensures { λ r. ⌜ TextRead (now (text .entry)) (now (atoms .entry)) (now (bonds .entry)) (now (atoms .exit)) (now (bonds .exit)) r ⌝ }
+{
+    let st = State::new();
+    if text.len() == 0 {
+        let fine = Why::Fine;
+        return Out {
+            why: fine,
+            at: 0,
+            st,
+        };
+    }
+    let o = sequence(text, 0, Joint::Elided, st, atoms, bonds);
+    let w = o.why;
+    let Why::Fine = w else {
+        return o;
+    };
+    let e = o.at;
+    if e < text.len() {
+        let t = o.st;
+        return refuse(Refusal::Grammar, e, t);
+    }
+    o
+}
+
+// Reads a text: the counts of atoms and bonds, the tables holding their rows and zeros after them; or the refusal with its offset,
+// 1 to 11 in 01's order. A table that is too short (1) leaves both as they were; every other refusal leaves both zeroed.
+pub fn read(text: &[u8], atoms: &mut [i32], bonds: &mut [i32]) -> Answer
+    ensures { λ r. ⌜ told r (now (atoms .exit)) (now (bonds .exit)) ≡ readOf (now (text .entry)) (now (atoms .entry)) (now (bonds .entry)) ⌝ }
+{
+    if !validity::enough(atoms, bonds) {
+        return Answer::Refused(Refusal::Short, 0);
+    }
+    clear(atoms);
+    clear(bonds);
+    if MAX_TEXT < text.len() {
+        return Answer::Refused(Refusal::LongText, MAX_TEXT);
+    }
+    let o = read_text(text, atoms, bonds);
+    let w = o.why;
+    match w {
+        Why::Fine => {
+            let st = o.st;
+            ending::end(st, atoms, bonds)
+        }
+        Why::Refused(r, p) => {
+            clear(atoms);
+            clear(bonds);
+            Answer::Refused(r, p)
+        }
+    }
+}

@@ -5,17 +5,6 @@ use Rattle.field.proofs.Chain.{after-isotope, no-isotope, after-symbol,
 use borrow.Author.Needs.{needs}
 use Rattle.field.proofs.bracket.bracket_at.Statement.{statement}
 use Rattle.field.proofs.bracket.bracket_at.Tie as tie
-use Rattle.field.proofs.bracket.bracket_at.Reads as reads
-use Rattle.field.proofs.bracket.bracket_at.Lts as lts
-use Rattle.field.proofs.bracket.charge_at.Reads as charge-at-reads
-use Rattle.field.proofs.bracket.charge_end.Reads as charge-end-reads
-use Rattle.field.proofs.bracket.extension_at.Reads as extension-at-reads
-use Rattle.field.proofs.bracket.field_end.Reads as field-end-reads
-use Rattle.field.proofs.bracket.hydrogens_at.Reads as hydrogens-at-reads
-use Rattle.field.proofs.bracket.isotope_at.Reads as isotope-at-reads
-use Rattle.field.proofs.bracket.named_end.Reads as named-end-reads
-use Rattle.field.proofs.bracket.symbol_at.Reads as symbol-at-reads
-use Rattle.field.proofs.byte.peek.Reads as peek-reads
 
 isotope-at-requires : tie.Need-isotope-at-requires
 isotope-at-requires c κs = search needs

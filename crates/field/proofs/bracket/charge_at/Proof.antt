@@ -7,14 +7,6 @@ use Rattle.field.proofs.Fields.{charge-none, charge-many, charge-wrong,
 use borrow.Author.Needs.{needs}
 use Rattle.field.proofs.bracket.charge_at.Statement.{statement}
 use Rattle.field.proofs.bracket.charge_at.Tie as tie
-use Rattle.field.proofs.bracket.charge_at.Reads as reads
-use Rattle.field.proofs.bracket.charge_at.Lts as lts
-use Rattle.field.proofs.bracket.charge_of.Reads as charge-of-reads
-use Rattle.field.proofs.byte.is_digit.Reads as is-digit-reads
-use Rattle.field.proofs.byte.is_several.Reads as is-several-reads
-use Rattle.field.proofs.byte.is_sign.Reads as is-sign-reads
-use Rattle.field.proofs.byte.peek.Reads as peek-reads
-use Rattle.field.proofs.byte.value.Reads as value-reads
 
 peek-requires : tie.Need-peek-requires
 peek-requires c κs = search needs

@@ -2,8 +2,6 @@ use Rattle.field.proofs.Fields.{charge-plus, charge-fits, charge-minus}
 use borrow.Author.Needs.{needs}
 use Rattle.field.proofs.bracket.charge_of.Statement.{statement}
 use Rattle.field.proofs.bracket.charge_of.Tie as tie
-use Rattle.field.proofs.bracket.charge_of.Reads as reads
-use Rattle.field.proofs.bracket.charge_of.Lts as lts
 
 cast-size : tie.Need-cast-size
 cast-size c = search needs

@@ -6,12 +6,6 @@ use Rattle.field.proofs.Fields.{extension-none, extension-wrong, extens
 use borrow.Author.Needs.{needs}
 use Rattle.field.proofs.bracket.extension_at.Statement.{statement}
 use Rattle.field.proofs.bracket.extension_at.Tie as tie
-use Rattle.field.proofs.bracket.extension_at.Reads as reads
-use Rattle.field.proofs.bracket.extension_at.Lts as lts
-use Rattle.field.proofs.byte.is_nonzero.Reads as is-nonzero-reads
-use Rattle.field.proofs.byte.more.Reads as more-reads
-use Rattle.field.proofs.byte.peek.Reads as peek-reads
-use Rattle.field.proofs.byte.value.Reads as value-reads
 
 peek-requires : tie.Need-peek-requires
 peek-requires c κs = search needs

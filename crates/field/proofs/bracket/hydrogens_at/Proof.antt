@@ -4,12 +4,6 @@ use Rattle.field.proofs.Fields.{hydrogens-none, hydrogens-many, hydroge
 use borrow.Author.Needs.{needs}
 use Rattle.field.proofs.bracket.hydrogens_at.Statement.{statement}
 use Rattle.field.proofs.bracket.hydrogens_at.Tie as tie
-use Rattle.field.proofs.bracket.hydrogens_at.Reads as reads
-use Rattle.field.proofs.bracket.hydrogens_at.Lts as lts
-use Rattle.field.proofs.byte.is_digit.Reads as is-digit-reads
-use Rattle.field.proofs.byte.is_several.Reads as is-several-reads
-use Rattle.field.proofs.byte.peek.Reads as peek-reads
-use Rattle.field.proofs.byte.value.Reads as value-reads
 
 peek-requires : tie.Need-peek-requires
 peek-requires c κs = search needs

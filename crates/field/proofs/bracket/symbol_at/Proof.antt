@@ -4,10 +4,6 @@ use Rattle.field.proofs.Element.{symbol-zero, symbol-long, symbol-brief
 use borrow.Author.Needs.{needs}
 use Rattle.field.proofs.bracket.symbol_at.Statement.{statement}
 use Rattle.field.proofs.bracket.symbol_at.Tie as tie
-use Rattle.field.proofs.bracket.symbol_at.Reads as reads
-use Rattle.field.proofs.bracket.symbol_at.Lts as lts
-use Rattle.element.proofs.lookup.Reads as lookup-reads
-use Rattle.field.proofs.byte.peek.Reads as peek-reads
 
 peek-requires : tie.Need-peek-requires
 peek-requires c κs = search needs

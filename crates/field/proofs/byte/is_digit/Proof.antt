@@ -2,8 +2,6 @@ use Rattle.grammar.specs.Grammar.{digits}
 use Rattle.field.proofs.Bytes.{range}
 use Rattle.field.proofs.byte.is_digit.Statement.{statement}
 use Rattle.field.proofs.byte.is_digit.Tie as tie
-use Rattle.field.proofs.byte.is_digit.Reads as reads
-use Rattle.field.proofs.byte.is_digit.Lts as lts
 
 returns : tie.Need-returns
 unfolding digits

@@ -2,8 +2,6 @@ use Rattle.grammar.specs.Grammar.{nonzero}
 use Rattle.field.proofs.Bytes.{range}
 use Rattle.field.proofs.byte.is_nonzero.Statement.{statement}
 use Rattle.field.proofs.byte.is_nonzero.Tie as tie
-use Rattle.field.proofs.byte.is_nonzero.Reads as reads
-use Rattle.field.proofs.byte.is_nonzero.Lts as lts
 
 returns : tie.Need-returns
 unfolding nonzero

@@ -2,8 +2,6 @@ use Rattle.grammar.specs.Grammar.{several}
 use Rattle.field.proofs.Bytes.{range}
 use Rattle.field.proofs.byte.is_several.Statement.{statement}
 use Rattle.field.proofs.byte.is_several.Tie as tie
-use Rattle.field.proofs.byte.is_several.Reads as reads
-use Rattle.field.proofs.byte.is_several.Lts as lts
 
 returns : tie.Need-returns
 unfolding several

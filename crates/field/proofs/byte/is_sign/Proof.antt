@@ -3,8 +3,6 @@ use Rattle.element.specs.Symbols.{among}
 use Rattle.field.proofs.Bytes.{either}
 use Rattle.field.proofs.byte.is_sign.Statement.{statement}
 use Rattle.field.proofs.byte.is_sign.Tie as tie
-use Rattle.field.proofs.byte.is_sign.Reads as reads
-use Rattle.field.proofs.byte.is_sign.Lts as lts
 
 returns : tie.Need-returns
 unfolding signs among

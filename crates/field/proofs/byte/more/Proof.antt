@@ -1,15 +1,8 @@
-use mathlib.Core.Path.{_≡_, sym, ap, _∙_}
-use native.Mathlib.Omega.{arith}
-use denote.Ref.{now}
+use mathlib.Core.Path.{sym, _∙_}
 use Rattle.field.proofs.Bytes.{grown, kept}
 use borrow.Author.Needs.{needs}
 use Rattle.field.proofs.byte.more.Statement.{statement}
 use Rattle.field.proofs.byte.more.Tie as tie
-use Rattle.field.proofs.byte.more.Reads as reads
-use Rattle.field.proofs.byte.more.Lts as lts
-use Rattle.field.proofs.byte.is_digit.Reads as is-digit-reads
-use Rattle.field.proofs.byte.peek.Reads as peek-reads
-use Rattle.field.proofs.byte.value.Reads as value-reads
 
 peek-requires : tie.Need-peek-requires
 peek-requires c κs = search needs

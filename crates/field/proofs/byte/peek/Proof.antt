@@ -5,8 +5,6 @@ use lib.ListN.{List·getD-eq-default}
 use borrow.Author.Needs.{needs}
 use Rattle.field.proofs.byte.peek.Statement.{statement}
 use Rattle.field.proofs.byte.peek.Tie as tie
-use Rattle.field.proofs.byte.peek.Reads as reads
-use Rattle.field.proofs.byte.peek.Lts as lts
 
 shared-slice-read-result : tie.Need-shared-slice-read-result
 shared-slice-read-result c = search needs

@@ -2,8 +2,6 @@ use borrow.Author.Tests.{eq-eqb, ne-eqb}
 use Rattle.reading.specs.Memory.{symbolKind}
 use Rattle.field.proofs.byte.symbol_kind.Statement.{statement}
 use Rattle.field.proofs.byte.symbol_kind.Tie as tie
-use Rattle.field.proofs.byte.symbol_kind.Reads as reads
-use Rattle.field.proofs.byte.symbol_kind.Lts as lts
 
 returns : tie.Need-returns
 unfolding symbolKind

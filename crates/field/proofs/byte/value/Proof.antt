@@ -4,8 +4,6 @@ use Rattle.field.proofs.Bytes.{digit-low, digit-high}
 use borrow.Author.Needs.{needs}
 use Rattle.field.proofs.byte.value.Statement.{statement}
 use Rattle.field.proofs.byte.value.Tie as tie
-use Rattle.field.proofs.byte.value.Reads as reads
-use Rattle.field.proofs.byte.value.Lts as lts
 
 sub-result : tie.Need-sub-result
 sub-result c = digit-low _ (c .pre)

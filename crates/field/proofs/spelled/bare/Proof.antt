@@ -2,8 +2,6 @@ use Rattle.field.proofs.Letters.{bare-row}
 use borrow.Author.Needs.{needs}
 use Rattle.field.proofs.spelled.bare.Statement.{statement}
 use Rattle.field.proofs.spelled.bare.Tie as tie
-use Rattle.field.proofs.spelled.bare.Reads as reads
-use Rattle.field.proofs.spelled.bare.Lts as lts
 
 cast-t3 : tie.Need-cast-t3
 cast-t3 c = search needs

@@ -2,10 +2,6 @@ use borrow.Author.Needs.{needs}
 use Rattle.field.proofs.Letters.{spells-bracket, spells-broken}
 use Rattle.field.proofs.spelled.boxed_at.Statement.{statement}
 use Rattle.field.proofs.spelled.boxed_at.Tie as tie
-use Rattle.field.proofs.spelled.boxed_at.Reads as reads
-use Rattle.field.proofs.spelled.boxed_at.Lts as lts
-use Rattle.field.proofs.bracket.bracket_at.Reads as bracket-at-reads
-use Rattle.field.proofs.spelled.row_of.Reads as row-of-reads
 
 add-bracket-at : tie.Need-add-bracket-at
 add-bracket-at c = search needs

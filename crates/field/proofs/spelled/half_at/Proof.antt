@@ -2,10 +2,6 @@ use Rattle.field.proofs.Letters.{spells-At, spells-Ts, spells-no-At, sp
 use borrow.Author.Needs.{needs}
 use Rattle.field.proofs.spelled.half_at.Statement.{statement}
 use Rattle.field.proofs.spelled.half_at.Tie as tie
-use Rattle.field.proofs.spelled.half_at.Reads as reads
-use Rattle.field.proofs.spelled.half_at.Lts as lts
-use Rattle.field.proofs.byte.peek.Reads as peek-reads
-use Rattle.field.proofs.spelled.bare.Reads as bare-reads
 
 add-peek : tie.Need-add-peek
 add-peek c = search needs

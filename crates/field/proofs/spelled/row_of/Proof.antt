@@ -4,8 +4,6 @@ use Rattle.field.proofs.Letters.{field-row}
 use borrow.Author.Needs.{needs}
 use Rattle.field.proofs.spelled.row_of.Statement.{statement}
 use Rattle.field.proofs.spelled.row_of.Tie as tie
-use Rattle.field.proofs.spelled.row_of.Reads as reads
-use Rattle.field.proofs.spelled.row_of.Lts as lts
 
 cast-t2 : tie.Need-cast-t2
 cast-t2 c = search needs

@@ -4,14 +4,6 @@ use Rattle.field.proofs.Bytes.{some-in}
 use Rattle.field.proofs.Letters.{spells-zero, spells-selected, spells-nothing}
 use Rattle.field.proofs.spelled.spell_at.Statement.{statement}
 use Rattle.field.proofs.spelled.spell_at.Tie as tie
-use Rattle.field.proofs.spelled.spell_at.Reads as reads
-use Rattle.field.proofs.spelled.spell_at.Lts as lts
-use Rattle.element.proofs.atom_start.Reads as atom-start-reads
-use Rattle.field.proofs.byte.peek.Reads as peek-reads
-use Rattle.field.proofs.spelled.bare.Reads as bare-reads
-use Rattle.field.proofs.spelled.boxed_at.Reads as boxed-at-reads
-use Rattle.field.proofs.spelled.half_at.Reads as half-at-reads
-use Rattle.field.proofs.spelled.letter_at.Reads as letter-at-reads
 
 peek-requires : tie.Need-peek-requires
 peek-requires c κs = search needs

@@ -1,19 +1,9 @@
 use native.Mathlib.Omega.{arith}
-use mathlib.Core.Path.{sym, _∙_}
 use borrow.Author.Tests.{not-true, not-false}
 use Rattle.reader.proofs.Atoms.{as-row, as-nothing, as-broken, crowd-atoms, crowd-bonds, adds-unbonded, adds-bonded, adds-crowded, adds-broken, adds-nothing}
 use borrow.Author.Needs.{needs}
 use Rattle.reader.proofs.atom.atom_at.Statement.{statement}
 use Rattle.reader.proofs.atom.atom_at.Tie as tie
-use Rattle.reader.proofs.atom.atom_at.Reads as reads
-use Rattle.reader.proofs.atom.atom_at.Lts as lts
-use Rattle.field.proofs.spelled.spell_at.Reads as spell-at-reads
-use Rattle.reader.proofs.atom.bond_of.Reads as bond-of-reads
-use Rattle.reader.proofs.atom.crowd_at.Reads as crowd-at-reads
-use Rattle.reader.proofs.atom.is_bonded.Reads as is-bonded-reads
-use Rattle.reader.proofs.atom.kind_of.Reads as kind-of-reads
-use Rattle.table.proofs.row.put_atom.Reads as put-atom-reads
-use Rattle.table.proofs.row.put_bond.Reads as put-bond-reads
 
 is-bonded-requires : tie.Need-is-bonded-requires
 is-bonded-requires c κs = search needs

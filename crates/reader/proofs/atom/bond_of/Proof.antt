@@ -2,8 +2,6 @@ use Rattle.reader.proofs.Atoms.{bond-row}
 use borrow.Author.Needs.{needs}
 use Rattle.reader.proofs.atom.bond_of.Statement.{statement}
 use Rattle.reader.proofs.atom.bond_of.Tie as tie
-use Rattle.reader.proofs.atom.bond_of.Reads as reads
-use Rattle.reader.proofs.atom.bond_of.Lts as lts
 
 cast-t4 : tie.Need-cast-t4
 cast-t4 c = search needs

@@ -1,8 +1,6 @@
 use borrow.Author.Tests.{le-leb, lt-leb}
 use Rattle.reader.proofs.atom.crowd_at.Statement.{statement}
 use Rattle.reader.proofs.atom.crowd_at.Tie as tie
-use Rattle.reader.proofs.atom.crowd_at.Reads as reads
-use Rattle.reader.proofs.atom.crowd_at.Lts as lts
 
 returns : tie.Need-returns
 returns c = simp (le-leb _ _ (c .if1 .taken))

@@ -2,8 +2,6 @@ use borrow.Author.Tests.{eq-eqb, ne-eqb}
 use borrow.Author.Needs.{needs}
 use Rattle.reader.proofs.atom.is_bonded.Statement.{statement}
 use Rattle.reader.proofs.atom.is_bonded.Tie as tie
-use Rattle.reader.proofs.atom.is_bonded.Reads as reads
-use Rattle.reader.proofs.atom.is_bonded.Lts as lts
 
 returns : tie.Need-returns
 returns c = simp (eq-eqb _ _ (c .if1 .taken))

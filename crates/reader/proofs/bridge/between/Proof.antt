@@ -3,9 +3,6 @@ use mathlib.Core.Path.{_∙_}
 use borrow.Author.Needs.{needs}
 use Rattle.reader.proofs.bridge.between.Statement.{statement}
 use Rattle.reader.proofs.bridge.between.Tie as tie
-use Rattle.reader.proofs.bridge.between.Reads as reads
-use Rattle.reader.proofs.bridge.between.Lts as lts
-use Rattle.reader.proofs.atom.bond_of.Reads as bond-of-reads
 
 bond-of-requires : tie.Need-bond-of-requires
 bond-of-requires c κs = search needs

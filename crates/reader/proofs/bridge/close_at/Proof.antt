@@ -4,11 +4,6 @@ use Rattle.reader.specs.Bridge.{closingOf}
 use borrow.Author.Needs.{needs}
 use Rattle.reader.proofs.bridge.close_at.Statement.{statement}
 use Rattle.reader.proofs.bridge.close_at.Tie as tie
-use Rattle.reader.proofs.bridge.close_at.Reads as reads
-use Rattle.reader.proofs.bridge.close_at.Lts as lts
-use Rattle.reader.proofs.bridge.between.Reads as between-reads
-use Rattle.reader.proofs.bridge.joined_already.Reads as joined-already-reads
-use Rattle.reader.proofs.bridge.meet.Reads as meet-reads
 
 returns : tie.Need-returns
 unfolding closingOf

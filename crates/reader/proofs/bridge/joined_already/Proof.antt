@@ -3,13 +3,10 @@ use mathlib.Core.Bool.{not}
 use mathlib.Core.Path.{sym, _∙_}
 use native.Mathlib.Omega.{arith}
 use Rattle.reading.specs.Memory.{joins}
-use Rattle.loops.proofs.Loops.{Left, left-start, left-pass}
+use Rattle.loops.proofs.Loops.{Left, left-start}
 use Rattle.reader.proofs.Bridges.{found, passed, none-found}
 use Rattle.reader.proofs.bridge.joined_already.Statement.{statement}
 use Rattle.reader.proofs.bridge.joined_already.Tie as tie
-use Rattle.reader.proofs.bridge.joined_already.Reads as reads
-use Rattle.reader.proofs.bridge.joined_already.Lts as lts
-use Rattle.reader.proofs.bridge.joins.Reads as joins-reads
 
 abbrev Inv-loop : tie.InvT-loop
 Inv-loop bonds m a b i₀ i = Left (λ j. not (joins bonds (a .0) (b .0) j)) m i

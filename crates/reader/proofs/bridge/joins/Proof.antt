@@ -2,9 +2,6 @@ use Rattle.reading.specs.Memory.{joins}
 use borrow.Author.Needs.{needs}
 use Rattle.reader.proofs.bridge.joins.Statement.{statement}
 use Rattle.reader.proofs.bridge.joins.Tie as tie
-use Rattle.reader.proofs.bridge.joins.Reads as reads
-use Rattle.reader.proofs.bridge.joins.Lts as lts
-use Rattle.table.proofs.cell.bond_number.Reads as bond-number-reads
 
 bond-number-requires : tie.Need-bond-number-requires
 bond-number-requires c κs = search needs

@@ -1,18 +1,11 @@
 use mathlib.Core.Path.{sym, _∙_}
 use native.Mathlib.Omega.{arith}
 use borrow.Author.Tests.{not-true, not-false}
-use Rattle.field.proofs.Bytes.{nonzero-digit, digit-in, byte-in}
+use Rattle.field.proofs.Bytes.{nonzero-digit, digit-in}
 use Rattle.reader.proofs.Pieces.{seen-digit, seen-atom, seen-wrong, seen-wrong-2, seen-percent}
 use borrow.Author.Needs.{needs}
 use Rattle.reader.proofs.piece.bridge_at.Statement.{statement}
 use Rattle.reader.proofs.piece.bridge_at.Tie as tie
-use Rattle.reader.proofs.piece.bridge_at.Reads as reads
-use Rattle.reader.proofs.piece.bridge_at.Lts as lts
-use Rattle.field.proofs.byte.is_digit.Reads as is-digit-reads
-use Rattle.field.proofs.byte.is_nonzero.Reads as is-nonzero-reads
-use Rattle.field.proofs.byte.peek.Reads as peek-reads
-use Rattle.field.proofs.byte.value.Reads as value-reads
-use Rattle.reader.proofs.piece.joint_of.Reads as joint-of-reads
 
 peek-requires : tie.Need-peek-requires
 peek-requires c κs = search needs

@@ -3,11 +3,6 @@ use Rattle.reader.proofs.Pieces.{seen-end, seen-letter, seen-branch, se
 use borrow.Author.Needs.{needs}
 use Rattle.reader.proofs.piece.glance.Statement.{statement}
 use Rattle.reader.proofs.piece.glance.Tie as tie
-use Rattle.reader.proofs.piece.glance.Reads as reads
-use Rattle.reader.proofs.piece.glance.Lts as lts
-use Rattle.field.proofs.byte.peek.Reads as peek-reads
-use Rattle.field.proofs.byte.symbol_kind.Reads as symbol-kind-reads
-use Rattle.reader.proofs.piece.bridge_at.Reads as bridge-at-reads
 
 returns : tie.Need-returns
 returns c = seen-end _ _ (c .before .before .pre) (c .if1 .taken)

@@ -3,10 +3,6 @@ use native.Mathlib.Omega.{arith}
 use borrow.Author.Needs.{needs}
 use Rattle.reader.proofs.piece.joint_at.Statement.{statement}
 use Rattle.reader.proofs.piece.joint_at.Tie as tie
-use Rattle.reader.proofs.piece.joint_at.Reads as reads
-use Rattle.reader.proofs.piece.joint_at.Lts as lts
-use Rattle.field.proofs.byte.peek.Reads as peek-reads
-use Rattle.field.proofs.byte.symbol_kind.Reads as symbol-kind-reads
 
 peek-requires : tie.Need-peek-requires
 peek-requires c κs = search needs

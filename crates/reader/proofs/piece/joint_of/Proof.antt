@@ -1,8 +1,6 @@
 use borrow.Author.Tests.{eq-eqb, ne-eqb}
 use Rattle.reader.proofs.piece.joint_of.Statement.{statement}
 use Rattle.reader.proofs.piece.joint_of.Tie as tie
-use Rattle.reader.proofs.piece.joint_of.Reads as reads
-use Rattle.reader.proofs.piece.joint_of.Lts as lts
 
 returns : tie.Need-returns
 returns c = simp (eq-eqb _ _ (c .if1 .taken))

@@ -1,6 +1,6 @@
 use Prim.Native.Nat.{ℕ, _+_, _-_, _<_}
 use lib.ListN.{length}
-use mathlib.Core.Path.{_≡_, sym, ap, _∙_}
+use mathlib.Core.Path.{ap, _∙_}
 use native.Mathlib.Omega.{arith}
 use borrow.Author.Needs.{needs}
 use Rattle.reader.proofs.Turns.{Turn, first, from, from-next, turn-start, turn-atom, turn-bridge, turn-branch, atom-lies, atom-in, atom-later, atom-room, bridge-lies, branch-lies, branch-past, end-atom, end-bridge, end-branch, end-wrong, end-fine}

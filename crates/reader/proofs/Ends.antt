@@ -1,0 +1,213 @@
+-- The end of a text, and what the public call tells of it. Assumes nothing.
+use Prim.Native.Nat.{ℕ, zero, suc, _+_, _≤_, _<_}
+use native.Mathlib.Omega.{arith}
+use mathlib.Core.Path.{_≡_, refl, sym, ap, _∙_, subst, subst⁻¹}
+use mathlib.Core.Bool.{Bool, true, false}
+use mathlib.Core.List.{List, [], _∷_}
+use lib.ListN.{length, getD, set, replicate, length-replicate}
+use lib.IntN.{ℤ, pos}
+use lib.Dec.{eqb}
+use borrow.Author.Tests.{eqb-true, eqb-false, eq-eqb, le-leb, lt-leb, lt-ltb, le-ltb}
+use mir.Val.{toZ}
+use mir.Syntax.{w32}
+use mir.Facts.{toZ-pos}
+use Rattle.loops.specs.Loop.{pick, upTo}
+use Rattle.loops.proofs.Loops.{upTo-at}
+use Rattle.refusal.specs.declared.Refusal.{Refusal}
+use Rattle.refusal.specs.declared.Refusal.the-variants.{Short, LongText, Grammar, OpenBridge, NoMatching}
+use Rattle.valence.specs.Valence.{implied}
+use Rattle.grammar.specs.declared.Last.the-variants.{Plain as plain}
+use Rattle.grammar.specs.declared.Mode.the-variants.{Seq as seq, Dot as dot}
+use Rattle.grammar.specs.declared.State as machine
+use Rattle.grammar.specs.declared.State.the-variants.{Start as start}
+use Rattle.grammar.specs.Machine.{next, step, resting, accepting}
+use Rattle.grammar.specs.Fold.{Reading, going, halted, feed, read, Answer, good, bad, finish, answer}
+use Rattle.table.specs.Limits.{maxAtoms, HYDROGENS}
+use Rattle.table.specs.Cells.{atomPlace, element, selected}
+use Rattle.table.specs.Valid.{Valid, enough}
+use Rattle.graph.specs.Graph.{bondSum, matchable}
+use Rattle.state.specs.declared.State.{State}
+use Rattle.state.specs.declared.Fields.{Fields}
+use Rattle.state.specs.Limits.{maxText, maxDepth, bridges}
+use Rattle.state.specs.State.{started}
+use Rattle.reading.specs.Memory.{Memory, nothing, blank}
+use Rattle.reading.specs.Act.{act, modeAct}
+use Rattle.reading.specs.Read.{Told, zeros, refused, short, beginning, hydrogenate, hydrogenated, leftmost, ended, finished, readFrom, readOf}
+use Rattle.reading.proofs.Hydrogens.{implied-small}
+use Rattle.reading.proofs.Valid.{sane-valid}
+use Rattle.reading.proofs.Claims.{read-sane}
+use Rattle.field.specs.Rest.{rest, memory}
+use Rattle.field.proofs.Rest.{rest-end, rest-down-stop}
+use Rattle.field.proofs.Bytes.{there}
+use Rattle.reader.specs.declared.piece.Joint.{Joint}
+use Rattle.reader.specs.declared.bridge.Why.{Why}
+use Rattle.reader.specs.declared.bridge.Out.{Out}
+use Rattle.reader.specs.declared.ending.Answer as reply
+use Rattle.reader.specs.Went.{Fair, refusedAt, PastFine, Past, Goes, Stops, Sequenced}
+use Rattle.reader.specs.Ending.{told, hydrogensBy, endedOf, answerOf, TextGoes, TextRead}
+use Rattle.reader.proofs.Branches.{close-down}
+
+-- ---- the whole text
+-- before its first byte the machine stands as before an atom
+start-dot : (s : List ℕ) (a b : List ℤ) → 0 < length s → answerOf s a b ≡ rest s 0 dot (memory started a b nothing 0 blank)
+unfolding answer rest read feed act step next modeAct started
+start-dot [] a b h = absurd (omega arith)
+start-dot (x ∷ s) a b h = refl
+
+pub fair-started : {u : State} → u ≡ started → Fair u
+unfolding started
+fair-started e = rw e (record { atoms = omega arith; bonds = omega arith; depth = omega arith; hub = omega arith; stack = zeros-le maxDepth maxAtoms; opener = zeros-le bridges (maxAtoms + 1) })
+  where
+    zeros-le : (k n i : ℕ) → getD (replicate k 0) i 0 ≤ n
+    zeros-le zero n i = omega arith
+    zeros-le (suc k) n zero = omega arith
+    zeros-le (suc k) n (suc i) = zeros-le k n i
+
+pub text-empty : (s : List ℕ) (a b : List ℤ) {u : State} → length s ≡ 0 → u ≡ started → TextRead s a b a b (record { why = Why.Fine; at = 0; st = u })
+unfolding answer read accepting
+text-empty [] a b e q = record { is = (0, blank, fair-started q, rw q) }
+text-empty (x ∷ s) a b e q = absurd (omega arith)
+
+module _ (s : List ℕ) (a b : List ℤ) (h : length s ≡ 0 → ⊥) {u : State} (eu : u ≡ started) {a′ b′ : List ℤ} {o : Out} (g : Sequenced s 0 Joint.Elided u a b a′ b′ o) where
+  positive : 0 < length s
+  positive = split (length s) h
+    where
+      split : (n : ℕ) → (n ≡ 0 → ⊥) → 0 < n
+      split zero k = absurd (k refl)
+      split (suc n) k = omega arith
+
+  begun-at : answerOf s a b ≡ rest s 0 dot (memory u a b nothing 0 blank)
+  begun-at = start-dot s a b positive ∙ ap (λ (v : State). rest s 0 dot (memory v a b nothing 0 blank)) (sym eu)
+
+  pub text-refused : {c : Refusal} {p : ℕ} → o .why ≡ Why.Refused c p → TextRead s a b a′ b′ o
+  text-refused w = record {
+    is = subst⁻¹ (λ (z : Why). TextGoes s a b a′ b′ z (o .st)) w
+        (begun-at ∙ subst (λ (z : Why). Goes s 0 dot nothing u a b z (o .at) (o .st) a′ b′) w (g .goes) 0 blank);
+  }
+
+  module _ (w : o .why ≡ Why.Fine) where
+    past : PastFine s 0 u (o .at) (o .st)
+    past = subst (λ (z : Why). Past s 0 u z (o .at) (o .st)) w (g .past)
+
+    flat : o .st .depth ≡ 0
+    unfolding started
+    flat = past .deep ∙ ap (λ (v : State). v .depth) eu
+
+    reached : (i : ℕ) × (f : Fields) × (answerOf s a b ≡ rest s (o .at) (seq plain) (memory (o .st) a′ b′ nothing i f))
+    reached = let y = subst (λ (z : Why). Goes s 0 dot nothing u a b z (o .at) (o .st) a′ b′) w (g .goes) 0 blank in (y .tens, y .draft, begun-at ∙ y .is)
+
+    -- a `)` that closes nothing
+    pub text-wrong : {x : Out} → o .at < length s → x ≡ refusedAt Grammar (o .at) (o .st) → TextRead s a b a′ b′ x
+    text-wrong l ex = rw ex (record { is = reached .2 ∙ rest-down-stop s (o .at) (seq plain) (memory (o .st) a′ b′ nothing (reached .0) (reached .1)) (there s (o .at)) l (close-down (getD s (o .at) 0) closing) flat })
+      where
+        closing : getD s (o .at) 0 ≡ 41
+        closing = split (eqb (getD s (o .at) 0) 41) refl
+          where
+            split : (t : Bool) → eqb (getD s (o .at) 0) 41 ≡ t → getD s (o .at) 0 ≡ 41
+            split true e = eqb-true (getD s (o .at) 0) 41 e
+            split false e = absurd (let z = subst (λ (y : Why). Stops s y (o .at)) w (g .stops) (eqb-false (getD s (o .at) 0) 41 e) in omega (arith, z))
+
+    ends-flat : (μ : Memory) → μ .st .depth ≡ 0 → length s ≤ o .at → rest s (o .at) (seq plain) μ ≡ good μ
+    unfolding resting
+    ends-flat μ e l = rest-end s (o .at) (seq plain) μ l ∙ ap (λ (k : ℕ). pick (resting (seq plain) k) (good μ) (bad 3 (length s))) e
+
+    pub text-read : length s ≤ o .at → TextRead s a b a′ b′ o
+    text-read l = record {
+      is = subst⁻¹ (λ (z : Why). TextGoes s a b a′ b′ z (o .st)) w
+          (reached .0, reached .1, past .fair, reached .2 ∙ ends-flat (memory (o .st) a′ b′ nothing (reached .0) (reached .1)) flat l);
+    }
+
+-- ---- hydrogens
+pub hydrogens-step : (outside : List ℕ) (bonds : List ℤ) (m a : ℕ) (t : List ℤ) {sums : List ℕ} → sums ≡ upTo (bondSum bonds m) 0 maxAtoms → a < maxAtoms
+    → hydrogensBy (getD outside a 0) (getD sums a 0) a t ≡ hydrogenate outside bonds m a t
+hydrogens-step outside bonds m a t e l = rw (e, upTo-at (bondSum bonds m) maxAtoms a 0 l)
+
+pub implied-cell : (e s sum : ℕ) → toZ w32 (implied e s sum) ≡ pos (implied e s sum)
+implied-cell e s sum = toZ-pos w32 {n = implied e s sum} (omega (arith, implied-small e s sum))
+
+-- ---- after the last byte
+module _ (t : State) (a b : List ℤ) {p : ℕ} (e : p ≡ leftmost (t .opener) (t .offset)) where
+  pub ended-open : {x y : List ℤ} → p < maxText → x ≡ zeros a → y ≡ zeros b → told (reply.Answer.Refused OpenBridge p) x y ≡ endedOf t a b
+  unfolding ended
+  ended-open h ex ey = rw (ex, ey, ← e, lt-ltb p maxText h)
+
+  module _ (h : maxText ≤ p) {v : List ℤ} (ev : v ≡ hydrogenated (t .outside) b (t .bonds) (t .atoms) a) where
+    pub ended-matched : matchable v b (t .atoms) (t .bonds) ≡ true → told (reply.Answer.Molecule (t .atoms) (t .bonds)) v b ≡ endedOf t a b
+    unfolding ended
+    ended-matched m = rw (← e, le-ltb p maxText h, ← ev, m)
+
+    pub ended-unmatched : {x y : List ℤ} → matchable v b (t .atoms) (t .bonds) ≡ false → x ≡ zeros v → y ≡ zeros b → told (reply.Answer.Refused NoMatching 0) x y ≡ endedOf t a b
+    unfolding ended
+    ended-unmatched m ex ey = rw (ex, ey, ← e, le-ltb p maxText h, ← ev, m)
+
+-- ---- the public call
+abbrev byAnswer : List ℤ → List ℤ → Answer Memory → Told
+byAnswer a b (good μ) = ended μ
+byAnswer a b (bad c p) = refused c p a b
+
+finished-by : (n : ℕ) (a b : List ℤ) (r : Reading Memory) → finished n a b r ≡ byAnswer a b (finish n r)
+finished-by n a b (going σ μ) = split (accepting σ)
+  where
+    split : (x : Bool) → pick x (ended μ) (refused 3 n a b) ≡ byAnswer a b (pick x (good μ) (bad 3 n))
+    split true = refl
+    split false = refl
+finished-by n a b (halted c p) = refl
+
+zeros-as : (a x : List ℤ) {a₁ y : List ℤ} → a₁ ≡ zeros a → length x ≡ length a₁ → y ≡ zeros x → y ≡ zeros a
+zeros-as a x e l h = h ∙ ap (λ (n : ℕ). replicate n (pos 0)) (l ∙ ap length e ∙ length-replicate (length a) (pos 0))
+
+-- an answer of the machine that is good comes from a reading that goes on
+good-going : (n : ℕ) (r : Reading Memory) (μ : Memory) → finish n r ≡ good μ → (σ : machine.State) × (r ≡ going σ μ)
+good-going n (going σ ν) μ h = split (accepting σ) h
+  where
+    split : (x : Bool) → pick x (good ν) (bad 3 n) ≡ good μ → (τ : machine.State) × (going σ ν ≡ going τ μ)
+    split true q = (σ, let e : ν ≡ μ = cc in ap (going σ) e)
+    split false q = absurd (let z : _≡_ {A = ℕ} 0 1 = cc in omega arith)
+good-going n (halted c p) μ h = absurd (let z : _≡_ {A = ℕ} 0 1 = cc in omega arith)
+
+module _ (s : List ℕ) (a b : List ℤ) where
+  pub told-short : enough a b ≡ false → told (reply.Answer.Refused Short 0) a b ≡ readOf s a b
+  unfolding readOf
+  told-short h = rw h
+
+  module _ (h : enough a b ≡ true) where
+    pub told-long : {x y : List ℤ} → maxText < length s → x ≡ zeros a → y ≡ zeros b → told (reply.Answer.Refused LongText maxText) x y ≡ readOf s a b
+    unfolding readOf
+    told-long l ex ey = rw (ex, ey, h, lt-leb (length s) maxText l)
+
+    module _ (l : length s ≤ maxText) {a₁ b₁ : List ℤ} (ea : a₁ ≡ zeros a) (eb : b₁ ≡ zeros b) {x y : List ℤ} {o : Out} (g : TextRead s a₁ b₁ x y o) where
+      whole : readOf s a b ≡ byAnswer a b (answerOf s a₁ b₁)
+      unfolding readOf readFrom answer
+      whole = rw (h, le-leb (length s) maxText l, ea, eb) (finished-by (length s) a b (read act 0 (going start (beginning (zeros a) (zeros b))) s))
+
+      pub told-refused : {c : Refusal} {p : ℕ} {x′ y′ : List ℤ} → o .why ≡ Why.Refused c p → length x ≡ length a₁ → length y ≡ length b₁ → x′ ≡ zeros x → y′ ≡ zeros y
+          → told (reply.Answer.Refused c p) x′ y′ ≡ readOf s a b
+      told-refused w lx ly ex ey =
+          rw (zeros-as a x ea lx ex, zeros-as b y eb ly ey) (sym (whole ∙ ap (byAnswer a b) (subst (λ (z : Why). TextGoes s a₁ b₁ x y z (o .st)) w (g .is))))
+
+      module _ (w : o .why ≡ Why.Fine) where
+        fine : (i : ℕ) × (f : Fields) × Fair (o .st) × (answerOf s a₁ b₁ ≡ good (memory (o .st) x y nothing i f))
+        fine = subst (λ (z : Why). TextGoes s a₁ b₁ x y z (o .st)) w (g .is)
+
+        pub text-fair : Fair (o .st)
+        text-fair = fine .2
+
+        pub text-valid : Valid (hydrogenated (o .st .outside) y (o .st .bonds) (o .st .atoms) x) y (o .st .atoms) (o .st .bonds)
+        unfolding answer
+        text-valid =
+            let e : answerOf s (zeros a) (zeros b) ≡ good (memory (o .st) x y nothing (fine .0) (fine .1)) = rw (← ea, ← eb) (fine .3) in
+            let r = good-going (length s) (read act 0 (going start (beginning (zeros a) (zeros b))) s) (memory (o .st) x y nothing (fine .0) (fine .1)) e in
+            sane-valid {σ = r .0} (read-sane s a b {σ = r .0} (record { room = h; short = l }) (r .1))
+
+        pub told-fine : {z : Told} → z ≡ endedOf (o .st) x y → z ≡ readOf s a b
+        unfolding ended
+        told-fine q = q ∙ sym (whole ∙ ap (byAnswer a b) (fine .3))
+
+-- ---- for the functions' proofs
+pub hydrogens-put : (t : List ℤ) (a x sum : ℕ) {e s h : ℕ} {t′ : List ℤ} → x ≡ 1 → e ≡ element t a → s ≡ selected t a → h ≡ implied e s sum → t′ ≡ set t (atomPlace a HYDROGENS) (toZ w32 h) → t′ ≡ hydrogensBy x sum a t
+hydrogens-put t a x sum {e} {s} {h} ex ee es eh et =
+    et ∙ ap (λ (z : ℕ). set t (atomPlace a HYDROGENS) (toZ w32 z)) (eh ∙ ap (λ (z : ℕ). implied z s sum) ee ∙ ap (λ (z : ℕ). implied (element t a) z sum) es)
+    ∙ rw (implied-cell (element t a) (selected t a) sum, eq-eqb x 1 ex)
+
+pub valid-as : {v w b : List ℤ} {n m : ℕ} → v ≡ w → Valid w b n m → Valid v b n m
+valid-as e h = rw e h
