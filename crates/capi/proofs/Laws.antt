@@ -7,7 +7,16 @@ use Rattle.table.specs.declared.Check.{Check}
 use Rattle.kekule.specs.declared.Found.{Found}
 use Rattle.kekule.specs.Kekule.{Out, out, Tables, tables, foundCode}
 use Rattle.kekule.specs.Calls.{Replayed, replayed}
-use Rattle.capi.specs.Capi.{checkCode, rowOut, rowOutOf, tablesOut, tablesOutOf, replayOut, replayOutOf}
+use Rattle.reader.specs.declared.ending.Answer.{Answer}
+use Rattle.reader.specs.declared.ending.Answer.the-variants.{Molecule, Refused}
+use Rattle.reader.specs.Ending.{told}
+use Rattle.reading.specs.Read.{Told}
+use Rattle.capi.specs.declared.ReadReply.{ReadReply}
+use Rattle.capi.specs.Capi.{readReplyOf, readOut, checkCode, rowOut, rowOutOf, tablesOut, tablesOutOf, replayOut, replayOutOf}
+
+pub read-law : (a : Answer) {r : ReadReply} {atoms bonds : List ℤ} {t : Told} → r ≡ readReplyOf a → told a atoms bonds ≡ t → readOut r atoms bonds ≡ t
+read-law (Molecule n m) {atoms = atoms} {bonds} e g = ap (λ (k : ReadReply). readOut k atoms bonds) e ∙ g
+read-law (Refused c p) {atoms = atoms} {bonds} e g = ap (λ (k : ReadReply). readOut k atoms bonds) e ∙ g
 
 pub row-law : {c : ℕ} {f : Found} {row : List ℕ} {o : Out} → c ≡ foundCode f → out f row ≡ o → rowOut c row ≡ rowOutOf o
 row-law {row = row} e g = ap (λ (k : ℕ). rowOut k row) e ∙ ap rowOutOf g

@@ -5,10 +5,23 @@ use lib.IntN.{ℤ}
 use Rattle.refusal.specs.Code.{codeOf}
 use Rattle.table.specs.declared.Check.{Check}
 use Rattle.table.specs.declared.Check.the-variants.{Fine, Refused}
+use Rattle.reader.specs.declared.ending.Answer.{Answer}
+use Rattle.reader.specs.declared.ending.Answer.the-variants.{Molecule, Refused as readRefused}
+use Rattle.reading.specs.Read.{Told}
+use Rattle.capi.specs.declared.ReadReply.{ReadReply}
 use Rattle.kekule.specs.declared.Asked.{Asked}
 use Rattle.kekule.specs.declared.Asked.the-variants.{Yes, No, Refused as askedRefused}
 use Rattle.kekule.specs.Kekule.{Out, Tables, foundCode}
 use Rattle.kekule.specs.Calls.{Replayed}
+
+-- an answer of the reader in plain numbers
+abbrev pub readReplyOf : Answer → ReadReply
+readReplyOf (Molecule n m) = record { code = 0; place = 0; atoms = n; bonds = m }
+readReplyOf (readRefused r p) = record { code = codeOf r; place = p; atoms = 0; bonds = 0 }
+
+-- the same with both tables, as the definition of reading tells it
+abbrev pub readOut : ReadReply → List ℤ → List ℤ → Told
+readOut r atoms bonds = record { code = r .code; offset = r .place; atomCount = r .atoms; bondCount = r .bonds; atoms = atoms; bonds = bonds }
 
 abbrev pub checkCode : Check → ℕ
 checkCode Fine = 0

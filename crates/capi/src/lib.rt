@@ -4,10 +4,49 @@ ghost use Rattle.matching.specs.declared.Call.the-variants.{First, Next};
 ghost use Rattle.kekule.specs.Kekule.{callOn, askedOf, kekulizedOf};
 ghost use Rattle.kekule.specs.Calls.{replayedOf};
 ghost use Rattle.table.specs.Valid.{checkOf};
-ghost use Rattle.capi.specs.Capi.{checkCode, askedCode, rowOut, rowOutOf, tablesOut, tablesOutOf, replayOut, replayOutOf};
+ghost use Rattle.reading.specs.Read.{readOf};
+ghost use Rattle.capi.specs.Capi.{readReplyOf, readOut, checkCode, askedCode, rowOut, rowOutOf, tablesOut, tablesOutOf, replayOut, replayOutOf};
 use kekule::Asked;
 use kekule::Found;
+use reader::ending::Answer;
 use table::Check;
+
+// What reading hands back: code 0 with the counts of atoms and bonds, or the refusal's code with its offset.
+#[repr(C)]
+pub struct ReadReply {
+    pub code: u32,
+    pub place: usize,
+    pub atoms: usize,
+    pub bonds: usize,
+}
+
+// An answer of the reader in plain numbers.
+fn read_reply(a: Answer) -> ReadReply
+    ensures { λ r. ⌜ r ≡ readReplyOf a ⌝ }
+{
+    match a {
+        Answer::Molecule(n, m) => ReadReply {
+            code: 0,
+            place: 0,
+            atoms: n,
+            bonds: m,
+        },
+        Answer::Refused(r, p) => ReadReply {
+            code: refusal::code(r) as u32,
+            place: p,
+            atoms: 0,
+            bonds: 0,
+        },
+    }
+}
+
+// Reads a text into the tables: 0 with the counts, or 1 to 11 with the offset.
+#[no_mangle]
+pub extern "C" fn balsa_read(text: &[u8], atoms: &mut [i32], bonds: &mut [i32]) -> ReadReply
+    ensures { λ r. ⌜ readOut r (now (atoms .exit)) (now (bonds .exit)) ≡ readOf (now (text .entry)) (now (atoms .entry)) (now (bonds .entry)) ⌝ }
+{
+    read_reply(reader::read(text, atoms, bonds))
+}
 
 // The code of a check: 0, or the refusal's.
 fn check_code(c: Check) -> u32

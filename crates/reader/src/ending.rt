@@ -12,12 +12,12 @@ use ids::AtomId;
 use refusal::Refusal;
 use state::BRIDGES;
 use state::State;
-use table::cell;
-use table::row::clear;
 use table::ELEMENT;
 use table::HYDROGENS;
 use table::MAX_ATOMS;
 use table::SELECTED;
+use table::cell;
+use table::row::clear;
 
 // A molecule with its counts of atoms and bonds, or a refusal with its offset.
 pub enum Answer {
