@@ -113,10 +113,13 @@ record Joins (b : ℕ) : Type 0 where
 
 symbol-joins : (b : ℕ) → among b bondSymbols ≡ true → Joins b
 unfolding next atomOr bridgeOr letters among nonzero bondSymbols letterOf selectedOf
-symbol-joins = each Joins bondSymbols
-    (record { out = refl; inner = refl; letter = refl; digit = refl; percent = refl; point = refl; some = omega arith },
-    (record { out = refl; inner = refl; letter = refl; digit = refl; percent = refl; point = refl; some = omega arith },
-    (record { out = refl; inner = refl; letter = refl; digit = refl; percent = refl; point = refl; some = omega arith }, tt)))
+symbol-joins = each Joins bondSymbols (
+  record { out = refl; inner = refl; letter = refl; digit = refl; percent = refl; point = refl; some = omega arith },
+  (
+    record { out = refl; inner = refl; letter = refl; digit = refl; percent = refl; point = refl; some = omega arith },
+    (record { out = refl; inner = refl; letter = refl; digit = refl; percent = refl; point = refl; some = omega arith }, tt),
+  ),
+)
 
 module _ (s : List ℕ) (p : ℕ) {b : ℕ} (k : Peeked s p b) where
   module _ {x : ℕ} (e : x ≡ symbolKind b) (n : x ≡ 0 → ⊥) where
@@ -248,10 +251,25 @@ record Numbers (b : ℕ) : Type 0 where
 
 digit-numbers : (b : ℕ) → among b nonzero ≡ true → Numbers b
 unfolding next atomOr bridgeOr letters among nonzero letterOf selectedOf
-digit-numbers = each Numbers nonzero
-    (record { out = refl; after = refl; letter = refl }, (record { out = refl; after = refl; letter = refl }, (record { out = refl; after = refl; letter = refl },
-    (record { out = refl; after = refl; letter = refl }, (record { out = refl; after = refl; letter = refl }, (record { out = refl; after = refl; letter = refl },
-    (record { out = refl; after = refl; letter = refl }, (record { out = refl; after = refl; letter = refl }, (record { out = refl; after = refl; letter = refl }, tt)))))))))
+digit-numbers = each Numbers nonzero (
+  record { out = refl; after = refl; letter = refl },
+  (
+    record { out = refl; after = refl; letter = refl },
+    (
+      record { out = refl; after = refl; letter = refl },
+      (
+        record { out = refl; after = refl; letter = refl },
+        (
+          record { out = refl; after = refl; letter = refl },
+          (
+            record { out = refl; after = refl; letter = refl },
+            (record { out = refl; after = refl; letter = refl }, (record { out = refl; after = refl; letter = refl }, (record { out = refl; after = refl; letter = refl }, tt))),
+          ),
+        ),
+      ),
+    ),
+  ),
+)
 
 digit-out : (x : Bool) (b : ℕ) → among b nonzero ≡ true → next (modeBy x) b ≡ to (seq plain)
 digit-out true b h = digit-numbers b h .out
@@ -279,8 +297,11 @@ module _ (s : List ℕ) (p x : ℕ) {b : ℕ} (k : Peeked s p b) where
     within = omega (arith, digit-in k d);
     later = omega arith;
     long = omega arith;
-    is = λ t a c i f. (i, bridge-rest s p (kindMode x) (memory t a c (kindPending x) i f) v p k (digit-in k d) (digit-out (eqb x 0) b h)
-        (digit-act (eqb x 0) b p (memory t a c (kindPending x) i f) h ∙ ap (λ (r : ℕ). bridgeAct r p (memory t a c (kindPending x) i f)) (sym e)));
+    is = λ t a c i f. (
+      i,
+      bridge-rest s p (kindMode x) (memory t a c (kindPending x) i f) v p k (digit-in k d) (digit-out (eqb x 0) b h)
+          (digit-act (eqb x 0) b p (memory t a c (kindPending x) i f) h ∙ ap (λ (r : ℕ). bridgeAct r p (memory t a c (kindPending x) i f)) (sym e)),
+    );
   }
 
   pub seen-atom : {j : Joint} → p ≤ length s → Free s p x → among b nonzero ≡ false → (b ≡ 37 → ⊥) → j ≡ jointOf x → Seen s p (kindMode x) (kindPending x) (Piece.Atom j p)

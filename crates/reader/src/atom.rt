@@ -6,8 +6,8 @@ ghost use Rattle.reading.specs.Memory.{bondRow, kindOf};
 ghost use Rattle.reader.specs.Piece.{pendingOf};
 ghost use Rattle.reader.specs.Added.{bondedBy, crowdOf, Adds};
 use crate::piece::Joint;
-use field::spelled::spell_at;
 use field::spelled::Spelled;
+use field::spelled::spell_at;
 use ids::AtomId;
 use ids::BondId;
 use refusal::Refusal;
@@ -80,7 +80,16 @@ fn crowd_at(n: usize, m: usize, bonded: bool) -> Crowd
 }
 
 // internal: the atom at an offset after a joint, written into the tables as the atom n, and bonded to the hub by the bond m where it is to be.
-pub fn atom_at(s: &[u8], at: usize, j: Joint, hub: AtomId, n: usize, m: usize, atoms: &mut [i32], bonds: &mut [i32]) -> Added
+pub fn atom_at(
+    s: &[u8],
+    at: usize,
+    j: Joint,
+    hub: AtomId,
+    n: usize,
+    m: usize,
+    atoms: &mut [i32],
+    bonds: &mut [i32],
+) -> Added
     requires { ⌜ at ≤ length (now s) ⌝ }
     requires { ⌜ hub .0 < 65536 ⌝ }
     ensures { λ r. ⌜ Adds (now (s .entry)) at j hub n m (now (atoms .entry)) (now (bonds .entry)) (now (atoms .exit)) (now (bonds .exit)) r ⌝ }

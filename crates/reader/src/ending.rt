@@ -1,7 +1,6 @@
 // After the last byte: open bridges, hydrogens, and whether a matching exists.
 ghost use mathlib.Core.Path.{_≡_};
-ghost use Prim.Native.Nat.{_≤_, _<_};
-ghost use lib.ListN.{length, getD};
+ghost use Prim.Native.Nat.{_<_};
 ghost use Rattle.table.specs.Limits.{maxAtoms};
 ghost use Rattle.table.specs.Valid.{Valid};
 ghost use Rattle.reading.specs.Read.{earlier, leftmost, hydrogenated};
@@ -12,12 +11,12 @@ use ids::AtomId;
 use refusal::Refusal;
 use state::BRIDGES;
 use state::State;
-use table::cell;
-use table::row::clear;
 use table::ELEMENT;
 use table::HYDROGENS;
 use table::MAX_ATOMS;
 use table::SELECTED;
+use table::cell;
+use table::row::clear;
 
 // A molecule with its counts of atoms and bonds, or a refusal with its offset.
 pub enum Answer {

@@ -4,16 +4,16 @@ ghost use Prim.Native.Nat.{_≤_, _<_};
 ghost use lib.ListN.{length, getD};
 ghost use Rattle.state.specs.Limits.{maxText};
 ghost use Rattle.reader.specs.Went.{Fair, Sequenced, Branched};
-use crate::atom::atom_at;
 use crate::atom::Added;
-use crate::bridge::bridge;
-use crate::bridge::refuse;
+use crate::atom::atom_at;
 use crate::bridge::Out;
 use crate::bridge::Why;
-use crate::piece::glance;
-use crate::piece::joint_at;
+use crate::bridge::bridge;
+use crate::bridge::refuse;
 use crate::piece::Joint;
 use crate::piece::Piece;
+use crate::piece::glance;
+use crate::piece::joint_at;
 use field::byte::peek;
 use ids::AtomId;
 use refusal::Refusal;
@@ -21,7 +21,14 @@ use state::MAX_DEPTH;
 use state::State;
 
 // internal: an atom at an offset after a joint, and any number of pieces.
-pub fn sequence(s: &[u8], at: usize, joint: Joint, st: State, atoms: &mut [i32], bonds: &mut [i32]) -> Out
+pub fn sequence(
+    s: &[u8],
+    at: usize,
+    joint: Joint,
+    st: State,
+    atoms: &mut [i32],
+    bonds: &mut [i32],
+) -> Out
     requires { ⌜ Fair st ⌝ }
     requires { ⌜ at ≤ length (now s) ⌝ }
     requires { ⌜ length (now s) ≤ maxText ⌝ }
