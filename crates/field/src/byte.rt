@@ -1,13 +1,13 @@
 // Single bytes of a text, and what they can be.
 ghost use mathlib.Core.Path.{_≡_};
 ghost use mathlib.Core.Bool.{true};
-ghost use Prim.Native.Nat.{_+_, _*_, _≤_, _<_};
+ghost use Prim.Native.Nat.{_≤_, _<_};
 ghost use lib.ListN.{length};
 ghost use Rattle.element.specs.Symbols.{among};
 ghost use Rattle.grammar.specs.Grammar.{nonzero, digits, several, signs};
 ghost use Rattle.reading.specs.Bracket.{digit};
 ghost use Rattle.reading.specs.Memory.{symbolKind};
-ghost use Rattle.field.specs.Field.{Peeked, moreOf, Grown};
+ghost use Rattle.field.specs.Field.{Peeked, Grown};
 
 // A number of digits that were read, and the offset after them.
 pub struct Number {
@@ -15,35 +15,35 @@ pub struct Number {
     pub at: usize,
 }
 
-// The byte at an offset, 0 past the end.
+// internal: the byte at an offset, 0 past the end.
 pub fn peek(s: &[u8], at: usize) -> u8
     ensures { λ r. ⌜ Peeked (now (s .entry)) at r ⌝ }
 {
     if at < s.len() { s[at] } else { 0 }
 }
 
-// `0` to `9`.
+// internal: `0` to `9`.
 pub fn is_digit(b: u8) -> bool
     ensures { λ r. ⌜ r ≡ among b digits ⌝ }
 {
     (48 <= b) & (b <= 57)
 }
 
-// `1` to `9`.
+// internal: `1` to `9`.
 pub fn is_nonzero(b: u8) -> bool
     ensures { λ r. ⌜ r ≡ among b nonzero ⌝ }
 {
     (49 <= b) & (b <= 57)
 }
 
-// `2` to `9`.
+// internal: `2` to `9`.
 pub fn is_several(b: u8) -> bool
     ensures { λ r. ⌜ r ≡ among b several ⌝ }
 {
     (50 <= b) & (b <= 57)
 }
 
-// `+` and `-`.
+// internal: `+` and `-`.
 pub fn is_sign(b: u8) -> bool
     ensures { λ r. ⌜ r ≡ among b signs ⌝ }
 {
@@ -58,7 +58,7 @@ pub fn value(b: u8) -> u16
     (b - 48) as u16
 }
 
-// The kind of a bond symbol; 0 for another byte.
+// internal: the kind of a bond symbol; 0 for another byte.
 pub fn symbol_kind(b: u8) -> u8
     ensures { λ r. ⌜ r ≡ symbolKind b ⌝ }
 {

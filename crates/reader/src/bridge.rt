@@ -1,7 +1,6 @@
 // A bridge: it opens at the hub, or closes with a bond.
 ghost use mathlib.Core.Path.{_≡_};
-ghost use Prim.Native.Nat.{_+_, _≤_, _<_};
-ghost use lib.ListN.{length};
+ghost use Prim.Native.Nat.{_≤_, _<_};
 ghost use Rattle.table.specs.Limits.{maxBonds};
 ghost use Rattle.state.specs.Limits.{bridges, maxText};
 ghost use Rattle.reading.specs.Memory.{joins, joinedAlready, meet, between};

@@ -1,7 +1,6 @@
 // After the last byte: open bridges, hydrogens, and whether a matching exists.
 ghost use mathlib.Core.Path.{_≡_};
-ghost use Prim.Native.Nat.{_≤_, _<_};
-ghost use lib.ListN.{length, getD};
+ghost use Prim.Native.Nat.{_<_};
 ghost use Rattle.table.specs.Limits.{maxAtoms};
 ghost use Rattle.table.specs.Valid.{Valid};
 ghost use Rattle.reading.specs.Read.{earlier, leftmost, hydrogenated};

@@ -1,8 +1,8 @@
 // What comes next in a sequence: looking at bytes only.
 ghost use mathlib.Core.Path.{_≡_};
-ghost use Prim.Native.Nat.{_≤_, _<_};
-ghost use lib.ListN.{length, getD};
-ghost use Rattle.grammar.specs.declared.Mode.the-variants.{Seq, Inside};
+ghost use Prim.Native.Nat.{_≤_};
+ghost use lib.ListN.{length};
+ghost use Rattle.grammar.specs.declared.Mode.the-variants.{Seq};
 ghost use Rattle.grammar.specs.declared.Last.the-variants.{Plain};
 ghost use Rattle.reading.specs.Memory.{nothing};
 ghost use Rattle.reader.specs.Piece.{jointOf, kindMode, kindPending, Free, Seen, Joined};
