@@ -189,7 +189,7 @@ before-trans (x ∷ r) [] t h k = cc
 before-trans (x ∷ r) (y ∷ s) [] h k = cc
 before-trans (x ∷ r) (y ∷ s) (z ∷ t) h k = before-step x y z (before r s) (before s t) (before r t) (eqb x y) (eqb y z) refl refl h k (before-trans r s t)
 
-eqRow-same : (r : Row) → eqRow r r ≡ true
+pub eqRow-same : (r : Row) → eqRow r r ≡ true
 unfolding eqRow
 eqRow-same [] = refl
 eqRow-same (x ∷ r) = rw (eqb-same x) (eqRow-same r)

@@ -24,7 +24,7 @@ bit false = 0
 pub and-intro : (a b : Bool) → a ≡ true → b ≡ true → (a && b) ≡ true
 and-intro a b h k = rw (h, k)
 
-same-bool : (a b : Bool) → (a ≡ true → b ≡ true) → (b ≡ true → a ≡ true) → a ≡ b
+pub same-bool : (a b : Bool) → (a ≡ true → b ≡ true) → (b ≡ true → a ≡ true) → a ≡ b
 same-bool true b f g = sym (f refl)
 same-bool false true f g = g refl
 same-bool false false f g = refl
@@ -176,7 +176,7 @@ right-pairs flags (b ∷ bs) need (x ∷ r) h = go (eqb x 0) (h .0) (h .1) (righ
         (g (and-right (induced flags b) (chosenInduced flags bs r) i, λ v. uncount-paired b need v (degree bs r v) (d v)))
 
 -- each flags atom once
-once-at : (bs : List Bond) (r : Row) (ks : List ℕ) (u : ℕ) → eachOnce bs r ks u ≡ true → (i : ℕ) → flagged ks i ≡ true → degree bs r (u + i) ≡ 1
+pub once-at : (bs : List Bond) (r : Row) (ks : List ℕ) (u : ℕ) → eachOnce bs r ks u ≡ true → (i : ℕ) → flagged ks i ≡ true → degree bs r (u + i) ≡ 1
 unfolding eachOnce
 once-at bs r [] u h i e = absurd (never (flagged [] i) e refl)
 once-at bs r (k ∷ ks) u h zero e = rw (add-zero u) (go (eqb k 1) e (and-left (not (eqb k 1) || eqb (degree bs r u) 1) (eachOnce bs r ks (suc u)) h))
@@ -187,7 +187,7 @@ once-at bs r (k ∷ ks) u h zero e = rw (add-zero u) (go (eqb k 1) e (and-left (
 once-at bs r (k ∷ ks) u h (suc i) e =
     ap (degree bs r) (add-suc u i ∙ sym (suc-add u i)) ∙ once-at bs r ks (suc u) (and-right (not (eqb k 1) || eqb (degree bs r u) 1) (eachOnce bs r ks (suc u)) h) i e
 
-at-once : (bs : List Bond) (r : Row) (ks : List ℕ) (u : ℕ) → ((i : ℕ) → flagged ks i ≡ true → degree bs r (u + i) ≡ 1) → eachOnce bs r ks u ≡ true
+pub at-once : (bs : List Bond) (r : Row) (ks : List ℕ) (u : ℕ) → ((i : ℕ) → flagged ks i ≡ true → degree bs r (u + i) ≡ 1) → eachOnce bs r ks u ≡ true
 unfolding eachOnce
 at-once bs r [] u h = refl
 at-once bs r (k ∷ ks) u h =
@@ -263,7 +263,7 @@ after-zeros : (p : Row → Bool) (m : ℕ) → matchings (after p (replicate m 0
 after-zeros p zero = after-nil p
 after-zeros p (suc m) = after-zero p m (replicate m 0) ∙ ap (map (λ s. 0 ∷ s)) (after-zeros (λ s. p (0 ∷ s)) m)
 
-zeros-row : (m : ℕ) → isRow m (replicate m 0) ≡ true
+pub zeros-row : (m : ℕ) → isRow m (replicate m 0) ≡ true
 unfolding isRow
 zeros-row zero = refl
 zeros-row (suc m) = zeros-row m

@@ -1,6 +1,7 @@
 -- 01, Hydrogens and kept atoms: the book, here the enumeration, over any test of rows: its matchings, and its replies to a list of calls
 use mathlib.Core.Bool.{Bool, true, false, _&&_}
-use mathlib.Core.List.{List, [], _∷_, _++_, map}
+use mathlib.Core.Path.{_≡_}
+use mathlib.Core.List.{List, [], _∷_, _++_, map, List·Memᴰ}
 use Prim.Native.Nat.{ℕ, zero, suc, _-_}
 use lib.Dec.{eqb, leb, ltb}
 use lib.ListN.{length, take, replicate}
@@ -99,6 +100,11 @@ unfoldable pub before : Row → Row → Bool
 before [] s = false
 before (x ∷ r) [] = false
 before (x ∷ r) (y ∷ s) = pick (eqb x y) (before r s) (ltb y x)
+
+-- 01: each once, in the order above: every row comes before all that follow it
+pub data Sorted : List Row → Type 0 where
+  none : Sorted []
+  next : {e : Row} {es : List Row} → ((s : Row) → List·Memᴰ s es → before e s ≡ true) → Sorted es → Sorted (e ∷ es)
 
 -- the first of the rows, or a zeroed row with the answer a
 abbrev pub orZeroed : ℕ → Answer → List Row → Reply

@@ -1,7 +1,8 @@
 -- A molecule as its matchings see it: the bonds, each with its ends and whether it is elided, and a flag for each atom: 1 if it is delocalized
+use mathlib.Core.Path.{_≡_}
 use mathlib.Core.Bool.{Bool, true, false, _&&_, _||_, not}
 use mathlib.Core.List.{List, [], _∷_}
-use Prim.Native.Nat.{ℕ, suc}
+use Prim.Native.Nat.{ℕ, suc, _<_}
 use lib.Dec.{eqb}
 use lib.ListN.{length, take, getD}
 use Rattle.loops.specs.Loop.{pick}
@@ -49,6 +50,24 @@ eachOnce bs r (k ∷ ks) v = (not (eqb k 1) || eqb (degree bs r v) 1) && eachOnc
 unfoldable pub isMatching : List ℕ → List Bond → Row → Bool
 isMatching flags bs r = chosenInduced flags bs r && eachOnce bs r flags 0
 
+-- the same of a set of bond numbers, with no word of rows: every bond in it is there and induced, and each kept atom is an end of exactly one
+abbrev pub bondOf : List Bond → ℕ → Bond
+bondOf bs k = getD bs k (record { end1 = 0; end2 = 0; elided = false })
+
+pub record Pairs (flags : List ℕ) (bs : List Bond) (S : ℕ → Bool) : Type 0 where
+  pub within : (k : ℕ) → S k ≡ true → k < length bs
+  pub induces : (k : ℕ) → S k ≡ true → induced flags (bondOf bs k) ≡ true
+  pub once : (v : ℕ) → flagged flags v ≡ true
+      → (k : ℕ) × (S k ≡ true) × (touches (bondOf bs k) v ≡ true) × ((j : ℕ) → S j ≡ true → touches (bondOf bs j) v ≡ true → j ≡ k)
+
+-- the set that a row chooses
+abbrev pub chosen : Row → ℕ → Bool
+chosen r k = eqb (getD r k 0) 1
+
+-- 01: the entries of the book of a molecule
+abbrev pub matchingsOf : List ℕ → List Bond → List Row
+matchingsOf flags bs = matchings (isMatching flags bs) (length bs)
+
 unfoldable pub noneFlagged : List ℕ → Bool
 noneFlagged [] = true
 noneFlagged (k ∷ ks) = not (eqb k 1) && noneFlagged ks
@@ -60,5 +79,5 @@ afterZero flags es = pick (noneFlagged flags) es []
 -- 01, the book of a molecule: its replies to a list of calls, with the row at the start
 unfoldable pub enumeration : List ℕ → List Bond → List Call → Row → List Reply
 enumeration flags bs cs row =
-    let es = matchings (isMatching flags bs) (length bs) in
+    let es = matchingsOf flags bs in
     enumReplies (length row) (afterZero flags es) es cs (cursorAt (take (length bs) row) es)
