@@ -88,8 +88,7 @@ after p r s = p s && before r s
 
 -- the cursor at r: r with the matchings that come after it; or at none
 abbrev pub found : Bool → List Row → List Row
-found true l = l
-found false l = []
+found b l = pick b l []
 
 joined-found : (b : Bool) (e : Row) (x : ℕ) (es Z : List Row) → joined (found b (e ∷ es)) x Z [] ≡ found b ((x ∷ e) ∷ (map (λ s. x ∷ s) es ++ Z))
 unfolding joined
