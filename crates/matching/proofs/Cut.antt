@@ -17,7 +17,7 @@ use Rattle.matching.specs.Graph.{Bond, flagged, countIf, noneFlagged}
 use Rattle.matching.specs.Model.{free, pair, pairsUp}
 use Rattle.matching.specs.Cut.{cnt, odd?, odds, fine, allFine}
 use Rattle.matching.proofs.Enumeration.{passing-none, passing-same}
-use Rattle.matching.proofs.Graph.{and-intro, never, not-true, or-cases, within-pair, within-self}
+use Rattle.matching.proofs.Graph.{free-less, and-intro, never, not-true, or-cases}
 
 -- an atom is taken out
 cnt-out : (need labs : List ℕ) (a i : ℕ) → a < length labs → getD need a 0 ≡ 1 → cnt need labs i ≡ countIf (eqb (getD labs a 0) i) (cnt (set need a 0) labs i)
@@ -160,16 +160,6 @@ flagged-in : (need : List ℕ) (a : ℕ) → flagged need a ≡ true → a < len
 flagged-in [] a h = absurd (never (flagged [] a) h refl)
 flagged-in (x ∷ xs) zero h = omega arith
 flagged-in (x ∷ xs) (suc a) h = omega (arith, flagged-in xs a h)
-
-free-less : (b c : Bond) (need : List ℕ) → free c (pair b need) ≡ true → free c need ≡ true
-free-less b c need h =
-    let g = and-left (c .elided && flagged (pair b need) (c .end1)) (flagged (pair b need) (c .end2)) h in
-    and-intro (c .elided && flagged need (c .end1)) (flagged need (c .end2))
-    (and-intro (c .elided) (flagged need (c .end1)) (and-left (c .elided) (flagged (pair b need) (c .end1)) g) (less (c .end1) (and-right (c .elided) (flagged (pair b need) (c .end1)) g)))
-    (less (c .end2) (and-right (c .elided && flagged (pair b need) (c .end1)) (flagged (pair b need) (c .end2)) h))
-  where
-    less : (v : ℕ) → flagged (pair b need) v ≡ true → flagged need v ≡ true
-    less v = within-pair b need need (within-self need) v
 
 all-less : (b : Bond) (need labs : List ℕ) (bs : List Bond) → allFine need labs bs ≡ true → allFine (pair b need) labs bs ≡ true
 unfolding allFine

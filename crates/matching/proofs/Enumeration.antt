@@ -88,8 +88,7 @@ after p r s = p s && before r s
 
 -- the cursor at r: r with the matchings that come after it; or at none
 abbrev pub found : Bool → List Row → List Row
-found true l = l
-found false l = []
+found b l = pick b l []
 
 joined-found : (b : Bool) (e : Row) (x : ℕ) (es Z : List Row) → joined (found b (e ∷ es)) x Z [] ≡ found b ((x ∷ e) ∷ (map (λ s. x ∷ s) es ++ Z))
 unfolding joined
@@ -189,7 +188,7 @@ before-trans (x ∷ r) [] t h k = cc
 before-trans (x ∷ r) (y ∷ s) [] h k = cc
 before-trans (x ∷ r) (y ∷ s) (z ∷ t) h k = before-step x y z (before r s) (before s t) (before r t) (eqb x y) (eqb y z) refl refl h k (before-trans r s t)
 
-eqRow-same : (r : Row) → eqRow r r ≡ true
+pub eqRow-same : (r : Row) → eqRow r r ≡ true
 unfolding eqRow
 eqRow-same [] = refl
 eqRow-same (x ∷ r) = rw (eqb-same x) (eqRow-same r)

@@ -80,7 +80,7 @@ pair-touched b need v h =
     (λ e. ap (λ (i : ℕ). getD (pair b need) i 0) (sym (eqb-true (b .end2) v e)) ∙ cleared (set need (b .end1) 0) (b .end2)) in
     rw z
 
-pair-other : (b : Bond) (need : List ℕ) (v : ℕ) → touches b v ≡ false → flagged (pair b need) v ≡ flagged need v
+pub pair-other : (b : Bond) (need : List ℕ) (v : ℕ) → touches b v ≡ false → flagged (pair b need) v ≡ flagged need v
 pair-other b need v h =
     let q = or-false (eqb (b .end1) v) (eqb (b .end2) v) h in
     ap (λ (n : ℕ). eqb n 1)
@@ -230,6 +230,17 @@ right-matching flags bs r h = and-intro (chosenInduced flags bs r) (eachOnce bs 
 pub within-self : (flags : List ℕ) → Within flags flags
 within-self flags v h = h
 
+-- fewer atoms want a partner: no other bond is free
+pub free-less : (b c : Bond) (need : List ℕ) → free c (pair b need) ≡ true → free c need ≡ true
+free-less b c need h =
+    let g = and-left (c .elided && flagged (pair b need) (c .end1)) (flagged (pair b need) (c .end2)) h in
+    and-intro (c .elided && flagged need (c .end1)) (flagged need (c .end2))
+    (and-intro (c .elided) (flagged need (c .end1)) (and-left (c .elided) (flagged (pair b need) (c .end1)) g) (less (c .end1) (and-right (c .elided) (flagged (pair b need) (c .end1)) g)))
+    (less (c .end2) (and-right (c .elided && flagged (pair b need) (c .end1)) (flagged (pair b need) (c .end2)) h))
+  where
+    less : (v : ℕ) → flagged (pair b need) v ≡ true → flagged need v ≡ true
+    less v = within-pair b need need (within-self need) v
+
 -- the search's matching-pairs are the matching-pairs
 pub matching-pairsUp : (flags : List ℕ) (bs : List Bond) (r : Row) → isMatching flags bs r ≡ pairsUp bs flags r
 matching-pairsUp flags bs r = same-bool (isMatching flags bs r) (pairsUp bs flags r)
@@ -263,7 +274,7 @@ after-zeros : (p : Row → Bool) (m : ℕ) → matchings (after p (replicate m 0
 after-zeros p zero = after-nil p
 after-zeros p (suc m) = after-zero p m (replicate m 0) ∙ ap (map (λ s. 0 ∷ s)) (after-zeros (λ s. p (0 ∷ s)) m)
 
-zeros-row : (m : ℕ) → isRow m (replicate m 0) ≡ true
+pub zeros-row : (m : ℕ) → isRow m (replicate m 0) ≡ true
 unfolding isRow
 zeros-row zero = refl
 zeros-row (suc m) = zeros-row m

@@ -50,7 +50,7 @@ module _ {ea eb el need row : List ℕ} {k : ℕ} (s : Shape ea eb el need row k
   module _ (one : getD row k 0 ≡ 1) (was : matchingFrom ea eb el need (part (length ea) row k) k ≡ true) {mid : List ℕ} (marked : mid ≡ markAt ea eb need k 0)
       {r : Bool} {need1 row1 need2 : List ℕ} (deep : Searched mid row (k + 1) (length ea) (laterFrom ea eb el mid rest (k + 1)) r need1 row1)
       (unmarked : need2 ≡ markAt ea eb need1 k 1) where
-    again : need2 ≡ need
+    pub again : need2 ≡ need
     again = unmarked ∙ ap (λ (l : List ℕ). markAt ea eb l k 1) (deep .same ∙ marked) ∙ restore ea eb el need k (matching-free s more one was)
 
     deep′ : Searched mid (set row k 1) (k + 1) (length ea) (laterFrom ea eb el mid rest (k + 1)) r need1 row1
