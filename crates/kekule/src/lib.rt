@@ -83,8 +83,8 @@ fn ask(c: Call, atoms: &[i32], bonds: &[i32], n: usize, m: usize, row: &mut [u8]
     let mut el = [0u8; MAX_BONDS];
     graph::build(atoms, bonds, n, m, &mut flags, &mut ea, &mut eb, &mut el);
     match c {
-        Call::First => search::first(&ea[..m], &eb[..m], &el[..m], &mut flags[..n], row),
-        Call::Next => search::next(&ea[..m], &eb[..m], &el[..m], &mut flags[..n], row),
+        Call::First => engine::first(&ea[..m], &eb[..m], &el[..m], &mut flags[..n], row),
+        Call::Next => engine::next(&ea[..m], &eb[..m], &el[..m], &mut flags[..n], row),
     }
 }
 
