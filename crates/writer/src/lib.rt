@@ -1,0 +1,2 @@
+// Writing: the public call, and the bytes of a walk.
+pub mod emit;
