@@ -1,2 +1,3 @@
 // Writing: the public call, and the bytes of a walk.
 pub mod emit;
+pub mod nest;
