@@ -1,3 +1,4 @@
 pub mod Emission
 pub mod Tokens
 pub mod Nesting
+pub mod Depth

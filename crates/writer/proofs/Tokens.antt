@@ -109,10 +109,10 @@ fits-long (b ∷ l) t h e = go (ltb (lowest t) 99) refl e (fits-long l (insert b
 
 -- the walk's lists, from the place x on
 module _ (ws ks us : List ℕ) (n : ℕ) (lw : length ws ≡ n) (lk : length ks ≡ n) (lu : length us ≡ n) where
-  abbrev rowsFrom : ℕ → List Row
+  abbrev pub rowsFrom : ℕ → List Row
   rowsFrom x = rowsOf (drop x ws) (drop x ks) (drop x us) x
 
-  abbrev laterOne : ℕ → Bool
+  abbrev pub laterOne : ℕ → Bool
   laterOne x = member (getD us x 0) (drop (suc x) us)
 
   rows-step : (x : ℕ) → x < n → rowsFrom x ≡ row (getD ws x 0) (getD ks x 0) (standOf (getD us x 0) x) (laterOne x) ∷ rowsFrom (suc x)
@@ -122,19 +122,19 @@ module _ (ws ks us : List ℕ) (n : ℕ) (lw : length ws ≡ n) (lk : length ks 
       let c : x < length us = omega arith in
       λ i. rowsOf (drop-cons ws x 0 a i) (drop-cons ks x 0 b i) (drop-cons us x 0 c i) x
 
-  rows-end : (x : ℕ) → n ≤ x → rowsFrom x ≡ []
+  pub rows-end : (x : ℕ) → n ≤ x → rowsFrom x ≡ []
   rows-end x h =
       let a : length ws ≤ x = omega arith in
       ap (λ (l : List ℕ). rowsOf l (drop x ks) (drop x us) x) (drop-of-length-le ws a)
 
   module _ (f : ℕ → Bond) (k : ℕ) {los his : List ℕ} (br : Bridged f n k los his) (g : ℕ → List ℕ) where
-    abbrev c : ℕ → List Bond
+    abbrev pub c : ℕ → List Bond
     c = closing n (upTo f 0 k)
 
-    abbrev o : ℕ → List Bond
+    abbrev pub o : ℕ → List Bond
     o = opening n (upTo f 0 k)
 
-    abbrev headAt : ℕ → List ℕ
+    abbrev pub headAt : ℕ → List ℕ
     headAt x = leadBytes x (getD us x 0) (laterOne x) (getD ks x 0) ++ g (getD ws x 0)
 
     ring-rest : (x : ℕ) (t : List Slot) → restBytes g (ringToks c o x t) ≡ closeBytes (closesFrom f n k x 0) t ++ openBytes (opensFrom f n k x 0) (closeAll (closesFrom f n k x 0) t)
@@ -146,7 +146,7 @@ module _ (ws ks us : List ℕ) (n : ℕ) (lw : length ws ≡ n) (lk : length ks 
     next-is : (x : ℕ) (t : List Slot) → rings c o x t ≡ nextSlots f n k x t
     next-is x t = λ i. openAll (opens-are br x i) (closeAll (closes-are br x i) t)
 
-    flat-step : (x : ℕ) (t : List Slot) → x < n → flat c o (rowsFrom x) x t
+    pub flat-step : (x : ℕ) (t : List Slot) → x < n → flat c o (rowsFrom x) x t
         ≡ lead (standOf (getD us x 0) x) (laterOne x) (getD ks x 0) (getD ws x 0) ++ (ringToks c o x t ++ flat c o (rowsFrom (suc x)) (suc x) (nextSlots f n k x t))
     flat-step x t h =
         ap (λ (l : List Row). flat c o l x t) (rows-step x h)

@@ -40,7 +40,7 @@ loop-less : tie.Need-loop-less Inv-loop μ-loop
 loop-less c = omega (arith, c .before .loop-test .taken)
 
 loop-again : tie.Need-loop-again Inv-loop μ-loop
-loop-again c = edited-step (c .before .before .loop .inv) _ (c .before .loop-test .taken) refl (length-set _ _ _)
+loop-again c = edited-step (c .before .before .loop .inv) _ (c .before .loop-test .taken) refl (simp length-set)
 
 same-length : tie.Need-same-length Inv-loop μ-loop
 same-length c = c .before .loop .inv .room
