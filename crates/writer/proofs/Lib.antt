@@ -2,3 +2,4 @@ pub mod Emission
 pub mod Tokens
 pub mod Nesting
 pub mod Depth
+pub mod Assembly

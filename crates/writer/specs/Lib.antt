@@ -1,2 +1,3 @@
 pub mod Emit
 pub mod Nest
+pub mod Told
