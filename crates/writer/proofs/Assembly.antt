@@ -6,7 +6,7 @@ use mathlib.Core.Bool.{Bool, true, false, not, _&&_}
 use mathlib.Core.List.{List, [], _∷_, _++_}
 use lib.ListN.{length, getD, set, replicate, drop}
 use lib.IntN.{ℤ, pos, negsuc}
-use lib.Dec.{eqb, leb}
+use lib.Dec.{eqb, leb, lit≤}
 use borrow.Author.Tests.{eqb-true, eq-eqb}
 use Rattle.loops.specs.Loop.{pick, upTo, run}
 use Rattle.loops.proofs.Loops.{upTo-at}
@@ -224,3 +224,10 @@ module _ {atoms bonds : List ℤ} {n m : ℕ} (v : Valid atoms bonds n m) {o w u
         depth = sh ∙ nest-same u us (moreAt u last) (laterOne ws ks us n lw lk lu) n n 0 0 (omega arith) (walked .up) mo ∙ sym (ap (λ (ts : List Tok). nests maxAtoms maxBonds maxDepth ts 0) tok ∙ nests-from ws ks us n lw lk lu f k br g n 0 0 [] (omega arith) (omega arith));
         text = λ y. as-is tb (T .1 y);
       }
+
+-- the arrays that writing makes have room
+pub bag-zeros : BagRoom (replicate 250 0) (replicate 250 0) (replicate 250 0)
+bag-zeros = record { los = lit≤ tt; his = lit≤ tt; kinds = lit≤ tt }
+
+pub sums-at : (sums : List ℕ) (g : ℕ → ℕ) (n l : ℕ) → sums ≡ upTo g 0 l → n ≤ l → (a : ℕ) → a < n → getD sums a 0 ≡ g a
+sums-at sums g n l e h a i = ap (λ (s : List ℕ). getD s a 0) e ∙ upTo-at g l a 0 (omega arith)

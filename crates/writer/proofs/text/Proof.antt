@@ -1,89 +1,67 @@
+use Rattle.writer.proofs.Assembly.{fit, distinct, numbered, parents-fit, ready, said, bag-zeros, sums-at}
+use Rattle.rings.proofs.Listed.{listed}
+use lib.Dec.{lit<}
+use native.Mathlib.Omega.{arith}
 use borrow.Author.Needs.{needs}
 use Rattle.writer.proofs.text.Statement.{statement}
 use Rattle.writer.proofs.text.Tie as tie
-use Rattle.writer.proofs.text.Reads as reads
-use Rattle.writer.proofs.text.Lts as lts
-use Rattle.graph.proofs.fill_sums.Reads as fill-sums-reads
-use Rattle.rings.proofs.unused.unused.Reads as unused-reads
-use Rattle.writer.proofs.emit.emit.Reads as emit-reads
-use Rattle.writer.proofs.nest.is_shallow.Reads as is-shallow-reads
-use Rattle.writer.proofs.nest.last_children.Reads as last-children-reads
 
--- src/lib.rt:39:60
 slice-aggregate-unused : tie.Need-slice-aggregate-unused
 slice-aggregate-unused c = search needs
 
--- src/lib.rt:39:70
 slice-aggregate-unused-2 : tie.Need-slice-aggregate-unused-2
 slice-aggregate-unused-2 c = search needs
 
--- src/lib.rt:39:80
 slice-aggregate-unused-3 : tie.Need-slice-aggregate-unused-3
 slice-aggregate-unused-3 c = search needs
 
--- src/lib.rt:39:9
 unused-requires : tie.Need-unused-requires
-unused-requires c κs = ?
+unused-requires c κs = let s = c .before .before .before .before .before .before .before .before in let v = s .pre .0 in let room = s .pre .1 .0 in let walked = s .pre .1 .1 in (fit v, (numbered v room walked, bag-zeros))
 
--- src/lib.rt:41:32
 slice-aggregate-fill-sums : tie.Need-slice-aggregate-fill-sums
 slice-aggregate-fill-sums c = search needs
 
--- src/lib.rt:41:5
 fill-sums-requires : tie.Need-fill-sums-requires
 fill-sums-requires c κs = search needs
 
--- src/lib.rt:43:32
 slice-aggregate-last-children : tie.Need-slice-aggregate-last-children
 slice-aggregate-last-children c = search needs
 
--- src/lib.rt:43:5
 last-children-requires : tie.Need-last-children-requires
-last-children-requires c κs = ?
+last-children-requires c κs = let s = c .before .before .before .before .before .before .before .before .before .before .before .before .before .before .before .before in let v = s .pre .0 in let room = s .pre .1 .0 in let walked = s .pre .1 .1 in ((omega (arith, v .few-atoms, room .up), v .few-atoms), λ x h. (let p = parents-fit v room walked x h in omega arith))
 
--- src/lib.rt:45:54
 slice-aggregate-emit : tie.Need-slice-aggregate-emit
 slice-aggregate-emit c = search needs
 
--- src/lib.rt:45:61
 slice-aggregate-emit-2 : tie.Need-slice-aggregate-emit-2
 slice-aggregate-emit-2 c = search needs
 
--- src/lib.rt:45:68
 slice-aggregate-emit-3 : tie.Need-slice-aggregate-emit-3
 slice-aggregate-emit-3 c = search needs
 
--- src/lib.rt:45:74
 slice-aggregate-emit-4 : tie.Need-slice-aggregate-emit-4
 slice-aggregate-emit-4 c = search needs
 
--- src/lib.rt:45:80
 slice-aggregate-emit-5 : tie.Need-slice-aggregate-emit-5
 slice-aggregate-emit-5 c = search needs
 
--- src/lib.rt:45:91
 slice-aggregate-emit-6 : tie.Need-slice-aggregate-emit-6
 slice-aggregate-emit-6 c = search needs
 
--- src/lib.rt:45:9
 emit-requires : tie.Need-emit-requires
-emit-requires c κs = ?
+emit-requires c κs = let s = c .before .before .before .before .before .before .before .before .before .before .before .before .before .before .before .before .before .before .before .before .before .before .before .before .before in let v = s .pre .0 in let room = s .pre .1 .0 in let walked = s .pre .1 .1 in (ready v room walked _ _ _ _ _ _ (omega (arith, c .before .before .before .before .before .before .before .before .last-children .kept .1 .1 .0)) (omega (arith, c .before .before .before .before .before .before .before .before .before .before .before .fill-sums .kept .1 .1 .0)) (listed (fit v) (distinct v) (numbered v room walked) _ _ _ _ _ _ (c .before .before .before .before .before .before .before .before .before .before .before .before .before .before .before .before .unused .result) bag-zeros (c .before .before .before .before .before .before .before .before .before .before .before .before .before .before .before .before .unused .ensures) .few) (omega (arith, c .before .before .before .before .before .before .before .before .before .before .before .before .before .before .before .before .unused .kept .1 .1 .1 .1 .1 .0)) (omega (arith, c .before .before .before .before .before .before .before .before .before .before .before .before .before .before .before .before .unused .kept .1 .1 .1 .1 .1 .1 .0)) (omega (arith, c .before .before .before .before .before .before .before .before .before .before .before .before .before .before .before .before .unused .kept .1 .1 .1 .1 .1 .1 .1 .0)), lit< tt)
 
--- src/lib.rt:46:37
 slice-aggregate-is-shallow : tie.Need-slice-aggregate-is-shallow
 slice-aggregate-is-shallow c = search needs
 
--- src/lib.rt:46:9
 is-shallow-requires : tie.Need-is-shallow-requires
-is-shallow-requires c κs = ?
+is-shallow-requires c κs = let s = c .before .before .before .before .before .before .before .before .before .before .before .before .before .before .before .before .before .before .before .before .before .before .before .before .before .before .before .before .before .before in let v = s .pre .0 in let room = s .pre .1 .0 in let walked = s .pre .1 .1 in (omega (arith, v .few-atoms, room .up), λ x h. (let p = parents-fit v room walked x h in omega (arith, c .before .before .before .before .before .before .before .before .before .before .before .before .before .last-children .kept .1 .1 .0)))
 
--- src/lib.rt:30:1
 same-length : tie.Need-same-length
 same-length c = search needs
 
--- src/lib.rt:30:1
 returns : tie.Need-returns
-returns c = ?
+returns c = let s = c .before .before .before .before .before .before .before .before .before .before .before .before .before .before .before .before .before .before .before .before .before .before .before .before .before .before .before .before .before .before .before in let v = s .pre .0 in let room = s .pre .1 .0 in let walked = s .pre .1 .1 in said v room walked (c .before .before .before .before .before .before .before .before .before .before .before .before .before .before .last-children .last .1 .1 .0) (c .before .before .before .before .before .before .before .before .before .before .before .before .before .before .before .before .before .fill-sums .last .1 .1 .0) (c .before .before .before .before .before .before .before .before .before .before .before .before .before .before .before .before .before .before .before .before .before .before .unused .last .1 .1 .1 .1 .1 .0) (c .before .before .before .before .before .before .before .before .before .before .before .before .before .before .before .before .before .before .before .before .before .before .unused .last .1 .1 .1 .1 .1 .1 .0) (c .before .before .before .before .before .before .before .before .before .before .before .before .before .before .before .before .before .before .before .before .before .before .unused .last .1 .1 .1 .1 .1 .1 .1 .0) _ (c .before .before .before .before .before .before .before .before .before .before .before .before .before .before .before .before .before .before .before .before .before .before .unused .result) _ _ _ _ (listed (fit v) (distinct v) (numbered v room walked) _ _ _ _ _ _ (c .before .before .before .before .before .before .before .before .before .before .before .before .before .before .before .before .before .before .before .before .before .before .unused .result) bag-zeros (c .before .before .before .before .before .before .before .before .before .before .before .before .before .before .before .before .before .before .before .before .before .before .unused .ensures)) (sums-at _ _ _ _ (c .before .before .before .before .before .before .before .before .before .before .before .before .before .before .before .before .before .fill-sums .ensures) (v .few-atoms)) (lit< tt) (c .before .before .before .before .before .before .before .before .before .before .before .before .before .before .last-children .ensures) (c .before .before .before .before .before .emit .ensures) (c .is-shallow .ensures)
 
 pub text-spec : {M : Type 1} → statement M
 text-spec =
