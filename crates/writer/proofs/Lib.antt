@@ -3,3 +3,4 @@ pub mod Tokens
 pub mod Nesting
 pub mod Depth
 pub mod Assembly
+pub mod Answer
