@@ -37,7 +37,7 @@ opened-length [] = omega arith
 opened-length (free ∷ t) = omega (arith, opened-length t)
 opened-length (held b ∷ t) = omega (arith, opened-length t)
 
-insert-length : (m : ℕ) (b : Bond) (t : List Slot) → length t ≤ m → lowest t < m → length (insert b t) ≤ m
+pub insert-length : (m : ℕ) (b : Bond) (t : List Slot) → length t ≤ m → lowest t < m → length (insert b t) ≤ m
 insert-length m b [] h g = omega arith
 insert-length m b (free ∷ t) h g = h
 insert-length zero b (held x ∷ t) h g = absurd (omega arith)
@@ -52,7 +52,7 @@ release-length b (held x ∷ t) = go (eqBond b x) (release-length b t)
     go true h = refl
     go false h = ap suc h
 
-close-length : (c : List Bond) (t : List Slot) → length (closeAll c t) ≡ length t
+pub close-length : (c : List Bond) (t : List Slot) → length (closeAll c t) ≡ length t
 close-length [] t = refl
 close-length (b ∷ c) t = close-length c (release b t) ∙ release-length b t
 
@@ -73,7 +73,7 @@ pub all-right : {A : Type 0} (P : A → Type 0) (l m : List A) → All P (l ++ m
 all-right P [] m a = a
 all-right P (x ∷ l) m (more h a) = all-right P l m a
 
-close-low : (m : ℕ) (c : List Bond) (t : List Slot) → Within c (openOf t) → length t ≤ m → All (Low m) (closeToks c t)
+pub close-low : (m : ℕ) (c : List Bond) (t : List Slot) → Within c (openOf t) → length t ≤ m → All (Low m) (closeToks c t)
 close-low m [] t w h = none
 close-low m (b ∷ c) t w h = more {b = ring 0 (find b t)} (let q = find-low b t (first-in b c (openOf t) w) in omega arith) (close-low m c (release b t) (close-within b c t w) (rw (release-length b t) h))
 

@@ -1,0 +1,79 @@
+// The bytes of a walk, one atom after the other.
+ghost use mathlib.Core.Path.{_≡_};
+ghost use mathlib.Core.Bool.{true};
+ghost use Prim.Native.Nat.{ℕ, _<_, _≤_};
+ghost use lib.ListN.{length};
+ghost use Rattle.spell.specs.Pen.{pen, Wrote};
+ghost use Rattle.writer.specs.Emit.{leaveBytes, enterBytes, leadBytes, headBytes, Ready, Emitted, Texted};
+use ids::AtomId;
+use rings::Spot;
+
+// A branch is left before a child that is not the first.
+fn leave(out: &mut [u8], at: usize, up: usize, x: usize) -> usize
+    ensures { λ r. ⌜ Wrote (leaveBytes up x) (pen (now (out .entry)) at) (pen (now (out .exit)) r) ⌝ }
+{
+    if up == x {
+        return at;
+    }
+    spell::put(out, at, b')')
+}
+
+// A child that is not the last stands in a branch.
+fn enter(out: &mut [u8], at: usize, more: bool) -> usize
+    ensures { λ r. ⌜ Wrote (enterBytes more) (pen (now (out .entry)) at) (pen (now (out .exit)) r) ⌝ }
+{
+    if more {
+        return spell::put(out, at, b'(');
+    }
+    at
+}
+
+// What stands before the atom x: a dot, or parentheses and the symbol of the bond to its parent.
+fn lead(out: &mut [u8], at: usize, x: usize, up: usize, more: bool, kind: usize) -> usize
+    ensures { λ r. ⌜ Wrote (leadBytes x up more kind) (pen (now (out .entry)) at) (pen (now (out .exit)) r) ⌝ }
+{
+    if up > 0 {
+        let at = leave(out, at, up, x);
+        let at = enter(out, at, more);
+        return spell::bond_symbol(out, at, kind);
+    }
+    if x == 0 {
+        return at;
+    }
+    spell::put(out, at, b'.')
+}
+
+// The atom x of the walk: what stands before it, its bytes, what closes there and what opens there.
+fn emit_atom(atoms: &[i32], order: &[u16], up: &[u16], kind: &[u8], last: &[u16], sums: &[u16], los: &[u16], his: &[u16], kinds: &[u8], k: usize, slots: &mut [u16], x: usize, out: &mut [u8], at: usize) -> Spot
+    requires { ⌜ Ready (now atoms) (now order) (now up) (now kind) (now last) (now sums) (now los) (now his) (now kinds) k x ⌝ }
+    requires { ⌜ length (now slots) < 100 ⌝ }
+    ensures { λ r. ⌜ Emitted (now (atoms .entry)) (now (order .entry)) (now (up .entry)) (now (kind .entry)) (now (last .entry)) (now (sums .entry)) (now (los .entry)) (now (his .entry)) (now (kinds .entry)) k x (now (slots .entry)) (now (slots .exit)) (r .few) (pen (now (out .entry)) at) (pen (now (out .exit)) (r .at)) ⌝ }
+{
+    let a = order[x] as usize;
+    let u = up[x] as usize;
+    let more = last[u] as usize != x;
+    let at = lead(out, at, x, u, more, kind[x] as usize);
+    let at = spell::field::atom(atoms, AtomId(a), sums[a] as usize, out, at);
+    let at = rings::close_from(los, his, k, x, 0, slots, out, at);
+    rings::open_from(los, his, kinds, k, x, 0, slots, out, at)
+}
+
+// internal: the atoms of a walk in order, into the buffer from its start.
+pub fn emit(atoms: &[i32], n: usize, order: &[u16], up: &[u16], kind: &[u8], last: &[u16], sums: &[u16], los: &[u16], his: &[u16], kinds: &[u8], k: usize, slots: &mut [u16], out: &mut [u8]) -> Spot
+    requires { ⌜ ((x : ℕ) → x < n → Ready (now atoms) (now order) (now up) (now kind) (now last) (now sums) (now los) (now his) (now kinds) k x) ⌝ }
+    requires { ⌜ length (now slots) < 100 ⌝ }
+    ensures { λ r. ⌜ Texted (headBytes (now (atoms .entry)) (now (order .entry)) (now (up .entry)) (now (kind .entry)) (now (last .entry)) (now (sums .entry))) (now (los .entry)) (now (his .entry)) (now (kinds .entry)) n k (now (slots .entry)) (r .few) (pen (now (out .entry)) 0) (pen (now (out .exit)) (r .at)) ⌝ }
+{
+    let mut at = 0;
+    let mut x = 0;
+    while x < n {
+        let spot = emit_atom(atoms, order, up, kind, last, sums, los, his, kinds, k, slots, x, out, at);
+        let few = spot.few;
+        if !few {
+            return spot;
+        }
+        at = spot.at;
+        x += 1;
+    }
+    Spot { few: true, at }
+}

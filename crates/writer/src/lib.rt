@@ -1,0 +1,168 @@
+// Writing: the public call, and the bytes of a walk.
+ghost use mathlib.Core.Path.{_≡_};
+ghost use mathlib.Core.List.{_++_};
+ghost use Prim.Native.Nat.{ℕ, _-_, _<_, _≤_};
+ghost use lib.ListN.{length, getD, take, drop, replicate};
+ghost use Rattle.loops.specs.Loop.{upTo};
+ghost use Rattle.table.specs.Limits.{maxAtoms};
+ghost use Rattle.state.specs.Limits.{maxText};
+ghost use Rattle.writing.specs.Write.{writeValid, writeOf};
+ghost use Rattle.table.specs.Valid.{Valid};
+ghost use Rattle.tour.specs.Tour.{Walked, Room};
+ghost use Rattle.spell.specs.Pen.{pen};
+ghost use Rattle.writer.specs.Told.{Said, told};
+use refusal::Refusal;
+use table::MAX_ATOMS;
+use table::MAX_BONDS;
+
+pub mod emit;
+pub mod nest;
+
+// The bytes of the longest text.
+pub const MAX_TEXT: usize = 4096;
+
+// What writing answers: the length of the text, or a refusal.
+pub enum Written {
+    Text(usize),
+    Refused(Refusal),
+}
+
+// Whether the bridge numbers sufficed, whether the branches nest within the limit, and the place after the last byte.
+struct Verdict {
+    few: bool,
+    flat: bool,
+    at: usize,
+}
+
+// The text of a walk, into a buffer from its start.
+fn text(atoms: &[i32], bonds: &[i32], n: usize, m: usize, order: &[u16], number: &[u16], up: &[u16], kind: &[u8], out: &mut [u8]) -> Verdict
+    requires { ⌜ Valid (now atoms) (now bonds) n m ⌝ }
+    requires { ⌜ Room (now order) (now number) (now up) (now kind) ⌝ }
+    requires { ⌜ Walked (now bonds) n m (now order) (now number) (now up) (now kind) ⌝ }
+    ensures { λ r. ⌜ Said (now (atoms .entry)) (now (bonds .entry)) n m (r .few) (r .flat) (pen (now (out .entry)) 0) (pen (now (out .exit)) (r .at)) ⌝ }
+{
+    let mut los = [0u16; MAX_BONDS];
+    let mut his = [0u16; MAX_BONDS];
+    let mut kinds = [0u8; MAX_BONDS];
+    let k = rings::unused::unused(bonds, n, m, number, up, &mut los, &mut his, &mut kinds);
+    let mut sums = [0u16; MAX_ATOMS];
+    graph::fill_sums(bonds, m, &mut sums);
+    let mut last = [0u16; MAX_ATOMS + 1];
+    nest::last_children(up, n, &mut last);
+    let mut slots = [0u16; 99];
+    let spot = emit::emit(atoms, n, order, up, kind, &last, &sums, &los, &his, &kinds, k, &mut slots, out);
+    let flat = nest::is_shallow(up, &last, n);
+    Verdict {
+        few: spot.few,
+        flat,
+        at: spot.at,
+    }
+}
+
+// Zeros from a place on.
+fn clear_from(out: &mut [u8], from: usize)
+    requires { ⌜ from ≤ length (now out) ⌝ }
+    ensures { λ _. ⌜ now (out .exit) ≡ take from (now (out .entry)) ++ replicate (length (now (out .entry)) - from) 0 ⌝ }
+{
+    let mut i = from;
+    while i < out.len() {
+        out[i] = 0;
+        i += 1;
+    }
+}
+
+// Zeros in a renumbering from a place on.
+fn clear_numbers(ren: &mut [u16], from: usize)
+    requires { ⌜ from ≤ length (now ren) ⌝ }
+    ensures { λ _. ⌜ now (ren .exit) ≡ take from (now (ren .entry)) ++ replicate (length (now (ren .entry)) - from) 0 ⌝ }
+{
+    let mut i = from;
+    while i < ren.len() {
+        ren[i] = 0;
+        i += 1;
+    }
+}
+
+// The walk numbers of n atoms, from the numbers plus 1.
+fn fill_numbers(number: &[u16], n: usize, ren: &mut [u16])
+    requires { ⌜ (n ≤ length (now number)) × (n ≤ length (now ren)) ⌝ }
+    requires { ⌜ ((a : ℕ) → a < n → 0 < getD (now number) a 0) ⌝ }
+    ensures { λ _. ⌜ now (ren .exit) ≡ upTo (λ a. getD (now (number .entry)) a 0 - 1) 0 n ++ drop n (now (ren .entry)) ⌝ }
+{
+    let mut a = 0;
+    while a < n {
+        ren[a] = number[a] - 1;
+        a += 1;
+    }
+}
+
+// The walk numbers of n atoms, and zeros after them.
+fn renumber(number: &[u16], n: usize, ren: &mut [u16])
+    requires { ⌜ (n ≤ length (now number)) × (n ≤ length (now ren)) ⌝ }
+    requires { ⌜ ((a : ℕ) → a < n → 0 < getD (now number) a 0) ⌝ }
+    ensures { λ _. ⌜ now (ren .exit) ≡ upTo (λ a. getD (now (number .entry)) a 0 - 1) 0 n ++ replicate (length (now (ren .entry)) - n) 0 ⌝ }
+{
+    fill_numbers(number, n, ren);
+    clear_numbers(ren, n);
+}
+
+// Zeros everywhere.
+fn clear_all(out: &mut [u8], ren: &mut [u16])
+    ensures { λ _. ⌜ now (out .exit) ≡ replicate (length (now (out .entry))) 0 ⌝ }
+    ensures { λ _. ⌜ now (ren .exit) ≡ replicate (length (now (ren .entry))) 0 ⌝ }
+{
+    clear_from(out, 0);
+    clear_numbers(ren, 0);
+}
+
+// internal: writes a molecule whose tables are valid: 14, 15 or 16 zero the output and the renumbering.
+pub fn write_valid(atoms: &[i32], bonds: &[i32], n: usize, m: usize, out: &mut [u8], ren: &mut [u16]) -> Written
+    requires { ⌜ Valid (now atoms) (now bonds) n m ⌝ }
+    requires { ⌜ (maxText ≤ length (now out)) × (maxAtoms ≤ length (now ren)) ⌝ }
+    ensures { λ r. ⌜ told r (now (out .exit)) (now (ren .exit)) ≡ writeValid (now (atoms .entry)) (now (bonds .entry)) n m (now (out .entry)) (now (ren .entry)) ⌝ }
+{
+    let mut order = [0u16; MAX_ATOMS];
+    let mut number = [0u16; MAX_ATOMS];
+    let mut up = [0u16; MAX_ATOMS];
+    let mut kind = [0u8; MAX_ATOMS];
+    tour::walk(bonds, n, m, &mut order, &mut number, &mut up, &mut kind);
+    let verdict = text(atoms, bonds, n, m, &order, &number, &up, &kind, &mut out[..MAX_TEXT]);
+    let few = verdict.few;
+    let flat = verdict.flat;
+    let at = verdict.at;
+    if !few {
+        clear_all(out, ren);
+        return Written::Refused(Refusal::ManyBridges);
+    }
+    if !flat {
+        clear_all(out, ren);
+        return Written::Refused(Refusal::DeepWriting);
+    }
+    if MAX_TEXT < at {
+        clear_all(out, ren);
+        return Written::Refused(Refusal::LongWriting);
+    }
+    clear_from(out, at);
+    renumber(&number, n, ren);
+    Written::Text(at)
+}
+
+// Writes a molecule as text, with the walk number of each atom. 1 changes nothing; 13, 14, 15 and 16 zero the output and the renumbering; the text's length otherwise, and zeros after the text and the numbers.
+pub fn write(atoms: &[i32], bonds: &[i32], n: usize, m: usize, out: &mut [u8], ren: &mut [u16]) -> Written
+    ensures { λ r. ⌜ told r (now (out .exit)) (now (ren .exit)) ≡ writeOf (now (atoms .entry)) (now (bonds .entry)) n m (now (out .entry)) (now (ren .entry)) ⌝ }
+{
+    if !table::validity::enough(atoms, bonds) {
+        return Written::Refused(Refusal::Short);
+    }
+    if out.len() < MAX_TEXT {
+        return Written::Refused(Refusal::Short);
+    }
+    if ren.len() < MAX_ATOMS {
+        return Written::Refused(Refusal::Short);
+    }
+    if !table::validity::valid(atoms, bonds, n, m) {
+        clear_all(out, ren);
+        return Written::Refused(Refusal::Invalid);
+    }
+    write_valid(atoms, bonds, n, m, out, ren)
+}
