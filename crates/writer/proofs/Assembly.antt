@@ -231,3 +231,6 @@ bag-zeros = record { los = lit≤ tt; his = lit≤ tt; kinds = lit≤ tt }
 
 pub sums-at : (sums : List ℕ) (g : ℕ → ℕ) (n l : ℕ) → sums ≡ upTo g 0 l → n ≤ l → (a : ℕ) → a < n → getD sums a 0 ≡ g a
 sums-at sums g n l e h a i = ap (λ (s : List ℕ). getD s a 0) e ∙ upTo-at g l a 0 (omega arith)
+
+pub room-zeros : Room (replicate 200 0) (replicate 200 0) (replicate 200 0) (replicate 200 0)
+room-zeros = record { order = lit≤ tt; number = lit≤ tt; up = lit≤ tt; kind = lit≤ tt }

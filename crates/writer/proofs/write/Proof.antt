@@ -1,64 +1,49 @@
+use Rattle.writer.proofs.Answer.{zeroed, short1, short2, short3, told13, told-valid}
+use Rattle.table.proofs.Valid.{facts}
+use borrow.Author.Tests.{not-true, not-false}
+use mathlib.Core.Path.{refl, sym, _∙_}
 use borrow.Author.Needs.{needs}
 use Rattle.writer.proofs.write.Statement.{statement}
 use Rattle.writer.proofs.write.Tie as tie
-use Rattle.writer.proofs.write.Reads as reads
-use Rattle.writer.proofs.write.Lts as lts
-use Rattle.table.proofs.validity.enough.Reads as enough-reads
-use Rattle.table.proofs.validity.valid.Reads as valid-reads
-use Rattle.writer.proofs.clear_all.Reads as clear-all-reads
-use Rattle.writer.proofs.write_valid.Reads as write-valid-reads
 
--- src/lib.rt:154:9
 enough-requires : tie.Need-enough-requires
 enough-requires c κs = search needs
 
--- src/lib.rt:155:9
 returns : tie.Need-returns
-returns c = ?
+returns c = short1 _ _ _ _ _ _ (sym (c .before .enough .ensures) ∙ not-true _ (c .if1 .taken))
 
--- src/lib.rt:158:9
 returns-2 : tie.Need-returns-2
-returns-2 c = ?
+returns-2 c = short2 _ _ _ _ _ _ (sym (c .before .before .enough .ensures) ∙ not-false _ (c .before .if1 .left)) (c .if2 .taken)
 
--- src/lib.rt:161:9
 returns-3 : tie.Need-returns-3
-returns-3 c = ?
+returns-3 c = short3 _ _ _ _ _ _ (sym (c .before .before .before .enough .ensures) ∙ not-false _ (c .before .before .if1 .left)) (c .before .if2 .left) (c .if3 .taken)
 
--- src/lib.rt:163:9
 valid-requires : tie.Need-valid-requires
 valid-requires c κs = search needs
 
--- src/lib.rt:164:9
 clear-all-requires : tie.Need-clear-all-requires
 clear-all-requires c κs = search needs
 
--- src/lib.rt:165:9
 same-length : tie.Need-same-length
 same-length c = search needs
 
--- src/lib.rt:165:9
 same-length-2 : tie.Need-same-length-2
 same-length-2 c = search needs
 
--- src/lib.rt:165:9
 returns-4 : tie.Need-returns-4
-returns-4 c = ?
+returns-4 c = let a = c .before .before .before .before .before .before .before .before .before .before .before .before .before .before .before .args in zeroed 13 (a .out .now) (a .ren .now) (a .out .now) (c .before .before .before .before .clear-all .last .0) (c .before .before .before .before .clear-all .last .1 .0) refl (c .before .before .before .before .clear-all .ensures .0) (c .before .before .before .before .clear-all .ensures .1) ∙ told13 _ _ _ _ _ _ (sym (c .before .before .before .before .before .before .before .before .before .before .before .before .enough .ensures) ∙ not-false _ (c .before .before .before .before .before .before .before .before .before .before .before .if1 .left)) (c .before .before .before .before .before .before .before .before .before .before .if2 .left) (c .before .before .before .before .before .before .before .before .before .if3 .left) (sym (c .before .before .before .before .before .before .before .before .valid .ensures) ∙ not-true _ (c .before .before .before .before .before .before .before .if4 .taken))
 
--- src/lib.rt:167:5
 write-valid-requires : tie.Need-write-valid-requires
-write-valid-requires c κs = ?
+write-valid-requires c κs = (facts _ _ _ _ (sym (c .before .before .before .valid .ensures) ∙ not-false _ (c .before .before .if4 .left)), (c .before .before .before .before .before .if2 .left, c .before .before .before .before .if3 .left))
 
--- src/lib.rt:151:1
 same-length-3 : tie.Need-same-length-3
 same-length-3 c = search needs
 
--- src/lib.rt:151:1
 same-length-4 : tie.Need-same-length-4
 same-length-4 c = search needs
 
--- src/lib.rt:151:1
 returns-5 : tie.Need-returns-5
-returns-5 c = ?
+returns-5 c = c .before .before .before .before .write-valid .ensures ∙ told-valid _ _ _ _ _ _ (sym (c .before .before .before .before .before .before .before .before .before .before .before .before .enough .ensures) ∙ not-false _ (c .before .before .before .before .before .before .before .before .before .before .before .if1 .left)) (c .before .before .before .before .before .before .before .before .before .before .if2 .left) (c .before .before .before .before .before .before .before .before .before .if3 .left) (sym (c .before .before .before .before .before .before .before .before .valid .ensures) ∙ not-false _ (c .before .before .before .before .before .before .before .if4 .left))
 
 pub write-spec : {M : Type 1} → statement M
 write-spec =

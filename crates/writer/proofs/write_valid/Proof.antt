@@ -1,133 +1,106 @@
+use Rattle.writer.proofs.Answer.{part-long, zeroed, tells14, tells15, told16, told0}
+use Rattle.writer.proofs.Assembly.{fit, room-zeros}
+use Rattle.tour.proofs.Laws.{room-kept}
+use borrow.Author.Tests.{not-true, not-false}
+use Rattle.state.specs.Limits.{maxText}
+use lib.Seq.{length-take-le}
+use lib.ListN.{drop}
+use mathlib.Core.List.{_++_}
+use mathlib.Core.Path.{refl, sym, _∙_}
+use native.Mathlib.Omega.{arith}
 use borrow.Author.Needs.{needs}
 use Rattle.writer.proofs.write_valid.Statement.{statement}
 use Rattle.writer.proofs.write_valid.Tie as tie
-use Rattle.writer.proofs.write_valid.Reads as reads
-use Rattle.writer.proofs.write_valid.Lts as lts
-use Rattle.tour.proofs.walk.Reads as walk-reads
-use Rattle.writer.proofs.clear_all.Reads as clear-all-reads
-use Rattle.writer.proofs.clear_from.Reads as clear-from-reads
-use Rattle.writer.proofs.renumber.Reads as renumber-reads
-use Rattle.writer.proofs.text.Reads as text-reads
 
--- src/lib.rt:128:29
 slice-aggregate-walk : tie.Need-slice-aggregate-walk
 slice-aggregate-walk c = search needs
 
--- src/lib.rt:128:41
 slice-aggregate-walk-2 : tie.Need-slice-aggregate-walk-2
 slice-aggregate-walk-2 c = search needs
 
--- src/lib.rt:128:54
 slice-aggregate-walk-3 : tie.Need-slice-aggregate-walk-3
 slice-aggregate-walk-3 c = search needs
 
--- src/lib.rt:128:63
 slice-aggregate-walk-4 : tie.Need-slice-aggregate-walk-4
 slice-aggregate-walk-4 c = search needs
 
--- src/lib.rt:128:5
 walk-requires : tie.Need-walk-requires
-walk-requires c κs = ?
+walk-requires c κs = let s = c .before .before .before .before .before .before in let v = s .pre .0 in let room = s .pre .1 .0 in let out = s .args .out .now in let ren = s .args .ren .now in (fit v, (room-zeros, refl))
 
--- src/lib.rt:129:44
 slice-aggregate-text : tie.Need-slice-aggregate-text
 slice-aggregate-text c = search needs
 
--- src/lib.rt:129:52
 slice-aggregate-text-2 : tie.Need-slice-aggregate-text-2
 slice-aggregate-text-2 c = search needs
 
--- src/lib.rt:129:61
 slice-aggregate-text-3 : tie.Need-slice-aggregate-text-3
 slice-aggregate-text-3 c = search needs
 
--- src/lib.rt:129:66
 slice-aggregate-text-4 : tie.Need-slice-aggregate-text-4
 slice-aggregate-text-4 c = search needs
 
--- src/lib.rt:129:73
 slice-relend-prefix-text : tie.Need-slice-relend-prefix-text
 slice-relend-prefix-text c = search needs
 
--- src/lib.rt:129:73
 slice-aggregate-text-5 : tie.Need-slice-aggregate-text-5
-slice-aggregate-text-5 c = ?
+slice-aggregate-text-5 c = let s = c .before .before .before .before .before .before .before .before .before .before .before .before .before .before .before .before in let v = s .pre .0 in let room = s .pre .1 .0 in let out = s .args .out .now in let ren = s .args .ren .now in sym (length-take-le maxText out room)
 
--- src/lib.rt:129:9
 text-requires : tie.Need-text-requires
-text-requires c κs = ?
+text-requires c κs = let s = c .before .before .before .before .before .before .before .before .before .before .before .before .before .before .before .before in let v = s .pre .0 in let room = s .pre .1 .0 in let out = s .args .out .now in let ren = s .args .ren .now in (v, (room-kept room-zeros (c .before .before .before .before .before .before .before .before .before .walk .kept .1 .1 .1 .0) (c .before .before .before .before .before .before .before .before .before .walk .kept .1 .1 .1 .1 .0) (c .before .before .before .before .before .before .before .before .before .walk .kept .1 .1 .1 .1 .1 .0) (c .before .before .before .before .before .before .before .before .before .walk .kept .1 .1 .1 .1 .1 .1 .0), c .before .before .before .before .before .before .before .before .before .walk .ensures))
 
--- src/lib.rt:134:9
 clear-all-requires : tie.Need-clear-all-requires
 clear-all-requires c κs = search needs
 
--- src/lib.rt:135:9
 same-length : tie.Need-same-length
 same-length c = search needs
 
--- src/lib.rt:135:9
 same-length-2 : tie.Need-same-length-2
 same-length-2 c = search needs
 
--- src/lib.rt:135:9
 returns : tie.Need-returns
-returns c = ?
+returns c = let s = c .before .before .before .before .before .before .before .before .before .before .before .before .before .before .before .before .before .before .before .before .before .before .before .before .before .before .before in let v = s .pre .0 in let room = s .pre .1 .0 in let out = s .args .out .now in let ren = s .args .ren .now in zeroed 14 out ren ((c .before .before .before .before .before .before .before .before .before .before .text .last .1 .1 .1 .1 .1 .1 .1 .1 .0) ++ drop maxText out) (c .before .before .before .before .clear-all .last .0) (c .before .before .before .before .clear-all .last .1 .0) (part-long (c .before .before .before .before .before .before .before .before .before .before .text .last .1 .1 .1 .1 .1 .1 .1 .1 .0) out (c .before .before .before .before .before .before .before .before .before .before .text .kept .1 .1 .1 .1 .1 .1 .1 .1 .0) room) (c .before .before .before .before .clear-all .ensures .0) (c .before .before .before .before .clear-all .ensures .1) ∙ tells14 (c .before .before .before .before .before .before .before .before .before .before .text .ensures) out ren (not-true _ (c .before .before .before .before .before .before .before .if1 .taken))
 
--- src/lib.rt:138:9
 clear-all-requires-2 : tie.Need-clear-all-requires-2
 clear-all-requires-2 c κs = search needs
 
--- src/lib.rt:139:9
 same-length-3 : tie.Need-same-length-3
 same-length-3 c = search needs
 
--- src/lib.rt:139:9
 same-length-4 : tie.Need-same-length-4
 same-length-4 c = search needs
 
--- src/lib.rt:139:9
 returns-2 : tie.Need-returns-2
-returns-2 c = ?
+returns-2 c = let s = c .before .before .before .before .before .before .before .before .before .before .before .before .before .before .before .before .before .before .before .before .before .before .before .before .before .before .before .before in let v = s .pre .0 in let room = s .pre .1 .0 in let out = s .args .out .now in let ren = s .args .ren .now in zeroed 15 out ren ((c .before .before .before .before .before .before .before .before .before .before .before .text .last .1 .1 .1 .1 .1 .1 .1 .1 .0) ++ drop maxText out) (c .before .before .before .before .clear-all2 .last .0) (c .before .before .before .before .clear-all2 .last .1 .0) (part-long (c .before .before .before .before .before .before .before .before .before .before .before .text .last .1 .1 .1 .1 .1 .1 .1 .1 .0) out (c .before .before .before .before .before .before .before .before .before .before .before .text .kept .1 .1 .1 .1 .1 .1 .1 .1 .0) room) (c .before .before .before .before .clear-all2 .ensures .0) (c .before .before .before .before .clear-all2 .ensures .1) ∙ tells15 (c .before .before .before .before .before .before .before .before .before .before .before .text .ensures) out ren (not-false _ (c .before .before .before .before .before .before .before .before .if1 .left)) (not-true _ (c .before .before .before .before .before .before .before .if2 .taken))
 
--- src/lib.rt:142:9
 clear-all-requires-3 : tie.Need-clear-all-requires-3
 clear-all-requires-3 c κs = search needs
 
--- src/lib.rt:143:9
 same-length-5 : tie.Need-same-length-5
 same-length-5 c = search needs
 
--- src/lib.rt:143:9
 same-length-6 : tie.Need-same-length-6
 same-length-6 c = search needs
 
--- src/lib.rt:143:9
 returns-3 : tie.Need-returns-3
-returns-3 c = ?
+returns-3 c = let s = c .before .before .before .before .before .before .before .before .before .before .before .before .before .before .before .before .before .before .before .before .before .before .before .before .before .before .before .before .before in let v = s .pre .0 in let room = s .pre .1 .0 in let out = s .args .out .now in let ren = s .args .ren .now in zeroed 16 out ren ((c .before .before .before .before .before .before .before .before .before .before .before .before .text .last .1 .1 .1 .1 .1 .1 .1 .1 .0) ++ drop maxText out) (c .before .before .before .before .clear-all3 .last .0) (c .before .before .before .before .clear-all3 .last .1 .0) (part-long (c .before .before .before .before .before .before .before .before .before .before .before .before .text .last .1 .1 .1 .1 .1 .1 .1 .1 .0) out (c .before .before .before .before .before .before .before .before .before .before .before .before .text .kept .1 .1 .1 .1 .1 .1 .1 .1 .0) room) (c .before .before .before .before .clear-all3 .ensures .0) (c .before .before .before .before .clear-all3 .ensures .1) ∙ told16 out ren (c .before .before .before .before .before .before .before .before .before .before .before .before .text .last .1 .1 .1 .1 .1 .1 .1 .1 .0) (c .before .before .before .before .before .before .before .before .before .before .before .before .text .result .at) room (c .before .before .before .before .before .before .before .before .before .before .before .before .text .kept .1 .1 .1 .1 .1 .1 .1 .1 .0) (c .before .before .before .before .before .before .before .before .before .before .before .before .text .ensures) (not-false _ (c .before .before .before .before .before .before .before .before .before .if1 .left)) (not-false _ (c .before .before .before .before .before .before .before .before .if2 .left)) (c .before .before .before .before .before .before .before .if3 .taken)
 
--- src/lib.rt:145:5
 clear-from-requires : tie.Need-clear-from-requires
 clear-from-requires c κs = search needs
 
--- src/lib.rt:146:14
 slice-aggregate-renumber : tie.Need-slice-aggregate-renumber
 slice-aggregate-renumber c = search needs
 
--- src/lib.rt:146:5
 renumber-requires : tie.Need-renumber-requires
-renumber-requires c κs = ?
+renumber-requires c κs = let s = c .before .before .before .before .before .before .before .before .before .before .before .before .before .before .before .before .before .before .before .before .before .before .before .before .before .before .before .before in let v = s .pre .0 in let room = s .pre .1 .0 in let out = s .args .out .now in let ren = s .args .ren .now in ((omega (arith, v .few-atoms, c .before .before .before .before .before .before .before .before .before .before .before .before .before .before .before .before .before .before .before .before .before .walk .kept .1 .1 .1 .1 .0), omega (arith, v .few-atoms, s .pre .1 .1)), λ a h. (let q = c .before .before .before .before .before .before .before .before .before .before .before .before .before .before .before .before .before .before .before .before .before .walk .ensures .number a h in omega arith))
 
--- src/lib.rt:119:1
 same-length-7 : tie.Need-same-length-7
 same-length-7 c = search needs
 
--- src/lib.rt:119:1
 same-length-8 : tie.Need-same-length-8
 same-length-8 c = search needs
 
--- src/lib.rt:119:1
 returns-4 : tie.Need-returns-4
-returns-4 c = ?
+returns-4 c = let s = c .before .before .before .before .before .before .before .before .before .before .before .before .before .before .before .before .before .before .before .before .before .before .before .before .before .before .before .before .before .before .before in let v = s .pre .0 in let room = s .pre .1 .0 in let out = s .args .out .now in let ren = s .args .ren .now in told0 out ren (c .before .before .before .before .before .before .before .before .before .before .before .before .before .before .text .last .1 .1 .1 .1 .1 .1 .1 .1 .0) (c .before .before .before .before .before .before .before .before .before .before .before .before .before .before .text .result .at) room (c .before .before .before .before .before .before .before .before .before .before .before .before .before .before .text .kept .1 .1 .1 .1 .1 .1 .1 .1 .0) (c .before .before .before .before .before .before .before .before .before .before .before .before .before .before .text .ensures) (not-false _ (c .before .before .before .before .before .before .before .before .before .before .before .if1 .left)) (not-false _ (c .before .before .before .before .before .before .before .before .before .before .if2 .left)) (c .before .before .before .before .before .before .before .before .before .if3 .left) (c .before .before .before .before .before .before .before .before .before .before .before .before .before .before .before .before .before .before .before .before .before .before .before .before .walk .last .1 .1 .1 .1 .0) (c .before .before .before .before .before .before .before .clear-from .last .0) (c .before .before .renumber .last .1 .1 .0) (c .before .before .before .before .before .before .before .before .before .before .before .before .before .before .before .before .before .before .before .before .before .before .before .before .walk .ensures .number) (c .before .before .before .before .before .before .before .clear-from .ensures) (c .before .before .renumber .ensures)
 
 pub write-valid-spec : {M : Type 1} → statement M
 write-valid-spec =
