@@ -8,7 +8,11 @@ use Rattle.table.specs.declared.Check.the-variants.{Fine, Refused}
 use Rattle.reader.specs.declared.ending.Answer.{Answer}
 use Rattle.reader.specs.declared.ending.Answer.the-variants.{Molecule, Refused as readRefused}
 use Rattle.reading.specs.Read.{Told}
+use Rattle.writer.specs.declared.Written.{Written}
+use Rattle.writer.specs.declared.Written.the-variants.{Text, Refused as writeRefused}
+use Rattle.writing.specs.Write as write
 use Rattle.capi.specs.declared.ReadReply.{ReadReply}
+use Rattle.capi.specs.declared.WriteReply.{WriteReply}
 use Rattle.kekule.specs.declared.Asked.{Asked}
 use Rattle.kekule.specs.declared.Asked.the-variants.{Yes, No, Refused as askedRefused}
 use Rattle.kekule.specs.Kekule.{Out, Tables, foundCode}
@@ -22,6 +26,15 @@ readReplyOf (readRefused r p) = record { code = codeOf r; place = p; atoms = 0; 
 -- the same with both tables, as the definition of reading tells it
 abbrev pub readOut : ReadReply → List ℤ → List ℤ → Told
 readOut r atoms bonds = record { code = r .code; offset = r .place; atomCount = r .atoms; bondCount = r .bonds; atoms = atoms; bonds = bonds }
+
+-- an answer of the writer in plain numbers
+abbrev pub writeReplyOf : Written → WriteReply
+writeReplyOf (Text k) = record { code = 0; length = k }
+writeReplyOf (writeRefused r) = record { code = codeOf r; length = 0 }
+
+-- the same with the output and the renumbering, as the definition of writing tells it
+abbrev pub writeOut : WriteReply → List ℕ → List ℕ → write.Told
+writeOut r out ren = record { code = r .code; size = r .length; output = out; numbers = ren }
 
 abbrev pub checkCode : Check → ℕ
 checkCode Fine = 0

@@ -5,11 +5,13 @@ ghost use Rattle.kekule.specs.Kekule.{callOn, askedOf, kekulizedOf};
 ghost use Rattle.kekule.specs.Calls.{replayedOf};
 ghost use Rattle.table.specs.Valid.{checkOf};
 ghost use Rattle.reading.specs.Read.{readOf};
-ghost use Rattle.capi.specs.Capi.{readReplyOf, readOut, checkCode, askedCode, rowOut, rowOutOf, tablesOut, tablesOutOf, replayOut, replayOutOf};
+ghost use Rattle.writing.specs.Write.{writeOf};
+ghost use Rattle.capi.specs.Capi.{readReplyOf, readOut, writeReplyOf, writeOut, checkCode, askedCode, rowOut, rowOutOf, tablesOut, tablesOutOf, replayOut, replayOutOf};
 use kekule::Asked;
 use kekule::Found;
 use reader::ending::Answer;
 use table::Check;
+use writer::Written;
 
 // What reading hands back: code 0 with the counts of atoms and bonds, or the refusal's code with its offset.
 #[repr(C)]
@@ -46,6 +48,41 @@ pub extern "C" fn balsa_read(text: &[u8], atoms: &mut [i32], bonds: &mut [i32]) 
     ensures { λ r. ⌜ readOut r (now (atoms .exit)) (now (bonds .exit)) ≡ readOf (now (text .entry)) (now (atoms .entry)) (now (bonds .entry)) ⌝ }
 {
     read_reply(reader::read(text, atoms, bonds))
+}
+
+// What writing hands back: code 0 with the length of the text, or the refusal's code.
+#[repr(C)]
+pub struct WriteReply {
+    pub code: u32,
+    pub length: usize,
+}
+
+// An answer of the writer in plain numbers.
+fn write_reply(w: Written) -> WriteReply
+    ensures { λ r. ⌜ r ≡ writeReplyOf w ⌝ }
+{
+    match w {
+        Written::Text(k) => WriteReply { code: 0, length: k },
+        Written::Refused(r) => WriteReply {
+            code: refusal::code(r) as u32,
+            length: 0,
+        },
+    }
+}
+
+// Writes the molecule of the tables: 0 with the length, or 1, 13, 14, 15, 16.
+#[no_mangle]
+pub extern "C" fn balsa_write(
+    atoms: &[i32],
+    bonds: &[i32],
+    n: usize,
+    m: usize,
+    out: &mut [u8],
+    ren: &mut [u16],
+) -> WriteReply
+    ensures { λ r. ⌜ writeOut r (now (out .exit)) (now (ren .exit)) ≡ writeOf (now (atoms .entry)) (now (bonds .entry)) n m (now (out .entry)) (now (ren .entry)) ⌝ }
+{
+    write_reply(writer::write(atoms, bonds, n, m, out, ren))
 }
 
 // The code of a check: 0, or the refusal's.
