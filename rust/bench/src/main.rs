@@ -6,6 +6,7 @@ mod subject;
 
 use clock::time;
 use compare::implementation::Reference;
+use compare::proved::Proved;
 use std::hint::black_box;
 use std::time::Duration;
 use subject::{Molecules, OnTables, Subject};
@@ -29,10 +30,12 @@ fn main() {
     );
     measure_corpus(&Molecules, &texts);
     measure_corpus(&OnTables(Reference), &texts);
+    measure_corpus(&OnTables(Proved), &texts);
     println!("reading: mean of {READINGS} readings");
     row("", LENGTHS.map(|length| format!("{length} bytes")));
     measure_lengths(&Molecules);
     measure_lengths(&OnTables(Reference));
+    measure_lengths(&OnTables(Proved));
 }
 
 fn row<const N: usize>(name: &str, cells: [String; N]) {

@@ -10,6 +10,7 @@ pub mod laws;
 pub mod limits;
 pub mod molecules;
 pub mod pair;
+pub mod proved;
 pub mod random;
 pub mod spelling;
 pub mod texts;

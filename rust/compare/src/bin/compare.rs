@@ -5,12 +5,13 @@ use compare::buffers::Buffers;
 use compare::implementation::{Implementation, Reference};
 use compare::molecules::Effort;
 use compare::pair::{compare_tables, compare_text};
+use compare::proved::Proved;
 use compare::random::Random;
 use compare::{laws, texts};
 use std::process::ExitCode;
 
 /// The implementations that are compared with the reference.
-const OTHERS: [&dyn Implementation; 0] = [];
+const OTHERS: [&dyn Implementation; 1] = [&Proved];
 
 fn main() -> ExitCode {
     let arguments: Vec<String> = std::env::args().skip(1).collect();

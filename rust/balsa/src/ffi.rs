@@ -1,0 +1,254 @@
+//! The exported calls. A slice passes as a pointer and a length in elements.
+//!
+//! This is the only module with `unsafe`. Every call is proved for all buffers and all contents, so
+//! the wrappers have nothing to test: `&` and `&mut` keep the memory valid and the buffers apart.
+
+/// What `balsa_read` hands back.
+#[repr(C)]
+pub struct ReadReply {
+    pub code: u32,
+    pub place: usize,
+    pub atoms: usize,
+    pub bonds: usize,
+}
+
+/// What `balsa_write` hands back.
+#[repr(C)]
+pub struct WriteReply {
+    pub code: u32,
+    pub length: usize,
+}
+
+mod linked {
+    use super::{ReadReply, WriteReply};
+
+    extern "C" {
+        pub fn balsa_read(
+            text: *const u8,
+            text_len: usize,
+            atoms: *mut i32,
+            atoms_len: usize,
+            bonds: *mut i32,
+            bonds_len: usize,
+        ) -> ReadReply;
+        pub fn balsa_write(
+            atoms: *const i32,
+            atoms_len: usize,
+            bonds: *const i32,
+            bonds_len: usize,
+            n: usize,
+            m: usize,
+            out: *mut u8,
+            out_len: usize,
+            ren: *mut u16,
+            ren_len: usize,
+        ) -> WriteReply;
+        pub fn balsa_check(
+            atoms: *const i32,
+            atoms_len: usize,
+            bonds: *const i32,
+            bonds_len: usize,
+            n: usize,
+            m: usize,
+        ) -> u32;
+        pub fn balsa_first(
+            atoms: *const i32,
+            atoms_len: usize,
+            bonds: *const i32,
+            bonds_len: usize,
+            n: usize,
+            m: usize,
+            row: *mut u8,
+            row_len: usize,
+        ) -> u32;
+        pub fn balsa_next(
+            atoms: *const i32,
+            atoms_len: usize,
+            bonds: *const i32,
+            bonds_len: usize,
+            n: usize,
+            m: usize,
+            row: *mut u8,
+            row_len: usize,
+        ) -> u32;
+        pub fn balsa_is_matching(
+            atoms: *const i32,
+            atoms_len: usize,
+            bonds: *const i32,
+            bonds_len: usize,
+            n: usize,
+            m: usize,
+            row: *const u8,
+            row_len: usize,
+        ) -> u32;
+        pub fn balsa_kekulize(
+            atoms: *mut i32,
+            atoms_len: usize,
+            bonds: *mut i32,
+            bonds_len: usize,
+            n: usize,
+            m: usize,
+            row: *const u8,
+            row_len: usize,
+        ) -> u32;
+        pub fn balsa_replay(
+            calls: *const u8,
+            calls_len: usize,
+            atoms: *const i32,
+            atoms_len: usize,
+            bonds: *const i32,
+            bonds_len: usize,
+            n: usize,
+            m: usize,
+            row: *mut u8,
+            row_len: usize,
+            codes: *mut u8,
+            codes_len: usize,
+        ) -> u32;
+    }
+}
+
+pub fn read(text: &[u8], atoms: &mut [i32], bonds: &mut [i32]) -> ReadReply {
+    // SAFETY: the pointers and lengths are those of live slices, which do not overlap.
+    unsafe {
+        linked::balsa_read(
+            text.as_ptr(),
+            text.len(),
+            atoms.as_mut_ptr(),
+            atoms.len(),
+            bonds.as_mut_ptr(),
+            bonds.len(),
+        )
+    }
+}
+
+pub fn write(
+    atoms: &[i32],
+    bonds: &[i32],
+    n: usize,
+    m: usize,
+    out: &mut [u8],
+    ren: &mut [u16],
+) -> WriteReply {
+    // SAFETY: as for `read`.
+    unsafe {
+        linked::balsa_write(
+            atoms.as_ptr(),
+            atoms.len(),
+            bonds.as_ptr(),
+            bonds.len(),
+            n,
+            m,
+            out.as_mut_ptr(),
+            out.len(),
+            ren.as_mut_ptr(),
+            ren.len(),
+        )
+    }
+}
+
+pub fn check(atoms: &[i32], bonds: &[i32], n: usize, m: usize) -> u32 {
+    // SAFETY: as for `read`.
+    unsafe {
+        linked::balsa_check(
+            atoms.as_ptr(),
+            atoms.len(),
+            bonds.as_ptr(),
+            bonds.len(),
+            n,
+            m,
+        )
+    }
+}
+
+pub fn first(atoms: &[i32], bonds: &[i32], n: usize, m: usize, row: &mut [u8]) -> u32 {
+    // SAFETY: as for `read`.
+    unsafe {
+        linked::balsa_first(
+            atoms.as_ptr(),
+            atoms.len(),
+            bonds.as_ptr(),
+            bonds.len(),
+            n,
+            m,
+            row.as_mut_ptr(),
+            row.len(),
+        )
+    }
+}
+
+pub fn next(atoms: &[i32], bonds: &[i32], n: usize, m: usize, row: &mut [u8]) -> u32 {
+    // SAFETY: as for `read`.
+    unsafe {
+        linked::balsa_next(
+            atoms.as_ptr(),
+            atoms.len(),
+            bonds.as_ptr(),
+            bonds.len(),
+            n,
+            m,
+            row.as_mut_ptr(),
+            row.len(),
+        )
+    }
+}
+
+pub fn is_matching(atoms: &[i32], bonds: &[i32], n: usize, m: usize, row: &[u8]) -> u32 {
+    // SAFETY: as for `read`.
+    unsafe {
+        linked::balsa_is_matching(
+            atoms.as_ptr(),
+            atoms.len(),
+            bonds.as_ptr(),
+            bonds.len(),
+            n,
+            m,
+            row.as_ptr(),
+            row.len(),
+        )
+    }
+}
+
+pub fn kekulize(atoms: &mut [i32], bonds: &mut [i32], n: usize, m: usize, row: &[u8]) -> u32 {
+    // SAFETY: as for `read`.
+    unsafe {
+        linked::balsa_kekulize(
+            atoms.as_mut_ptr(),
+            atoms.len(),
+            bonds.as_mut_ptr(),
+            bonds.len(),
+            n,
+            m,
+            row.as_ptr(),
+            row.len(),
+        )
+    }
+}
+
+pub fn replay(
+    calls: &[u8],
+    atoms: &[i32],
+    bonds: &[i32],
+    n: usize,
+    m: usize,
+    row: &mut [u8],
+    codes: &mut [u8],
+) -> u32 {
+    // SAFETY: as for `read`.
+    unsafe {
+        linked::balsa_replay(
+            calls.as_ptr(),
+            calls.len(),
+            atoms.as_ptr(),
+            atoms.len(),
+            bonds.as_ptr(),
+            bonds.len(),
+            n,
+            m,
+            row.as_mut_ptr(),
+            row.len(),
+            codes.as_mut_ptr(),
+            codes.len(),
+        )
+    }
+}

@@ -1,0 +1,150 @@
+//! A molecule that owns its tables.
+
+use crate::refusal::{Code, Refusal};
+use crate::tables::{self, Counts, Step, ATOM_TABLE, BOND_TABLE, RENUMBERING, ROW, TEXT};
+
+/// A molecule that was read.
+///
+/// ```
+/// use balsa::Molecule;
+///
+/// let mut benzene = Molecule::read(b"c1ccccc1")?;
+/// let drawings: Vec<_> = benzene.matchings().collect();
+/// assert_eq!(drawings, [[1, 0, 1, 0, 1, 0], [0, 1, 0, 1, 0, 1]]);
+/// benzene.kekulize(&drawings[0])?;
+/// assert_eq!(benzene.write()?.text, b"C1=CC=CC=C1");
+/// # Ok::<(), balsa::Refusal>(())
+/// ```
+#[derive(Clone, Debug, PartialEq, Eq)]
+pub struct Molecule {
+    atoms: Vec<i32>,
+    bonds: Vec<i32>,
+    counts: Counts,
+}
+
+/// A written molecule.
+#[derive(Clone, Debug, PartialEq, Eq)]
+pub struct Written {
+    /// The text.
+    pub text: Vec<u8>,
+    /// Each atom's number in the text.
+    pub renumbering: Vec<u16>,
+}
+
+impl Molecule {
+    /// Reads a text.
+    ///
+    /// # Errors
+    /// The refusals 2 to 11, with their places.
+    ///
+    /// ```
+    /// use balsa::{Code, Molecule, Refusal};
+    ///
+    /// let refusal = Molecule::read(b"C11").unwrap_err();
+    /// assert_eq!(refusal, Refusal { code: Code::SelfBridge, place: 2 });
+    /// ```
+    pub fn read(text: &[u8]) -> Result<Self, Refusal> {
+        let mut atoms = vec![0; ATOM_TABLE];
+        let mut bonds = vec![0; BOND_TABLE];
+        let counts = tables::read(text, &mut atoms, &mut bonds)?;
+        Ok(Molecule {
+            atoms,
+            bonds,
+            counts,
+        })
+    }
+
+    /// Six cells for each atom: element, selected, isotope, hydrogens, charge, extension.
+    pub fn atoms(&self) -> &[i32] {
+        &self.atoms[..6 * self.counts.atoms]
+    }
+
+    /// Three cells for each bond: first end, second end, kind.
+    pub fn bonds(&self) -> &[i32] {
+        &self.bonds[..3 * self.counts.bonds]
+    }
+
+    /// How many atoms and bonds there are.
+    pub fn counts(&self) -> Counts {
+        self.counts
+    }
+
+    /// All matchings in order, each a row of 0 and 1 over the bonds.
+    pub fn matchings(&self) -> Matchings<'_> {
+        Matchings {
+            molecule: self,
+            row: vec![0; ROW],
+            begun: false,
+            ended: false,
+        }
+    }
+
+    /// Makes the bonds of a matching double and every atom unselected.
+    ///
+    /// # Errors
+    /// 12 if the row is not a matching.
+    pub fn kekulize(&mut self, matching: &[u8]) -> Result<(), Refusal> {
+        if matching.len() < self.counts.bonds {
+            return Err(Code::NotMatching.into());
+        }
+        let mut row = matching.to_vec();
+        row.resize(ROW.max(row.len()), 0);
+        Ok(tables::kekulize(
+            &mut self.atoms,
+            &mut self.bonds,
+            self.counts,
+            &row,
+        )?)
+    }
+
+    /// Writes the molecule.
+    ///
+    /// # Errors
+    /// 14, 15 or 16.
+    pub fn write(&self) -> Result<Written, Refusal> {
+        let mut text = vec![0; TEXT];
+        let mut renumbering = vec![0; RENUMBERING];
+        let length = tables::write(
+            &self.atoms,
+            &self.bonds,
+            self.counts,
+            &mut text,
+            &mut renumbering,
+        )?;
+        text.truncate(length);
+        renumbering.truncate(self.counts.atoms);
+        Ok(Written { text, renumbering })
+    }
+}
+
+/// An iterator over the matchings of a molecule.
+#[derive(Debug)]
+pub struct Matchings<'a> {
+    molecule: &'a Molecule,
+    row: Vec<u8>,
+    begun: bool,
+    ended: bool,
+}
+
+impl Iterator for Matchings<'_> {
+    type Item = Vec<u8>;
+
+    fn next(&mut self) -> Option<Vec<u8>> {
+        if self.ended {
+            return None;
+        }
+        let Molecule {
+            atoms,
+            bonds,
+            counts,
+        } = self.molecule;
+        let given = if self.begun {
+            tables::next(atoms, bonds, *counts, &mut self.row) == Ok(Step::Given)
+        } else {
+            tables::first(atoms, bonds, *counts, &mut self.row).is_ok()
+        };
+        self.begun = true;
+        self.ended = !given;
+        given.then(|| self.row[..counts.bonds].to_vec())
+    }
+}

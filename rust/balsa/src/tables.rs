@@ -1,0 +1,150 @@
+//! The calls on buffers that the caller lends, as they are proved.
+
+use crate::ffi;
+use crate::refusal::{Code, Refusal};
+
+/// Cells of a full atom table.
+pub const ATOM_TABLE: usize = 1200;
+/// Cells of a full bond table.
+pub const BOND_TABLE: usize = 750;
+/// Cells of a matching row.
+pub const ROW: usize = 250;
+/// Cells of a renumbering.
+pub const RENUMBERING: usize = 200;
+/// Bytes of the longest text.
+pub const TEXT: usize = 4096;
+
+/// How many atoms and bonds the tables hold.
+#[derive(Clone, Copy, Debug, Default, PartialEq, Eq)]
+pub struct Counts {
+    /// Atoms.
+    pub atoms: usize,
+    /// Bonds.
+    pub bonds: usize,
+}
+
+/// What asking for the next matching answers.
+#[derive(Clone, Copy, Debug, PartialEq, Eq)]
+pub enum Step {
+    /// The row holds the next matching.
+    Given,
+    /// There is none after it.
+    End,
+}
+
+fn accepted(code: u32) -> Result<(), Code> {
+    match code {
+        0 => Ok(()),
+        number => Err(Code::of(number)),
+    }
+}
+
+/// Reads a text into the tables.
+///
+/// # Errors
+/// 1 leaves the tables as they were; 2 to 11 zero them.
+pub fn read(text: &[u8], atoms: &mut [i32], bonds: &mut [i32]) -> Result<Counts, Refusal> {
+    let reply = ffi::read(text, atoms, bonds);
+    match reply.code {
+        0 => Ok(Counts {
+            atoms: reply.atoms,
+            bonds: reply.bonds,
+        }),
+        number => Err(Refusal {
+            code: Code::of(number),
+            place: reply.place,
+        }),
+    }
+}
+
+/// Whether the tables can be worked with.
+///
+/// # Errors
+/// 1 or 13.
+pub fn check(atoms: &[i32], bonds: &[i32], counts: Counts) -> Result<(), Code> {
+    accepted(ffi::check(atoms, bonds, counts.atoms, counts.bonds))
+}
+
+/// Stores the first matching in the row.
+///
+/// # Errors
+/// 1 leaves the row as it was; 13 and 11 zero it.
+pub fn first(atoms: &[i32], bonds: &[i32], counts: Counts, row: &mut [u8]) -> Result<(), Code> {
+    accepted(ffi::first(atoms, bonds, counts.atoms, counts.bonds, row))
+}
+
+/// Stores the matching after the row in the row; the end zeroes it.
+///
+/// # Errors
+/// 1 leaves the row as it was; 13 and 12 zero it.
+pub fn next(atoms: &[i32], bonds: &[i32], counts: Counts, row: &mut [u8]) -> Result<Step, Code> {
+    match ffi::next(atoms, bonds, counts.atoms, counts.bonds, row) {
+        0 => Ok(Step::Given),
+        255 => Ok(Step::End),
+        number => Err(Code::of(number)),
+    }
+}
+
+/// Whether the row is a matching.
+///
+/// # Errors
+/// 1 or 13.
+pub fn is_matching(atoms: &[i32], bonds: &[i32], counts: Counts, row: &[u8]) -> Result<bool, Code> {
+    match ffi::is_matching(atoms, bonds, counts.atoms, counts.bonds, row) {
+        0 => Ok(true),
+        12 => Ok(false),
+        number => Err(Code::of(number)),
+    }
+}
+
+/// Kekulizes the tables by the row.
+///
+/// # Errors
+/// 1, 13 or 12, and the tables stay as they were.
+pub fn kekulize(
+    atoms: &mut [i32],
+    bonds: &mut [i32],
+    counts: Counts,
+    row: &[u8],
+) -> Result<(), Code> {
+    accepted(ffi::kekulize(atoms, bonds, counts.atoms, counts.bonds, row))
+}
+
+/// Writes the molecule of the tables: the length of the text, with each atom's place in it.
+///
+/// # Errors
+/// 1 leaves the buffers as they were; 13, 14, 15 and 16 zero them.
+pub fn write(
+    atoms: &[i32],
+    bonds: &[i32],
+    counts: Counts,
+    text: &mut [u8],
+    renumbering: &mut [u16],
+) -> Result<usize, Code> {
+    let reply = ffi::write(atoms, bonds, counts.atoms, counts.bonds, text, renumbering);
+    accepted(reply.code).map(|()| reply.length)
+}
+
+/// Runs a list of calls on one row, 0 for the first matching and any other byte for the next, and
+/// stores the number of each answer: 0 given, 255 end, or the refusal's.
+///
+/// # Errors
+/// 1 if there are fewer cells than calls, and nothing changes.
+pub fn replay(
+    calls: &[u8],
+    atoms: &[i32],
+    bonds: &[i32],
+    counts: Counts,
+    row: &mut [u8],
+    codes: &mut [u8],
+) -> Result<(), Code> {
+    accepted(ffi::replay(
+        calls,
+        atoms,
+        bonds,
+        counts.atoms,
+        counts.bonds,
+        row,
+        codes,
+    ))
+}

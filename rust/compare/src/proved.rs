@@ -1,0 +1,85 @@
+//! The proved library as an implementation of the calls.
+
+use crate::buffers::Buffers;
+use crate::implementation::{Answer, Implementation};
+use balsa::tables::{self, Counts, Step};
+use balsa::{Code, Refusal};
+
+/// The proved library, through its Rust crate.
+pub struct Proved;
+
+impl From<Code> for Answer {
+    fn from(code: Code) -> Self {
+        Refusal::from(code).into()
+    }
+}
+
+impl From<Refusal> for Answer {
+    fn from(refusal: Refusal) -> Self {
+        Answer {
+            code: refusal.code.number(),
+            place: refusal.place,
+            ..Answer::default()
+        }
+    }
+}
+
+fn counts(buffers: &Buffers) -> Counts {
+    Counts {
+        atoms: buffers.counts.atoms,
+        bonds: buffers.counts.bonds,
+    }
+}
+
+fn answer<T, E: Into<Answer>>(result: Result<T, E>, accepted: impl FnOnce(T) -> Answer) -> Answer {
+    result.map_or_else(Into::into, accepted)
+}
+
+impl Implementation for Proved {
+    fn name(&self) -> &str {
+        "proved"
+    }
+
+    fn read(&self, text: &[u8], buffers: &mut Buffers) -> Answer {
+        let read = tables::read(text, &mut buffers.atoms, &mut buffers.bonds);
+        let Counts { atoms, bonds } = read.unwrap_or_default();
+        buffers.counts = balsa_reference::tables::Counts { atoms, bonds };
+        answer(read, |counts| Answer::of(counts.atoms, counts.bonds))
+    }
+
+    fn first(&self, buffers: &mut Buffers) -> Answer {
+        let counts = counts(buffers);
+        let found = tables::first(&buffers.atoms, &buffers.bonds, counts, &mut buffers.row);
+        answer(found, |()| Answer::default())
+    }
+
+    fn next(&self, buffers: &mut Buffers) -> Answer {
+        let counts = counts(buffers);
+        let found = tables::next(&buffers.atoms, &buffers.bonds, counts, &mut buffers.row);
+        answer(found, |step| Answer::of(usize::from(step == Step::End), 0))
+    }
+
+    fn is_matching(&self, buffers: &mut Buffers) -> Answer {
+        let counts = counts(buffers);
+        let asked = tables::is_matching(&buffers.atoms, &buffers.bonds, counts, &buffers.row);
+        answer(asked, |is_matching| Answer::of(usize::from(is_matching), 0))
+    }
+
+    fn kekulize(&self, buffers: &mut Buffers) -> Answer {
+        let counts = counts(buffers);
+        let done = tables::kekulize(&mut buffers.atoms, &mut buffers.bonds, counts, &buffers.row);
+        answer(done, |()| Answer::default())
+    }
+
+    fn write(&self, buffers: &mut Buffers) -> Answer {
+        let counts = counts(buffers);
+        let written = tables::write(
+            &buffers.atoms,
+            &buffers.bonds,
+            counts,
+            &mut buffers.text,
+            &mut buffers.renumbering,
+        );
+        answer(written, |length| Answer::of(length, 0))
+    }
+}
