@@ -113,7 +113,7 @@ module _ (s : List ℕ) (at : ℕ) {a b : ℕ} (ka : Peeked s at a) (kb : Peeked
 
         split : (t u v w x : Bool) → eqb a 42 ≡ t → eqb (selectedOf a) 0 ≡ u → listed (a ∷ b ∷ []) symbols ≡ v → listed (a ∷ []) symbols ≡ w → starts a symbols ≡ x
             → restIn s μ at (isotope 0) (fields i 0 0 0 (pos 0) 0)
-              ≡ afterSymbol μ i (pick t (Brief 0) (pick u (pick v (Long (numberOf (a ∷ b ∷ []))) (pick w (Brief (numberOf (a ∷ []))) (pick x Half Nothing))) (Selected (selectedOf a))))
+            ≡ afterSymbol μ i (pick t (Brief 0) (pick u (pick v (Long (numberOf (a ∷ b ∷ []))) (pick w (Brief (numberOf (a ∷ []))) (pick x Half Nothing))) (Selected (selectedOf a))))
         split true u v w x e f g h j = star (eqb-true a 42 e)
         split false false v w x e f g h j =
             let z = mark-goes a (selected-letter a f) in

@@ -161,10 +161,12 @@ module _ (s : List ℕ) (at : ℕ) {b : ℕ} (k : Peeked s at b) (l : at < lengt
         begins = begins h f;
         within = omega arith;
         later = omega arith;
-        is = λ μ a. (blank,
-            first-step h f μ a (ap (λ (ν : Memory). ν .st .depth) (d μ)) ∙ ap (rest s (at + 1) m) (d μ)
-            ∙ rest-to s (at + 1) m (described (bareRow e 0) (begun 1 μ)) j w g (r (described (bareRow e 0) (begun 1 μ))) refl
-            ∙ rw (t, atom-again (μ .atoms) (μ .st .atoms) (bareRow e 0) (bareRow n 0)));
+        is = λ μ a. (
+          blank,
+          first-step h f μ a (ap (λ (ν : Memory). ν .st .depth) (d μ)) ∙ ap (rest s (at + 1) m) (d μ)
+              ∙ rest-to s (at + 1) m (described (bareRow e 0) (begun 1 μ)) j w g (r (described (bareRow e 0) (begun 1 μ))) refl
+              ∙ rw (t, atom-again (μ .atoms) (μ .st .atoms) (bareRow e 0) (bareRow n 0)),
+        );
       }
 
   module _ {c : ℕ} (j : Peeked s (at + 1) c) where

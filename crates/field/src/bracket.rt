@@ -7,6 +7,7 @@ ghost use mir.Val.{SFits};
 ghost use mir.Syntax.{w32};
 ghost use Rattle.reading.specs.Bracket.{signed};
 ghost use Rattle.field.specs.Field.{fieldEnd, chargeEnd, namedEnd, Isotoped, Symbolled, Hydrogened, Charged, Extended, Bracketed};
+use crate::byte::Number;
 use crate::byte::is_digit;
 use crate::byte::is_nonzero;
 use crate::byte::is_several;
@@ -14,7 +15,6 @@ use crate::byte::is_sign;
 use crate::byte::more;
 use crate::byte::peek;
 use crate::byte::value;
-use crate::byte::Number;
 use element::Symbol;
 use state::Fields;
 

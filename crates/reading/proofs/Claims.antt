@@ -94,4 +94,4 @@ module _ (s : List ℕ) (atoms bonds : List ℤ) where
       outside : getD (μ .st .outside) a 0 ≡ 1 → atomRow (atomsOf μ) a ≡ withHydrogens (atomRow (μ .atoms) a) (pos (implied (element (atomsOf μ) a) (selected (atomsOf μ) a) (bondSum (μ .bonds) (μ .st .bonds) a)))
       outside e =
           rw (same ELEMENT (λ z. omega arith) (omega arith), same SELECTED (λ z. omega arith) (omega arith))
-            (row-given (μ .st .outside) (μ .bonds) (μ .st .bonds) (μ .st .atoms) (μ .atoms) a l (omega (arith, w .tables .atom-length, w .tables .atom-room, w .tables .few-atoms)) e)
+          (row-given (μ .st .outside) (μ .bonds) (μ .st .bonds) (μ .st .atoms) (μ .atoms) a l (omega (arith, w .tables .atom-length, w .tables .atom-room, w .tables .few-atoms)) e)

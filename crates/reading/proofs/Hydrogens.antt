@@ -66,7 +66,7 @@ module _ (outside : List ℕ) (bonds : List ℤ) (m : ℕ) where
           → atomCell (run (hydrogenate outside bonds m) (suc k) c (hydrogenate outside bonds m k t)) a HYDROGENS ≡ pos (implied (element t a) (selected t a) (bondSum bonds m a))
       split (yes q) rest =
           run-other c (suc k) (hydrogenate outside bonds m k t) (atomPlace a HYDROGENS) (λ x lx hx ex jx. omega arith)
-            ∙ subst (λ x. atomCell (hydrogenate outside bonds m x t) a HYDROGENS ≡ pos (implied (element t a) (selected t a) (bondSum bonds m a))) q (one-given a t e r)
+          ∙ subst (λ x. atomCell (hydrogenate outside bonds m x t) a HYDROGENS ≡ pos (implied (element t a) (selected t a) (bondSum bonds m a))) q (one-given a t e r)
       split (no n) rest =
           rest (omega arith) ∙ rw (one-other k t (atomPlace a ELEMENT) (λ ex jx. omega arith), one-other k t (atomPlace a SELECTED) (λ ex jx. omega arith))
 
@@ -149,20 +149,21 @@ with-hydrogens : (x : Atom) (h : ℕ) → rowOk x ≡ true → h ≤ 9 → rowOk
 unfolding rowOk
 with-hydrogens x h ok l =
     swap (inRange (x .element) (pos 0) (pos 118)) (inRange (x .isotope) (pos 0) (pos 999)) (inRange (x .hydrogens) (pos 0) (pos 9)) (inRange (pos h) (pos 0) (pos 9))
-      (inRange (x .charge) (negsuc 8) (pos 9)) (inRange (x .extension) (pos 0) (pos 9999))
-      (inRange (x .selected) (pos 0) (pos 1) && (eqb (number (x .selected)) 0 || selectable (number (x .element)))) ok (within h 9 l)
+    (inRange (x .charge) (negsuc 8) (pos 9)) (inRange (x .extension) (pos 0) (pos 9999))
+    (inRange (x .selected) (pos 0) (pos 1) && (eqb (number (x .selected)) 0 || selectable (number (x .element)))) ok (within h 9 l)
 
 -- the row of an atom that got its hydrogens, and of another
 pub row-given : (outside : List ℕ) (bonds : List ℤ) (m n : ℕ) (t : List ℤ) (a : ℕ) → a < n → atomCells * a + atomCells ≤ length t → getD outside a 0 ≡ 1
     → atomRow (hydrogenated outside bonds m n t) a ≡ withHydrogens (atomRow t a) (pos (implied (element t a) (selected t a) (bondSum bonds m a)))
 row-given outside bonds m n t a l r e =
-    rw
-      (hydrogenated-other outside bonds m n t (atomPlace a ELEMENT) (λ x lx ex jx. omega arith),
+    rw (
+      hydrogenated-other outside bonds m n t (atomPlace a ELEMENT) (λ x lx ex jx. omega arith),
       hydrogenated-other outside bonds m n t (atomPlace a SELECTED) (λ x lx ex jx. omega arith),
       hydrogenated-other outside bonds m n t (atomPlace a ISOTOPE) (λ x lx ex jx. omega arith),
       hydrogenated-given outside bonds m n t a l e (omega arith),
       hydrogenated-other outside bonds m n t (atomPlace a CHARGE) (λ x lx ex jx. omega arith),
-      hydrogenated-other outside bonds m n t (atomPlace a EXTENSION) (λ x lx ex jx. omega arith))
+      hydrogenated-other outside bonds m n t (atomPlace a EXTENSION) (λ x lx ex jx. omega arith),
+    )
 
 pub row-kept : (outside : List ℕ) (bonds : List ℤ) (m n : ℕ) (t : List ℤ) (a : ℕ) → (getD outside a 0 ≡ 1 → ⊥) → atomRow (hydrogenated outside bonds m n t) a ≡ atomRow t a
 row-kept outside bonds m n t a f = same-atom-row (hydrogenated outside bonds m n t) t a (λ k l h. hydrogenated-other outside bonds m n t k (other k l h))
@@ -179,6 +180,6 @@ hydrogenated-ok outside bonds m n t a l r ok = split (ℕ-discrete (getD outside
     split : Dec (getD outside a 0 ≡ 1) → atomOk (hydrogenated outside bonds m n t) a ≡ true
     split (yes e) =
         atom-ok-row (hydrogenated outside bonds m n t) a
-          ∙ ap rowOk (row-given outside bonds m n t a l r e)
-          ∙ with-hydrogens (atomRow t a) h (sym (atom-ok-row t a) ∙ ok) (implied-small (element t a) (selected t a) (bondSum bonds m a))
+        ∙ ap rowOk (row-given outside bonds m n t a l r e)
+        ∙ with-hydrogens (atomRow t a) h (sym (atom-ok-row t a) ∙ ok) (implied-small (element t a) (selected t a) (bondSum bonds m a))
     split (no f) = atom-ok-row (hydrogenated outside bonds m n t) a ∙ ap rowOk (row-kept outside bonds m n t a f) ∙ sym (atom-ok-row t a) ∙ ok

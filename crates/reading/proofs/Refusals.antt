@@ -152,12 +152,12 @@ module _ (d b i : ℕ) (μ : Memory) where
   unfolding modeAct step next
   mode-why (seq x) =
       first-why (at (seq x) d) b i μ _
-        (either (at (seq x) d) b i μ (among b nonzero) (bridgeAct (digit b) i μ) _ (digit-why (at (seq x) d))
-        (either (at (seq x) d) b i μ (eqb b 37) _ _ (λ e. tt)
-        (either (at (seq x) d) b i μ (among b bondSymbols) (jointAct b μ) _ (λ e. tt)
-        (either (at (seq x) d) b i μ (eqb b 46) (jointAct b μ) _ (λ e. tt)
-        (either (at (seq x) d) b i μ (eqb b 40) (branchAct i μ) _ (λ e. branch-why (at (seq x) d) b i μ (eqb-true b 40 e))
-        (either (at (seq x) d) b i μ (eqb b 41) _ (goesOn x μ) (λ e. tt) (goes-why (at (seq x) d) b i μ x)))))))
+      (either (at (seq x) d) b i μ (among b nonzero) (bridgeAct (digit b) i μ) _ (digit-why (at (seq x) d))
+      (either (at (seq x) d) b i μ (eqb b 37) _ _ (λ e. tt)
+      (either (at (seq x) d) b i μ (among b bondSymbols) (jointAct b μ) _ (λ e. tt)
+      (either (at (seq x) d) b i μ (eqb b 46) (jointAct b μ) _ (λ e. tt)
+      (either (at (seq x) d) b i μ (eqb b 40) (branchAct i μ) _ (λ e. branch-why (at (seq x) d) b i μ (eqb-true b 40 e))
+      (either (at (seq x) d) b i μ (eqb b 41) _ (goesOn x μ) (λ e. tt) (goes-why (at (seq x) d) b i μ x)))))))
   mode-why bond = first-why (at bond d) b i μ _ (either (at bond d) b i μ (among b nonzero) (bridgeAct (digit b) i μ) _ (digit-why (at bond d)) tt)
   mode-why dot = atom-why (at dot d) b i μ (atom-only b d)
   mode-why inside = first-why (at inside d) b i μ (jointAct b μ) tt

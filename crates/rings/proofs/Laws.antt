@@ -75,7 +75,7 @@ module _ (los his : List ℕ) (k x y i : ℕ) (near : Near his los x y k k i) wh
   close-lost a p r h e g =
       record {
         told = λ f n t b s w.
-          absurd (let q = find-index f k (same-number b) i h s (is-open f n t b h w) in let z : r ≡ find (f i) t = e ∙ ap (λ (j : ℕ). indexOf j a) (add-one i) ∙ q .0 in let v = q .1 in omega arith);
+            absurd (let q = find-index f k (same-number b) i h s (is-open f n t b h w) in let z : r ≡ find (f i) t = e ∙ ap (λ (j : ℕ). indexOf j a) (add-one i) ∙ q .0 in let v = q .1 in omega arith);
       }
 
   pub close-next : (a a1 c : List ℕ) (p q s : Pen) (r : ℕ) → i < k → r ≡ indexOf (i + 1) a → a1 ≡ set a r 0 → Wrote (kindBytes 0 ++ bridgeBytes r) p q
@@ -84,15 +84,15 @@ module _ (los his : List ℕ) (k x y i : ℕ) (near : Near his los x y k k i) wh
   close-next a a1 c p q s r h e g w n =
       record {
         told = λ f N t b sl wi.
-          let o = is-open f N t b h wi in
-          let fi = find-index f k (same-number b) i h sl o in
-          let z : r ≡ find (f i) t = e ∙ ap (λ (j : ℕ). indexOf j a) (add-one i) ∙ fi .0 in
-          let ca = closes-first f N b h in
-          let R = closesFrom f N k x (getD los i 0 + 1) in
-          let sl1 : Slots f k a1 (release (f i) t) = subst (λ l. Slots f k l (release (f i) t)) (sym (g ∙ ap (λ (j : ℕ). set a j 0) z)) (slots-release f k (same-number b) i h sl o) in
-          let wi1 : Within R (openOf (release (f i) t)) = close-within (f i) R t (subst (λ l. Within l (openOf t)) ca wi) in
-          let m = n .told f N (release (f i) t) b sl1 wi1 in
-          (as-is (ap (λ l. closeBytes l t) ca) (also (as-is (ap bridgeBytes (sym z)) w) (m .0)), subst (λ l. Slots f k c (closeAll l t)) (sym ca) (m .1));
+            let o = is-open f N t b h wi in
+            let fi = find-index f k (same-number b) i h sl o in
+            let z : r ≡ find (f i) t = e ∙ ap (λ (j : ℕ). indexOf j a) (add-one i) ∙ fi .0 in
+            let ca = closes-first f N b h in
+            let R = closesFrom f N k x (getD los i 0 + 1) in
+            let sl1 : Slots f k a1 (release (f i) t) = subst (λ l. Slots f k l (release (f i) t)) (sym (g ∙ ap (λ (j : ℕ). set a j 0) z)) (slots-release f k (same-number b) i h sl o) in
+            let wi1 : Within R (openOf (release (f i) t)) = close-within (f i) R t (subst (λ l. Within l (openOf t)) ca wi) in
+            let m = n .told f N (release (f i) t) b sl1 wi1 in
+            (as-is (ap (λ l. closeBytes l t) ca) (also (as-is (ap bridgeBytes (sym z)) w) (m .0)), subst (λ l. Slots f k c (closeAll l t)) (sym ca) (m .1));
       }
 
 -- openings
@@ -115,9 +115,9 @@ module _ (los his kinds : List ℕ) (k x y i : ℕ) (near : Near los his x y k k
   open-full a p r h e g =
       record {
         told = λ f n t b kk s.
-          let z : r ≡ lowest t = e ∙ lowest-index f k s in
-          let q = opens-first f n b h in
-          (sym (ap (λ l. fits (length a) l t) q ∙ rw (le-ltb (lowest t) (length a) (omega arith))), λ w. absurd (let v : _≡_ {A = ℕ} 0 1 = cc in omega arith));
+            let z : r ≡ lowest t = e ∙ lowest-index f k s in
+            let q = opens-first f n b h in
+            (sym (ap (λ l. fits (length a) l t) q ∙ rw (le-ltb (lowest t) (length a) (omega arith))), λ w. absurd (let v : _≡_ {A = ℕ} 0 1 = cc in omega arith));
       }
 
   pub open-next : (a a1 c : List ℕ) (p q s : Pen) (few : Bool) (r kd : ℕ) → i < k → r ≡ indexOf 0 a → r < length a → length a1 ≡ length a → a1 ≡ set a r (i + 1) → kd ≡ getD kinds i 0 → Wrote (kindBytes kd ++ bridgeBytes r) p q
@@ -126,10 +126,11 @@ module _ (los his kinds : List ℕ) (k x y i : ℕ) (near : Near los his x y k k
   open-next a a1 c p q s few r kd h e l len g ek w n =
       record {
         told = λ f N t b kk sl.
-          let z : r ≡ lowest t = e ∙ lowest-index f k sl in
-          let ca = opens-first f N b h in
-          let sl1 : Slots f k a1 (insert (f i) t) = subst (λ x. Slots f k x (insert (f i) t)) (sym (g ∙ (λ j. set a (z j) (add-one i j)))) (slots-insert f k i h sl (omega arith)) in
-          let m = n .told f N (insert (f i) t) b kk sl1 in
-          (m .0 ∙ sym (ap (λ l. fits (length a) l t) ca ∙ rw (lt-ltb (lowest t) (length a) (omega arith), ← len)),
-            λ y. (as-is (ap (λ l. openBytes l t) ca) (also (as-is (λ j. kindBytes ((kk i h ∙ sym ek) j) ++ bridgeBytes (sym z j)) w) (m .1 y .0)), subst (λ l. Slots f k c (openAll l t)) (sym ca) (m .1 y .1)));
+            let z : r ≡ lowest t = e ∙ lowest-index f k sl in
+            let ca = opens-first f N b h in
+            let sl1 : Slots f k a1 (insert (f i) t) = subst (λ x. Slots f k x (insert (f i) t)) (sym (g ∙ (λ j. set a (z j) (add-one i j)))) (slots-insert f k i h sl (omega arith)) in
+            let m = n .told f N (insert (f i) t) b kk sl1 in (
+              m .0 ∙ sym (ap (λ l. fits (length a) l t) ca ∙ rw (lt-ltb (lowest t) (length a) (omega arith), ← len)),
+              λ y. (as-is (ap (λ l. openBytes l t) ca) (also (as-is (λ j. kindBytes ((kk i h ∙ sym ek) j) ++ bridgeBytes (sym z j)) w) (m .1 y .0)), subst (λ l. Slots f k c (openAll l t)) (sym ca) (m .1 y .1)),
+            );
       }

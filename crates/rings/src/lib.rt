@@ -31,7 +31,15 @@ fn slot_of(slots: &[u16], x: usize) -> usize
 }
 
 // The nearer of the best number so far and the number i.
-fn nearer(ends: &[u16], keys: &[u16], k: usize, x: usize, from: usize, i: usize, best: usize) -> usize
+fn nearer(
+    ends: &[u16],
+    keys: &[u16],
+    k: usize,
+    x: usize,
+    from: usize,
+    i: usize,
+    best: usize,
+) -> usize
     requires { ⌜ (k ≤ length (now ends)) × (k ≤ length (now keys)) ⌝ }
     requires { ⌜ i < k ⌝ }
     ensures { λ r. ⌜ (Near (now (ends .entry)) (now (keys .entry)) x from k i best → Near (now (ends .entry)) (now (keys .entry)) x from k (i + 1) r) ⌝ }
@@ -67,7 +75,14 @@ fn nearest(ends: &[u16], keys: &[u16], k: usize, x: usize, from: usize) -> usize
 }
 
 // A bridge number is written, and its slot gets x.
-fn write_slot(slots: &mut [u16], out: &mut [u8], at: usize, kind: usize, r: usize, x: usize) -> usize
+fn write_slot(
+    slots: &mut [u16],
+    out: &mut [u8],
+    at: usize,
+    kind: usize,
+    r: usize,
+    x: usize,
+) -> usize
     requires { ⌜ (length (now slots) < 100) × (r < length (now slots)) ⌝ }
     requires { ⌜ x ≤ maxBonds ⌝ }
     ensures { λ s. ⌜ Wrote (kindBytes kind ++ bridgeBytes r) (pen (now (out .entry)) at) (pen (now (out .exit)) s) ⌝ }
@@ -79,7 +94,16 @@ fn write_slot(slots: &mut [u16], out: &mut [u8], at: usize, kind: usize, r: usiz
 }
 
 // internal: what closes at the atom x, by ascending other end from a bound on.
-pub fn close_from(los: &[u16], his: &[u16], k: usize, x: usize, from: usize, slots: &mut [u16], out: &mut [u8], at: usize) -> usize
+pub fn close_from(
+    los: &[u16],
+    his: &[u16],
+    k: usize,
+    x: usize,
+    from: usize,
+    slots: &mut [u16],
+    out: &mut [u8],
+    at: usize,
+) -> usize
     requires { ⌜ (k ≤ length (now los)) × (k ≤ length (now his)) ⌝ }
     requires { ⌜ (k ≤ maxBonds) × (length (now slots) < 100) ⌝ }
     ensures { λ r. ⌜ Closed (now (los .entry)) (now (his .entry)) k x from (now (slots .entry)) (now (slots .exit)) (pen (now (out .entry)) at) (pen (now (out .exit)) r) ⌝ }
@@ -98,7 +122,17 @@ pub fn close_from(los: &[u16], his: &[u16], k: usize, x: usize, from: usize, slo
 }
 
 // internal: what opens at the atom x, by ascending other end from a bound on.
-pub fn open_from(los: &[u16], his: &[u16], kinds: &[u8], k: usize, x: usize, from: usize, slots: &mut [u16], out: &mut [u8], at: usize) -> Spot
+pub fn open_from(
+    los: &[u16],
+    his: &[u16],
+    kinds: &[u8],
+    k: usize,
+    x: usize,
+    from: usize,
+    slots: &mut [u16],
+    out: &mut [u8],
+    at: usize,
+) -> Spot
     requires { ⌜ (k ≤ length (now los)) × (k ≤ length (now his)) ⌝ }
     requires { ⌜ (k ≤ maxBonds) × (length (now slots) < 100) ⌝ }
     requires { ⌜ k ≤ length (now kinds) ⌝ }

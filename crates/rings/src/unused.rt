@@ -13,7 +13,16 @@ use table::KIND;
 use table::SECOND;
 
 // A bond between two atoms, by their walk numbers plus 1, is added unless it joins an atom to its parent.
-fn add_bond(up: &[u16], los: &mut [u16], his: &mut [u16], kinds: &mut [u8], p: usize, q: usize, kind: usize, used: usize) -> usize
+fn add_bond(
+    up: &[u16],
+    los: &mut [u16],
+    his: &mut [u16],
+    kinds: &mut [u8],
+    p: usize,
+    q: usize,
+    kind: usize,
+    used: usize,
+) -> usize
     requires { ⌜ maxAtoms ≤ length (now up) ⌝ }
     requires { ⌜ BagRoom (now los) (now his) (now kinds) ⌝ }
     requires { ⌜ (0 < p) × (p < q) ⌝ }
@@ -32,7 +41,18 @@ fn add_bond(up: &[u16], los: &mut [u16], his: &mut [u16], kinds: &mut [u8], p: u
 }
 
 // A bond, in walk numbers, is added unless the walk uses it.
-fn add_unused(bonds: &[i32], n: usize, m: usize, number: &[u16], up: &[u16], los: &mut [u16], his: &mut [u16], kinds: &mut [u8], b: BondId, used: usize) -> usize
+fn add_unused(
+    bonds: &[i32],
+    n: usize,
+    m: usize,
+    number: &[u16],
+    up: &[u16],
+    los: &mut [u16],
+    his: &mut [u16],
+    kinds: &mut [u8],
+    b: BondId,
+    used: usize,
+) -> usize
     requires { ⌜ BondsFit (now bonds) n m ⌝ }
     requires { ⌜ Numbered (now bonds) n m (now number) (now up) ⌝ }
     requires { ⌜ BagRoom (now los) (now his) (now kinds) ⌝ }
@@ -51,7 +71,16 @@ fn add_unused(bonds: &[i32], n: usize, m: usize, number: &[u16], up: &[u16], los
 }
 
 // internal: the bonds that the walk does not use, in walk numbers, by ascending number. How many there are.
-pub fn unused(bonds: &[i32], n: usize, m: usize, number: &[u16], up: &[u16], los: &mut [u16], his: &mut [u16], kinds: &mut [u8]) -> usize
+pub fn unused(
+    bonds: &[i32],
+    n: usize,
+    m: usize,
+    number: &[u16],
+    up: &[u16],
+    los: &mut [u16],
+    his: &mut [u16],
+    kinds: &mut [u8],
+) -> usize
     requires { ⌜ BondsFit (now bonds) n m ⌝ }
     requires { ⌜ Numbered (now bonds) n m (now number) (now up) ⌝ }
     requires { ⌜ BagRoom (now los) (now his) (now kinds) ⌝ }

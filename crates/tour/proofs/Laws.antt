@@ -76,9 +76,9 @@ module _ {bonds : List ℤ} {n m : ℕ} (fit : BondsFit bonds n m) (v from r : �
       record {
         fewer = g .fewer;
         laid = λ s st.
-          let b = other-below fit v r h in
-          let q : markOf s w ≡ getD (x .number) z 0 = sym (ap (λ (i : ℕ). getD (x .number) i 0) e ∙ st .marks w b) in
-          laid-cast n (suc hub) (grow bonds n m v from s) (grow bonds n m v (r + 1) s) s x y (grow-skip fit v from r next s h (marked s w (λ i. k (sym q ∙ i)))) (g .laid s st);
+            let b = other-below fit v r h in
+            let q : markOf s w ≡ getD (x .number) z 0 = sym (ap (λ (i : ℕ). getD (x .number) i 0) e ∙ st .marks w b) in
+            laid-cast n (suc hub) (grow bonds n m v from s) (grow bonds n m v (r + 1) s) s x y (grow-skip fit v from r next s h (marked s w (λ i. k (sym q ∙ i)))) (g .laid s st);
       }
 
   module _ (hub : ℕ) (o v1 u q : List ℕ) (count a : ℕ) (h : r < m) (e : a ≡ otherEnd bonds r v) (fresh : getD v1 a 0 ≡ 0) where

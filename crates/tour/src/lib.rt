@@ -48,7 +48,16 @@ fn next_at(bonds: &[i32], m: usize, v: AtomId, from: usize) -> usize
 }
 
 // One more atom is visited, with its parent's walk number plus 1 and the kind of the bond to it.
-fn add(order: &mut [u16], number: &mut [u16], up: &mut [u16], kind: &mut [u8], v: AtomId, parent: usize, k: usize, count: usize)
+fn add(
+    order: &mut [u16],
+    number: &mut [u16],
+    up: &mut [u16],
+    kind: &mut [u8],
+    v: AtomId,
+    parent: usize,
+    k: usize,
+    count: usize,
+)
     requires { ⌜ Room (now order) (now number) (now up) (now kind) ⌝ }
     requires { ⌜ (v .0 < maxAtoms) × (count < maxAtoms) ⌝ }
     requires { ⌜ (parent ≤ maxAtoms) × (k < 4) ⌝ }
@@ -65,7 +74,19 @@ fn add(order: &mut [u16], number: &mut [u16], up: &mut [u16], kind: &mut [u8], v
 }
 
 // The part of the walk at an atom, from a bond number on: each atom not yet visited, with all that is reached from it first. The number of atoms visited then.
-fn visit(bonds: &[i32], n: usize, m: usize, order: &mut [u16], number: &mut [u16], up: &mut [u16], kind: &mut [u8], v: AtomId, hub: usize, from: usize, count: usize) -> usize
+fn visit(
+    bonds: &[i32],
+    n: usize,
+    m: usize,
+    order: &mut [u16],
+    number: &mut [u16],
+    up: &mut [u16],
+    kind: &mut [u8],
+    v: AtomId,
+    hub: usize,
+    from: usize,
+    count: usize,
+) -> usize
     requires { ⌜ BondsFit (now bonds) n m ⌝ }
     requires { ⌜ Room (now order) (now number) (now up) (now kind) ⌝ }
     requires { ⌜ (hub < maxAtoms) × (from ≤ m) ⌝ }
@@ -84,12 +105,34 @@ fn visit(bonds: &[i32], n: usize, m: usize, order: &mut [u16], number: &mut [u16
     }
     let k = table::cell::bond_number(bonds, BondId(b), KIND);
     add(order, number, up, kind, AtomId(w), hub + 1, k, count);
-    let next = visit(bonds, n, m, order, number, up, kind, AtomId(w), count, 0, count + 1);
+    let next = visit(
+        bonds,
+        n,
+        m,
+        order,
+        number,
+        up,
+        kind,
+        AtomId(w),
+        count,
+        0,
+        count + 1,
+    );
     visit(bonds, n, m, order, number, up, kind, v, hub, b + 1, next)
 }
 
 // A root of the walk, if the atom was not visited, with all that is reached from it. The number of atoms visited then.
-fn root(bonds: &[i32], n: usize, m: usize, order: &mut [u16], number: &mut [u16], up: &mut [u16], kind: &mut [u8], a: AtomId, count: usize) -> usize
+fn root(
+    bonds: &[i32],
+    n: usize,
+    m: usize,
+    order: &mut [u16],
+    number: &mut [u16],
+    up: &mut [u16],
+    kind: &mut [u8],
+    a: AtomId,
+    count: usize,
+) -> usize
     requires { ⌜ BondsFit (now bonds) n m ⌝ }
     requires { ⌜ Room (now order) (now number) (now up) (now kind) ⌝ }
     requires { ⌜ a .0 < n ⌝ }
@@ -103,11 +146,31 @@ fn root(bonds: &[i32], n: usize, m: usize, order: &mut [u16], number: &mut [u16]
         return count;
     }
     add(order, number, up, kind, AtomId(v), 0, 0, count);
-    visit(bonds, n, m, order, number, up, kind, AtomId(v), count, 0, count + 1)
+    visit(
+        bonds,
+        n,
+        m,
+        order,
+        number,
+        up,
+        kind,
+        AtomId(v),
+        count,
+        0,
+        count + 1,
+    )
 }
 
 // internal: the walk of a molecule, by walk number: the atom, its parent's walk number plus 1 (0 for a root) and the kind of the bond to it; and each atom's walk number plus 1.
-pub fn walk(bonds: &[i32], n: usize, m: usize, order: &mut [u16], number: &mut [u16], up: &mut [u16], kind: &mut [u8])
+pub fn walk(
+    bonds: &[i32],
+    n: usize,
+    m: usize,
+    order: &mut [u16],
+    number: &mut [u16],
+    up: &mut [u16],
+    kind: &mut [u8],
+)
     requires { ⌜ BondsFit (now bonds) n m ⌝ }
     requires { ⌜ Room (now order) (now number) (now up) (now kind) ⌝ }
     requires { ⌜ now number ≡ replicate (length (now number)) 0 ⌝ }

@@ -67,10 +67,11 @@ pub emitted : (atoms : List ℤ) (order up kind last sums los his kinds : List �
 emitted atoms order up kind last sums los his kinds k x a b c few p1 p2 p3 p4 p5 m em len w1 w2 cl op =
     record {
       told = λ f n t br kk sl wi.
-        let C = cl .told f n t br sl wi in
-        let O = op .told f n (closeAll (closesFrom f n k x 0) t) br kk (C .1) in
-        (O .0 ∙ ap (λ (j : ℕ). fits j (opensFrom f n k x 0) (closeAll (closesFrom f n k x 0) t)) len,
-          λ y. (also (also (as-is (ap (λ (z : Bool). leadBytes x (getD up x 0) z (getD kind x 0)) (sym em)) w1) w2) (also (C .0) (O .1 y .0)), O .1 y .1));
+          let C = cl .told f n t br sl wi in
+          let O = op .told f n (closeAll (closesFrom f n k x 0) t) br kk (C .1) in (
+            O .0 ∙ ap (λ (j : ℕ). fits j (opensFrom f n k x 0) (closeAll (closesFrom f n k x 0) t)) len,
+            λ y. (also (also (as-is (ap (λ (z : Bool). leadBytes x (getD up x 0) z (getD kind x 0)) (sym em)) w1) w2) (also (C .0) (O .1 y .0)), O .1 y .1),
+          );
     }
 
 -- the bridge bonds, as the laws of the walk take them
@@ -119,8 +120,8 @@ pub onward-start : (head : ℕ → List ℕ) (los his kinds : List ℕ) (n k : �
 onward-start head los his kinds n k a p =
     record {
       told = λ f t br kk sl pe.
-        let z : n - 0 ≡ n = omega arith in
-        record { within = omega arith; long = refl; now-open = t; slots = sl; waiting = pe; few = rw z; bytes = λ e w. rw z at w };
+          let z : n - 0 ≡ n = omega arith in
+          record { within = omega arith; long = refl; now-open = t; slots = sl; waiting = pe; few = rw z; bytes = λ e w. rw z at w };
     }
 
 module _ (atoms : List ℤ) (order up kind last sums los his kinds : List ℕ) (n k x : ℕ) (a c d : List ℕ) (p q r : Pen) (few : Bool)
@@ -131,11 +132,11 @@ module _ (atoms : List ℤ) (order up kind last sums los his kinds : List ℕ) (
   onward-stop e =
       record {
         told = λ f t br kk sl pe.
-          let g = on .told f t br kk sl pe in
-          let w = em .told f n (g .now-open) br kk (g .slots) (open-there br x (g .now-open) (g .waiting)) in
-          let s : n - x ≡ suc (n - (x + 1)) = omega arith in
-          let y : fits (length a) (opensFrom f n k x 0) (closeAll (closesFrom f n k x 0) (g .now-open)) ≡ false = ap (λ (j : ℕ). fits j (opensFrom f n k x 0) (closeAll (closesFrom f n k x 0) (g .now-open))) (sym (g .long)) ∙ sym (w .0) ∙ e in
-          (e ∙ sym (g .few ∙ rw (s, y)), λ z. absurd (let v : _≡_ {A = ℕ} 0 1 = cc in omega arith));
+            let g = on .told f t br kk sl pe in
+            let w = em .told f n (g .now-open) br kk (g .slots) (open-there br x (g .now-open) (g .waiting)) in
+            let s : n - x ≡ suc (n - (x + 1)) = omega arith in
+            let y : fits (length a) (opensFrom f n k x 0) (closeAll (closesFrom f n k x 0) (g .now-open)) ≡ false = ap (λ (j : ℕ). fits j (opensFrom f n k x 0) (closeAll (closesFrom f n k x 0) (g .now-open))) (sym (g .long)) ∙ sym (w .0) ∙ e in
+            (e ∙ sym (g .few ∙ rw (s, y)), λ z. absurd (let v : _≡_ {A = ℕ} 0 1 = cc in omega arith));
       }
 
   pub onward-step : few ≡ true → length d ≡ length c → Onward (headBytes atoms order up kind last sums) los his kinds n k a p (x + 1) d r
@@ -143,19 +144,19 @@ module _ (atoms : List ℤ) (order up kind last sums los his kinds : List ℕ) (
   onward-step e len =
       record {
         told = λ f t br kk sl pe.
-          let g = on .told f t br kk sl pe in
-          let w = em .told f n (g .now-open) br kk (g .slots) (open-there br x (g .now-open) (g .waiting)) in
-          let s : n - x ≡ suc (n - (x + 1)) = omega arith in
-          let y : fits (length a) (opensFrom f n k x 0) (closeAll (closesFrom f n k x 0) (g .now-open)) ≡ true = ap (λ (j : ℕ). fits j (opensFrom f n k x 0) (closeAll (closesFrom f n k x 0) (g .now-open))) (sym (g .long)) ∙ sym (w .0) ∙ e in
-          record {
-            within = omega arith;
-            long = len ∙ g .long;
-            now-open = nextSlots f n k x (g .now-open);
-            slots = w .1 e .1;
-            waiting = subst (λ (j : ℕ). Pending (upTo f 0 k) j (nextSlots f n k x (g .now-open))) (sym (add-one x)) (pending-next br x (g .now-open) (g .waiting));
-            few = g .few ∙ rw (s, y, add-one x);
-            bytes = λ o v. g .bytes o (rw (s, ← add-one x) (also (w .1 e .0) v));
-          };
+            let g = on .told f t br kk sl pe in
+            let w = em .told f n (g .now-open) br kk (g .slots) (open-there br x (g .now-open) (g .waiting)) in
+            let s : n - x ≡ suc (n - (x + 1)) = omega arith in
+            let y : fits (length a) (opensFrom f n k x 0) (closeAll (closesFrom f n k x 0) (g .now-open)) ≡ true = ap (λ (j : ℕ). fits j (opensFrom f n k x 0) (closeAll (closesFrom f n k x 0) (g .now-open))) (sym (g .long)) ∙ sym (w .0) ∙ e in
+            record {
+              within = omega arith;
+              long = len ∙ g .long;
+              now-open = nextSlots f n k x (g .now-open);
+              slots = w .1 e .1;
+              waiting = subst (λ (j : ℕ). Pending (upTo f 0 k) j (nextSlots f n k x (g .now-open))) (sym (add-one x)) (pending-next br x (g .now-open) (g .waiting));
+              few = g .few ∙ rw (s, y, add-one x);
+              bytes = λ o v. g .bytes o (rw (s, ← add-one x) (also (w .1 e .0) v));
+            };
       }
 
 pub onward-end : (head : ℕ → List ℕ) (los his kinds : List ℕ) (n k x : ℕ) (a c : List ℕ) (p q : Pen) → Onward head los his kinds n k a p x c q → n ≤ x → Texted head los his kinds n k a true p q
@@ -163,7 +164,7 @@ unfolding fewFrom bytesFrom
 onward-end head los his kinds n k x a c p q on h =
     record {
       told = λ f t br kk sl pe.
-        let g = on .told f t br kk sl pe in
-        let s : n - x ≡ 0 = omega arith in
-        (sym (g .few ∙ rw s), λ z. g .bytes q (rw s nothing));
+          let g = on .told f t br kk sl pe in
+          let s : n - x ≡ 0 = omega arith in
+          (sym (g .few ∙ rw s), λ z. g .bytes q (rw s nothing));
     }

@@ -58,7 +58,7 @@ pub record Emitted (atoms : List ℤ) (order up kind last sums los his kinds : L
   pub told : (f : ℕ → Bond) (n : ℕ) (t : List Slot) → Bridged f n k los his → ((i : ℕ) → i < k → f i .kind ≡ getD kinds i 0) → Slots f k a t → Within (closesFrom f n k x 0) (openOf t)
       → (few ≡ fits (length a) (opensFrom f n k x 0) (closeAll (closesFrom f n k x 0) t))
       × (few ≡ true → Wrote (headBytes atoms order up kind last sums x ++ (closeBytes (closesFrom f n k x 0) t ++ openBytes (opensFrom f n k x 0) (closeAll (closesFrom f n k x 0) t))) p q
-          × Slots f k c (openAll (opensFrom f n k x 0) (closeAll (closesFrom f n k x 0) t)))
+      × Slots f k c (openAll (opensFrom f n k x 0) (closeAll (closesFrom f n k x 0) t)))
 
 -- what stands open when the atom x begins
 abbrev pub Pending : List Bond → ℕ → List Slot → Type 0

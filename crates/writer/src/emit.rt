@@ -44,7 +44,22 @@ fn lead(out: &mut [u8], at: usize, x: usize, up: usize, more: bool, kind: usize)
 }
 
 // The atom x of the walk: what stands before it, its bytes, what closes there and what opens there.
-fn emit_atom(atoms: &[i32], order: &[u16], up: &[u16], kind: &[u8], last: &[u16], sums: &[u16], los: &[u16], his: &[u16], kinds: &[u8], k: usize, slots: &mut [u16], x: usize, out: &mut [u8], at: usize) -> Spot
+fn emit_atom(
+    atoms: &[i32],
+    order: &[u16],
+    up: &[u16],
+    kind: &[u8],
+    last: &[u16],
+    sums: &[u16],
+    los: &[u16],
+    his: &[u16],
+    kinds: &[u8],
+    k: usize,
+    slots: &mut [u16],
+    x: usize,
+    out: &mut [u8],
+    at: usize,
+) -> Spot
     requires { ⌜ Ready (now atoms) (now order) (now up) (now kind) (now last) (now sums) (now los) (now his) (now kinds) k x ⌝ }
     requires { ⌜ length (now slots) < 100 ⌝ }
     ensures { λ r. ⌜ Emitted (now (atoms .entry)) (now (order .entry)) (now (up .entry)) (now (kind .entry)) (now (last .entry)) (now (sums .entry)) (now (los .entry)) (now (his .entry)) (now (kinds .entry)) k x (now (slots .entry)) (now (slots .exit)) (r .few) (pen (now (out .entry)) at) (pen (now (out .exit)) (r .at)) ⌝ }
@@ -59,7 +74,21 @@ fn emit_atom(atoms: &[i32], order: &[u16], up: &[u16], kind: &[u8], last: &[u16]
 }
 
 // internal: the atoms of a walk in order, into the buffer from its start.
-pub fn emit(atoms: &[i32], n: usize, order: &[u16], up: &[u16], kind: &[u8], last: &[u16], sums: &[u16], los: &[u16], his: &[u16], kinds: &[u8], k: usize, slots: &mut [u16], out: &mut [u8]) -> Spot
+pub fn emit(
+    atoms: &[i32],
+    n: usize,
+    order: &[u16],
+    up: &[u16],
+    kind: &[u8],
+    last: &[u16],
+    sums: &[u16],
+    los: &[u16],
+    his: &[u16],
+    kinds: &[u8],
+    k: usize,
+    slots: &mut [u16],
+    out: &mut [u8],
+) -> Spot
     requires { ⌜ ((x : ℕ) → x < n → Ready (now atoms) (now order) (now up) (now kind) (now last) (now sums) (now los) (now his) (now kinds) k x) ⌝ }
     requires { ⌜ length (now slots) < 100 ⌝ }
     ensures { λ r. ⌜ Texted (headBytes (now (atoms .entry)) (now (order .entry)) (now (up .entry)) (now (kind .entry)) (now (last .entry)) (now (sums .entry))) (now (los .entry)) (now (his .entry)) (now (kinds .entry)) n k (now (slots .entry)) (r .few) (pen (now (out .entry)) 0) (pen (now (out .exit)) (r .at)) ⌝ }
@@ -67,7 +96,22 @@ pub fn emit(atoms: &[i32], n: usize, order: &[u16], up: &[u16], kind: &[u8], las
     let mut at = 0;
     let mut x = 0;
     while x < n {
-        let spot = emit_atom(atoms, order, up, kind, last, sums, los, his, kinds, k, slots, x, out, at);
+        let spot = emit_atom(
+            atoms,
+            order,
+            up,
+            kind,
+            last,
+            sums,
+            los,
+            his,
+            kinds,
+            k,
+            slots,
+            x,
+            out,
+            at,
+        );
         let few = spot.few;
         if !few {
             return spot;

@@ -35,7 +35,17 @@ struct Verdict {
 }
 
 // The text of a walk, into a buffer from its start.
-fn text(atoms: &[i32], bonds: &[i32], n: usize, m: usize, order: &[u16], number: &[u16], up: &[u16], kind: &[u8], out: &mut [u8]) -> Verdict
+fn text(
+    atoms: &[i32],
+    bonds: &[i32],
+    n: usize,
+    m: usize,
+    order: &[u16],
+    number: &[u16],
+    up: &[u16],
+    kind: &[u8],
+    out: &mut [u8],
+) -> Verdict
     requires { ⌜ Valid (now atoms) (now bonds) n m ⌝ }
     requires { ⌜ Room (now order) (now number) (now up) (now kind) ⌝ }
     requires { ⌜ Walked (now bonds) n m (now order) (now number) (now up) (now kind) ⌝ }
@@ -50,7 +60,21 @@ fn text(atoms: &[i32], bonds: &[i32], n: usize, m: usize, order: &[u16], number:
     let mut last = [0u16; MAX_ATOMS + 1];
     nest::last_children(up, n, &mut last);
     let mut slots = [0u16; 99];
-    let spot = emit::emit(atoms, n, order, up, kind, &last, &sums, &los, &his, &kinds, k, &mut slots, out);
+    let spot = emit::emit(
+        atoms,
+        n,
+        order,
+        up,
+        kind,
+        &last,
+        &sums,
+        &los,
+        &his,
+        &kinds,
+        k,
+        &mut slots,
+        out,
+    );
     let flat = nest::is_shallow(up, &last, n);
     Verdict {
         few: spot.few,
@@ -116,7 +140,14 @@ fn clear_all(out: &mut [u8], ren: &mut [u16])
 }
 
 // internal: writes a molecule whose tables are valid: 14, 15 or 16 zero the output and the renumbering.
-pub fn write_valid(atoms: &[i32], bonds: &[i32], n: usize, m: usize, out: &mut [u8], ren: &mut [u16]) -> Written
+pub fn write_valid(
+    atoms: &[i32],
+    bonds: &[i32],
+    n: usize,
+    m: usize,
+    out: &mut [u8],
+    ren: &mut [u16],
+) -> Written
     requires { ⌜ Valid (now atoms) (now bonds) n m ⌝ }
     requires { ⌜ (maxText ≤ length (now out)) × (maxAtoms ≤ length (now ren)) ⌝ }
     ensures { λ r. ⌜ told r (now (out .exit)) (now (ren .exit)) ≡ writeValid (now (atoms .entry)) (now (bonds .entry)) n m (now (out .entry)) (now (ren .entry)) ⌝ }
@@ -126,7 +157,17 @@ pub fn write_valid(atoms: &[i32], bonds: &[i32], n: usize, m: usize, out: &mut [
     let mut up = [0u16; MAX_ATOMS];
     let mut kind = [0u8; MAX_ATOMS];
     tour::walk(bonds, n, m, &mut order, &mut number, &mut up, &mut kind);
-    let verdict = text(atoms, bonds, n, m, &order, &number, &up, &kind, &mut out[..MAX_TEXT]);
+    let verdict = text(
+        atoms,
+        bonds,
+        n,
+        m,
+        &order,
+        &number,
+        &up,
+        &kind,
+        &mut out[..MAX_TEXT],
+    );
     let few = verdict.few;
     let flat = verdict.flat;
     let at = verdict.at;
@@ -148,7 +189,14 @@ pub fn write_valid(atoms: &[i32], bonds: &[i32], n: usize, m: usize, out: &mut [
 }
 
 // Writes a molecule as text, with the walk number of each atom. 1 changes nothing; 13, 14, 15 and 16 zero the output and the renumbering; the text's length otherwise, and zeros after the text and the numbers.
-pub fn write(atoms: &[i32], bonds: &[i32], n: usize, m: usize, out: &mut [u8], ren: &mut [u16]) -> Written
+pub fn write(
+    atoms: &[i32],
+    bonds: &[i32],
+    n: usize,
+    m: usize,
+    out: &mut [u8],
+    ren: &mut [u16],
+) -> Written
     ensures { λ r. ⌜ told r (now (out .exit)) (now (ren .exit)) ≡ writeOf (now (atoms .entry)) (now (bonds .entry)) n m (now (out .entry)) (now (ren .entry)) ⌝ }
 {
     if !table::validity::enough(atoms, bonds) {
