@@ -1,0 +1,4 @@
+// Reports each line of standard input.
+fn main() {
+    reporter::report();
+}
