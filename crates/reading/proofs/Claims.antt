@@ -1,97 +1,18 @@
--- What reading promises, beside its definition: valid tables, hydrogens, the grammar, the first refusal, 10 and 11. Assumes nothing.
-use Prim.Native.Nat.{ℕ, zero, suc, _+_, _≤_, _<_}
-use native.Mathlib.Omega.{arith}
-use native.Mathlib.Decide.{ℕ-discrete}
-use mathlib.Core.Path.{_≡_, refl, sym, ap, subst, _∙_}
-use mathlib.Core.Bool.{Bool, true, false}
-use mathlib.Core.Logic.{_⊎_, inl, inr}
-use mathlib.Core.List.{List, _++_}
-use lib.ListN.{length, getD, take, drop, take-append-drop}
-use lib.Seq.{take-take}
-use lib.IntN.{ℤ, pos}
-use lib.Dec.{eqb, leb, ltb}
-use borrow.Author.Tests.{le-leb, le-ltb}
-use Rattle.loops.specs.Loop.{pick}
-use Rattle.valence.specs.Valence.{implied}
-use Rattle.grammar.specs.Grammar.{Text}
-use Rattle.grammar.specs.Place.{Place}
-use Rattle.grammar.specs.declared.State.{State}
-use Rattle.grammar.specs.declared.State.the-variants.{Start as start}
-use Rattle.grammar.specs.Machine.{step, alive, accepting}
-use Rattle.grammar.specs.Fold.{Reading, going, halted, refuses, read, Answer, good, bad, answer}
-use Rattle.grammar.proofs.Viable.{place-unique, text-no-place}
-use Rattle.grammar.proofs.Fold.{Goes, goes, prefix-goes, Halts, read-halts, good-text, bad-3, other-first}
-use Rattle.table.specs.Limits.{atomCells, ELEMENT, SELECTED, HYDROGENS}
-use Rattle.table.specs.Cells.{atomPlace, element, selected}
-use Rattle.table.specs.Rows.{atomRow}
-use Rattle.table.specs.Valid.{Valid}
-use Rattle.graph.specs.Graph.{bondSum, matchable}
-use Rattle.state.specs.Limits.{maxText}
-use Rattle.reading.specs.Memory.{Memory}
-use Rattle.reading.specs.Act.{act}
-use Rattle.reading.specs.Read.{Told, zeros, refused, short, beginning, leftmost, ended, readFrom, readOf}
-use Rattle.reading.proofs.Sane.{Sane, SaneReading}
-use Rattle.reading.proofs.Step.{sane-text}
-use Rattle.reading.proofs.Hydrogens.{withHydrogens, hydrogenated-other, row-given, row-kept}
-use Rattle.reading.proofs.Valid.{sane-valid}
-use Rattle.reading.proofs.Refusals.{Why, Code, why, act-code, code-of, never-3, in-time}
-use Rattle.reading.proofs.Leftmost.{LeftmostOpening, leftmost-open, none-open}
-use Rattle.reading.proofs.Outcome.{bytesRead, Fits, atomsOf, accepted, Outcome, outcome}
+-- What reading promises, beside its definition. Each name stands for a demand of 01.
 
-module _ (s : List ℕ) (atoms bonds : List ℤ) where
-  -- the memory of every reading that goes on is sane
-  pub read-sane : {σ : State} {μ : Memory} → Fits s atoms bonds → bytesRead s atoms bonds ≡ going σ μ → Sane (length atoms) (length bonds) σ (length s) μ
-  read-sane f e = subst (SaneReading (length atoms) (length bonds) (length s)) e (sane-text s atoms bonds (f .room))
-
-  -- the code of a byte's refusal is 3 to 9
-  halt-code : {c p : ℕ} → bytesRead s atoms bonds ≡ halted c p → (3 ≤ c) × (c ≤ 9)
-  halt-code {c} {p} e = split (read-halts act s 0 start (beginning (zeros atoms) (zeros bonds)) c p e)
-    where
-      split : Halts act 0 (going start (beginning (zeros atoms) (zeros bonds))) s c p → (3 ≤ c) × (c ≤ 9)
-      split (Halts.by-grammar k τ ν l g a q h) = (omega arith, omega arith)
-      split (Halts.by-action k τ ν l g a x) = let w = act-code τ (getD s k 0) (0 + k) ν c p x in (omega arith, omega arith)
-
-  -- ---- valid tables
-
-  -- an accepted text gives valid tables with their counts
-  pub read-valid : readOf s atoms bonds .code ≡ 0 → Valid (readOf s atoms bonds .atoms) (readOf s atoms bonds .bonds) (readOf s atoms bonds .atomCount) (readOf s atoms bonds .bondCount)
-  read-valid = go (readOf s atoms bonds) (outcome s atoms bonds)
-    where
-      go : (t : Told) → Outcome s atoms bonds t → t .code ≡ 0 → Valid (t .atoms) (t .bonds) (t .atomCount) (t .bondCount)
-      go t (Outcome.too-short e) z = absurd (omega arith)
-      go t (Outcome.too-long e l) z = absurd (omega arith)
-      go t (Outcome.halts f e) z = let h = halt-code e in absurd (omega arith)
-      go t (Outcome.unfinished f e a) z = absurd (omega arith)
-      go t (Outcome.unclosed f e a l) z = absurd (omega arith)
-      go t (Outcome.unmatched f e a l m) z = absurd (omega arith)
-      go t (Outcome.accepts f e a l m) z = sane-valid (read-sane f e)
-
-  -- ---- hydrogens
-
-  -- the row of the atom a of an accepted text, given what stood in the table after its last byte
-  pub record Given (μ : Memory) (t : Told) (a : ℕ) : Type 0 where
-    pub outside : getD (μ .st .outside) a 0 ≡ 1 → atomRow (t .atoms) a ≡ withHydrogens (atomRow (μ .atoms) a) (pos (implied (element (t .atoms) a) (selected (t .atoms) a) (bondSum (t .bonds) (t .bondCount) a)))
-    pub bracket : (getD (μ .st .outside) a 0 ≡ 1 → ⊥) → atomRow (t .atoms) a ≡ atomRow (μ .atoms) a
-
-  -- an accepted text, the memory after its last byte, and the rows
-  pub record Accepted (t : Told) : Type 0 where
-    pub state : State
-    pub memory : Memory
-    pub reached : bytesRead s atoms bonds ≡ going state memory
-    pub ends : accepting state ≡ true
-    pub counts : (t .atomCount ≡ memory .st .atoms) × (t .bondCount ≡ memory .st .bonds) × (t .bonds ≡ memory .bonds)
-    pub rows : (a : ℕ) → a < t .atomCount → Given memory t a
-    pub unused : (k : ℕ) → atomCells * t .atomCount ≤ k → getD (t .atoms) k (pos 0) ≡ pos 0
-    pub no-open-bridge : (r : ℕ) → getD (memory .st .opener) r 0 ≡ 0
-    pub matched : matchable (t .atoms) (t .bonds) (t .atomCount) (t .bondCount) ≡ true
-
-  given : {σ : State} {μ : Memory} → Sane (length atoms) (length bonds) σ (length s) μ → (a : ℕ) → a < μ .st .atoms → Given μ (accepted μ) a
-  given {σ} {μ} w a l = record { outside = outside; bracket = row-kept (μ .st .outside) (μ .bonds) (μ .st .bonds) (μ .st .atoms) (μ .atoms) a }
-    where
-      same : (f : ℕ) → (f ≡ HYDROGENS → ⊥) → f < atomCells → getD (atomsOf μ) (atomPlace a f) (pos 0) ≡ getD (μ .atoms) (atomPlace a f) (pos 0)
-      same f n h = hydrogenated-other (μ .st .outside) (μ .bonds) (μ .st .bonds) (μ .st .atoms) (μ .atoms) (atomPlace a f) (λ x lx ex jx. n (omega arith))
-
-      outside : getD (μ .st .outside) a 0 ≡ 1 → atomRow (atomsOf μ) a ≡ withHydrogens (atomRow (μ .atoms) a) (pos (implied (element (atomsOf μ) a) (selected (atomsOf μ) a) (bondSum (μ .bonds) (μ .st .bonds) a)))
-      outside e =
-          rw (same ELEMENT (λ z. omega arith) (omega arith), same SELECTED (λ z. omega arith) (omega arith))
-          (row-given (μ .st .outside) (μ .bonds) (μ .st .bonds) (μ .st .atoms) (μ .atoms) a l (omega (arith, w .tables .atom-length, w .tables .atom-room, w .tables .few-atoms)) e)
+-- the memory of every reading that goes on is sane; an accepted text gives valid tables with their counts
+pub use Rattle.reading.proofs.Accepted.{read-sane, read-valid}
+-- so does every sane memory, between any two bytes and once its atoms got their hydrogens, and the test says so
+pub use Rattle.reading.proofs.Valid.{sane-between, sane-valid, valid-true}
+-- an accepted text: its counts, its rows with 01's hydrogens, zeros after them, no open bridge, a matching
+pub use Rattle.reading.proofs.Accepted.{impliedAt, Given, Accepted, read-accepted}
+-- what stands in the tables is what was read: complete atoms, letters, the fields before each `]`, bonds
+pub use Rattle.reading.proofs.Kept.{atom-kept, letter-kept, first-row, bracket-kept, bond-kept}
+-- codes 0, 10 and 11 only for texts of the grammar; 3 exactly at the grammar's place, unless 4 to 9 came before
+pub use Rattle.reading.proofs.Texts.{ReadsTexts, reads-texts}
+-- 3 to 9: the smallest offset, and there the smallest number, each check with those before it
+pub use Rattle.reading.proofs.First.{FirstRefusal, first-refusal, nothing-before}
+-- 10 at the leftmost opening; 11 exactly where the molecule read has no matching
+pub use Rattle.reading.proofs.Ending.{Read, Unclosed, read-unclosed, Unmatched, unmatched-iff}
+-- 1 and 2 exactly as said; 1 changes nothing by definition, and every other refusal zeroes both tables and both counts
+pub use Rattle.reading.proofs.Refused.{short-iff, long-iff, refusal-zeroes}

@@ -1,14 +1,13 @@
 -- Why a byte is refused with 4 to 9: each check of 01, with those that are asked before it. Assumes nothing.
-use Prim.Native.Nat.{ℕ, zero, suc, _+_, _-_, _*_, _≤_, _<_}
+use Prim.Native.Nat.{ℕ, _+_, _-_, _*_, _≤_, _<_}
 use native.Mathlib.Omega.{arith}
-use mathlib.Core.Path.{_≡_, refl, sym, ap, subst, _∙_}
-use mathlib.Core.Bool.{Bool, true, false, _&&_, not}
+use mathlib.Core.Path.{_≡_, subst}
+use mathlib.Core.Bool.{true, false}
 use mathlib.Core.Logic.{⊎-elim}
-use mathlib.Core.List.{List, [], _∷_}
+use mathlib.Core.List.{[], _∷_}
 use lib.ListN.{getD}
 use lib.Dec.{eqb, leb}
 use borrow.Author.Tests.{eqb-true, eqb-false, leb-true, leb-false}
-use Rattle.loops.specs.Loop.{pick}
 use Rattle.loops.proofs.Loops.{and-left, and-right}
 use Rattle.element.specs.declared.Letter.{Letter}
 use Rattle.element.specs.declared.Letter.the-variants.{Plain, Selected, Half, Bracket, Nothing}
@@ -24,14 +23,15 @@ use Rattle.grammar.specs.declared.Out.the-variants.{Stop as stop}
 use Rattle.grammar.specs.declared.State.{State}
 use Rattle.grammar.specs.declared.State.the-variants.{Dead as dead, Start as start, At as at}
 use Rattle.grammar.specs.Machine.{alive, turn, step, next, atomOr}
-use Rattle.grammar.specs.Fold.{Act, keeps, refuses}
+use Rattle.grammar.specs.Fold.{keeps, refuses}
 use Rattle.grammar.proofs.Ends.{never}
 use Rattle.table.specs.Limits.{maxAtoms, maxBonds}
 use Rattle.state.specs.Limits.{maxDepth}
 use Rattle.state.specs.State.{opened, joined}
 use Rattle.reading.specs.Memory.{Memory, kindOf, bonded, moved, clash, joinedAlready, closeRefusal}
 use Rattle.reading.specs.Bracket.{digit}
-use Rattle.reading.specs.Act.{Acts, firstByte, bridgeBond, closing, charging, hydrating, jointAct, orAtom, atomAct, orRefuse, bridgeAct, branchAct, goesOn, modeAct, act}
+use Rattle.reading.specs.Act.{Acts, bridgeBond, charging, hydrating, jointAct, orAtom, atomAct, orRefuse, bridgeAct, branchAct, goesOn, modeAct, act}
+use Rattle.reading.proofs.Cases.{by-test}
 use Rattle.reading.proofs.Letters.{Begins, begins}
 
 -- the byte b completes the bridge number r, whose digit or `%` stands at p
@@ -72,37 +72,30 @@ Explained σ b i μ (refuses c p) = Why σ b i μ c p
 module _ (σ : State) (b i : ℕ) (μ : Memory) where
   atom-why : (alive (step σ b) ≡ true → letterOf b ≡ Nothing → ⊥) → Explained σ b i μ (atomAct b i μ)
   unfolding atomAct
-  atom-why n = split (leb maxAtoms (μ .st .atoms)) (bonded μ && leb maxBonds (μ .st .bonds)) refl refl
-    where
-      split : (u v : Bool) → leb maxAtoms (μ .st .atoms) ≡ u → (bonded μ && leb maxBonds (μ .st .bonds)) ≡ v
-          → Explained σ b i μ (pick u (refuses 4 i) (pick v (refuses 5 i) (keeps (firstByte (letterOf b) μ))))
-      split true v e f = Why.many-atoms n (leb-true maxAtoms (μ .st .atoms) e)
-      split false true e f = Why.many-bonds n (leb-false maxAtoms (μ .st .atoms) e) (and-left (bonded μ) (leb maxBonds (μ .st .bonds)) f) (leb-true maxBonds (μ .st .bonds) (and-right (bonded μ) (leb maxBonds (μ .st .bonds)) f))
-      split false false e f = tt
+  atom-why n =
+      by-test (Explained σ b i μ) _ _ _ (λ e. Why.many-atoms n (leb-true maxAtoms (μ .st .atoms) e)) (λ e.
+      by-test (Explained σ b i μ) _ _ _
+      (λ f. Why.many-bonds n (leb-false maxAtoms (μ .st .atoms) e) (and-left (bonded μ) (leb maxBonds (μ .st .bonds)) f) (leb-true maxBonds (μ .st .bonds) (and-right (bonded μ) (leb maxBonds (μ .st .bonds)) f)))
+      (λ f. tt))
 
   bridge-why : (r p : ℕ) → Completes σ b i μ r p → Explained σ b i μ (bridgeAct r p μ)
   unfolding bridgeAct closeRefusal
-  bridge-why r p k = split (eqb (getD (μ .st .opener) r 0) 0) refl (leb maxBonds (μ .st .bonds)) refl (eqb (openerOf μ r) (μ .st .hub .0)) refl (joinedAlready (μ .bonds) (μ .st .bonds) (openerOf μ r) (μ .st .hub .0)) refl (clash (getD (μ .st .symbol) r 0) (kindOf (μ .pending))) refl
+  bridge-why r p k =
+      by-test (Explained σ b i μ) _ _ _ (λ e. tt) (λ e.
+      let closes : Closes σ b i μ r p = record { complete = k; opened = eqb-false (getD (μ .st .opener) r 0) 0 e } in
+      by-test refusal _ _ _ (λ e1. Why.many-bridges closes (leb-true maxBonds (μ .st .bonds) e1)) (λ e1.
+      let few = leb-false maxBonds (μ .st .bonds) e1 in
+      by-test refusal _ _ _ (λ e2. Why.to-itself closes few (eqb-true (openerOf μ r) (μ .st .hub .0) e2)) (λ e2.
+      let apart = eqb-false (openerOf μ r) (μ .st .hub .0) e2 in
+      by-test refusal _ _ _ (λ e3. Why.joined-twice closes few apart e3) (λ e3.
+      by-test refusal _ _ _ (λ e4. Why.symbols-differ closes few apart e3 e4) (λ e4. tt)))))
     where
-      split : (o : Bool) → eqb (getD (μ .st .opener) r 0) 0 ≡ o → (b1 : Bool) → leb maxBonds (μ .st .bonds) ≡ b1 → (b2 : Bool) → eqb (openerOf μ r) (μ .st .hub .0) ≡ b2
-          → (b3 : Bool) → joinedAlready (μ .bonds) (μ .st .bonds) (openerOf μ r) (μ .st .hub .0) ≡ b3 → (b4 : Bool) → clash (getD (μ .st .symbol) r 0) (kindOf (μ .pending)) ≡ b4
-          → Explained σ b i μ (pick o (keeps (moved (joined (μ .st) r (kindOf (μ .pending)) p) μ)) (orRefuse (pick b1 5 (pick b2 7 (pick b3 8 (pick b4 9 0)))) p (moved (joined (μ .st) r (kindOf (μ .pending)) p) (bridgeBond r μ))))
-      split true e b1 e1 b2 e2 b3 e3 b4 e4 = tt
-      split false e true e1 b2 e2 b3 e3 b4 e4 = Why.many-bridges (record { complete = k; opened = eqb-false (getD (μ .st .opener) r 0) 0 e }) (leb-true maxBonds (μ .st .bonds) e1)
-      split false e false e1 true e2 b3 e3 b4 e4 = Why.to-itself (record { complete = k; opened = eqb-false (getD (μ .st .opener) r 0) 0 e }) (leb-false maxBonds (μ .st .bonds) e1) (eqb-true (openerOf μ r) (μ .st .hub .0) e2)
-      split false e false e1 false e2 true e3 b4 e4 =
-          Why.joined-twice (record { complete = k; opened = eqb-false (getD (μ .st .opener) r 0) 0 e }) (leb-false maxBonds (μ .st .bonds) e1) (eqb-false (openerOf μ r) (μ .st .hub .0) e2) e3
-      split false e false e1 false e2 false e3 true e4 =
-          Why.symbols-differ (record { complete = k; opened = eqb-false (getD (μ .st .opener) r 0) 0 e }) (leb-false maxBonds (μ .st .bonds) e1) (eqb-false (openerOf μ r) (μ .st .hub .0) e2) e3 e4
-      split false e false e1 false e2 false e3 false e4 = tt
+      refusal : ℕ → Type 0
+      refusal c = Explained σ b i μ (orRefuse c p (moved (joined (μ .st) r (kindOf (μ .pending)) p) (bridgeBond r μ)))
 
   branch-why : b ≡ 40 → Explained σ b i μ (branchAct i μ)
   unfolding branchAct
-  branch-why e = split (leb maxDepth (μ .st .depth)) refl
-    where
-      split : (t : Bool) → leb maxDepth (μ .st .depth) ≡ t → Explained σ b i μ (pick t (refuses 6 i) (keeps (moved (opened (μ .st)) μ)))
-      split true f = Why.many-branches e (leb-true maxDepth (μ .st .depth) f)
-      split false f = tt
+  branch-why e = by-test (Explained σ b i μ) _ _ _ (λ f. Why.many-branches e (leb-true maxDepth (μ .st .depth) f)) (λ f. tt)
 
   or-why : (l : Letter) (a k : Acts) → ((l ≡ Nothing → ⊥) → Explained σ b i μ a) → Explained σ b i μ k → Explained σ b i μ (orAtom l a k)
   or-why (Plain e) a k f g = f (λ q. let z : _≡_ {A = ℕ} 0 1 = cc in omega arith)
@@ -113,10 +106,6 @@ module _ (σ : State) (b i : ℕ) (μ : Memory) where
 
   first-why : (k : Acts) → Explained σ b i μ k → Explained σ b i μ (orAtom (letterOf b) (atomAct b i μ) k)
   first-why k g = or-why (letterOf b) (atomAct b i μ) k (λ n. atom-why (λ v. n)) g
-
-  either : (t : Bool) (a k : Acts) → (t ≡ true → Explained σ b i μ a) → Explained σ b i μ k → Explained σ b i μ (pick t a k)
-  either true a k f g = f refl
-  either false a k f g = g
 
   goes-why : (x : Last) → Explained σ b i μ (goesOn x μ)
   goes-why plain = tt
@@ -136,14 +125,11 @@ atom-only b d v e = ⊎-elim (λ w. no-letter w e) (λ f. never (rw (f .1) at v)
 
 -- ---- by mode
 module _ (d b i : ℕ) (μ : Memory) where
-  close-why : (m : Mode) → Explained (at m d) b i μ (closing b μ)
-  close-why m = tt
-
   charge-why : (m : Mode) → Explained (at m d) b i μ (charging b μ)
-  charge-why m = either (at m d) b i μ (among b signs) _ _ (λ e. tt) tt
+  charge-why m = by-test (Explained (at m d) b i μ) (among b signs) _ _ (λ e. tt) (λ e. tt)
 
   hydrate-why : (m : Mode) → Explained (at m d) b i μ (hydrating b μ)
-  hydrate-why m = either (at m d) b i μ (eqb b 72) _ _ (λ e. tt) (charge-why m)
+  hydrate-why m = by-test (Explained (at m d) b i μ) (eqb b 72) _ _ (λ e. tt) (λ e. charge-why m)
 
   digit-why : (σ : State) → among b nonzero ≡ true → Explained σ b i μ (bridgeAct (digit b) i μ)
   digit-why σ e = bridge-why σ b i μ (digit b) i (Completes.by-digit e)
@@ -152,13 +138,13 @@ module _ (d b i : ℕ) (μ : Memory) where
   unfolding modeAct step next
   mode-why (seq x) =
       first-why (at (seq x) d) b i μ _
-      (either (at (seq x) d) b i μ (among b nonzero) (bridgeAct (digit b) i μ) _ (digit-why (at (seq x) d))
-      (either (at (seq x) d) b i μ (eqb b 37) _ _ (λ e. tt)
-      (either (at (seq x) d) b i μ (among b bondSymbols) (jointAct b μ) _ (λ e. tt)
-      (either (at (seq x) d) b i μ (eqb b 46) (jointAct b μ) _ (λ e. tt)
-      (either (at (seq x) d) b i μ (eqb b 40) (branchAct i μ) _ (λ e. branch-why (at (seq x) d) b i μ (eqb-true b 40 e))
-      (either (at (seq x) d) b i μ (eqb b 41) _ (goesOn x μ) (λ e. tt) (goes-why (at (seq x) d) b i μ x)))))))
-  mode-why bond = first-why (at bond d) b i μ _ (either (at bond d) b i μ (among b nonzero) (bridgeAct (digit b) i μ) _ (digit-why (at bond d)) tt)
+      (by-test (Explained (at (seq x) d) b i μ) (among b nonzero) (bridgeAct (digit b) i μ) _ (digit-why (at (seq x) d)) (λ e1.
+      by-test (Explained (at (seq x) d) b i μ) (eqb b 37) _ _ (λ e. tt) (λ e2.
+      by-test (Explained (at (seq x) d) b i μ) (among b bondSymbols) (jointAct b μ) _ (λ e. tt) (λ e3.
+      by-test (Explained (at (seq x) d) b i μ) (eqb b 46) (jointAct b μ) _ (λ e. tt) (λ e4.
+      by-test (Explained (at (seq x) d) b i μ) (eqb b 40) (branchAct i μ) _ (λ e. branch-why (at (seq x) d) b i μ (eqb-true b 40 e)) (λ e5.
+      by-test (Explained (at (seq x) d) b i μ) (eqb b 41) _ (goesOn x μ) (λ e. tt) (λ e6. goes-why (at (seq x) d) b i μ x)))))))
+  mode-why bond = first-why (at bond d) b i μ _ (by-test (Explained (at bond d) b i μ) (among b nonzero) (bridgeAct (digit b) i μ) _ (digit-why (at bond d)) (λ e. tt))
   mode-why dot = atom-why (at dot d) b i μ (atom-only b d)
   mode-why inside = first-why (at inside d) b i μ (jointAct b μ) tt
   mode-why percent = tt
@@ -167,14 +153,14 @@ module _ (d b i : ℕ) (μ : Memory) where
   mode-why letterT = tt
   mode-why bracket = tt
   mode-why (isotope n) = tt
-  mode-why (symbol1 a) = either (at (symbol1 a) d) b i μ (listed (a ∷ b ∷ []) symbols) _ _ (λ e. tt) (hydrate-why (symbol1 a))
+  mode-why (symbol1 a) = by-test (Explained (at (symbol1 a) d) b i μ) (listed (a ∷ b ∷ []) symbols) _ _ (λ e. tt) (λ e. hydrate-why (symbol1 a))
   mode-why symbolled = hydrate-why symbolled
-  mode-why hydrogen = either (at hydrogen d) b i μ (among b several) _ _ (λ e. tt) (charge-why hydrogen)
+  mode-why hydrogen = by-test (Explained (at hydrogen d) b i μ) (among b several) _ _ (λ e. tt) (λ e. charge-why hydrogen)
   mode-why hydrogens = charge-why hydrogens
-  mode-why sign = either (at sign d) b i μ (among b several) _ _ (λ e. tt) tt
+  mode-why sign = by-test (Explained (at sign d) b i μ) (among b several) _ _ (λ e. tt) (λ e. tt)
   mode-why charged = tt
   mode-why colon = tt
-  mode-why (extension n) = either (at (extension n) d) b i μ (among b digits) _ _ (λ e. tt) tt
+  mode-why (extension n) = by-test (Explained (at (extension n) d) b i μ) (among b digits) _ _ (λ e. tt) (λ e. tt)
 
 explained : (σ : State) (b i : ℕ) (μ : Memory) → Explained σ b i μ (act σ b i μ)
 unfolding act step
