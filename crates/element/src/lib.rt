@@ -186,8 +186,22 @@ pub fn is_bare(e: u8) -> bool
         | (e == 117)
 }
 
-// The symbol of an element; no bytes above 118.
-pub fn spell(e: u8) -> Spelling
+// A symbol of one letter.
+fn one(first: u8) -> Spelling
+    ensures { λ r. ⌜ r ≡ spelling (first ∷ []) ⌝ }
+{
+    Spelling { first, second: 0 }
+}
+
+// A symbol of two letters.
+fn two(first: u8, second: u8) -> Spelling
+    ensures { λ r. ⌜ r ≡ spelling (first ∷ second ∷ []) ⌝ }
+{
+    Spelling { first, second }
+}
+
+// The symbol of an element from the table; no bytes above 118.
+fn spell_rare(e: u8) -> Spelling
     ensures { λ r. ⌜ r ≡ spelling (bytesOf e) ⌝ }
 {
     if e > 118 {
@@ -200,6 +214,25 @@ pub fn spell(e: u8) -> Spelling
     Spelling {
         first: SPELLED[k],
         second: SPELLED[k + 1],
+    }
+}
+
+// The symbol of an element; no bytes above 118. The common ones need no table.
+pub fn spell(e: u8) -> Spelling
+    ensures { λ r. ⌜ r ≡ spelling (bytesOf e) ⌝ }
+{
+    match e {
+        5 => one(b'B'),
+        6 => one(b'C'),
+        7 => one(b'N'),
+        8 => one(b'O'),
+        9 => one(b'F'),
+        15 => one(b'P'),
+        16 => one(b'S'),
+        17 => two(b'C', b'l'),
+        35 => two(b'B', b'r'),
+        53 => one(b'I'),
+        _ => spell_rare(e),
     }
 }
 

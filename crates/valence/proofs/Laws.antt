@@ -69,7 +69,7 @@ head-is : (l : List ℕ) → headOr0 l ≡ getD l 0 0
 head-is [] = refl
 head-is (t ∷ ts) = refl
 
-pub first-is : (e : ℕ) → firstTarget e ≡ getD (targets e) 0 0
+first-is : (e : ℕ) → firstTarget e ≡ getD (targets e) 0 0
 unfolding firstTarget
 first-is e = head-is (targets e)
 
