@@ -160,6 +160,9 @@ sums-start bonds len e = e ∙ sums-none bonds len ∙ ap (sumsTo bonds 0) (sym 
 pub sums-bound : (bonds : List ℤ) (b len : ℕ) {s : List ℕ} → s ≡ sumsTo bonds b len → (a : ℕ) → getD s a 0 ≤ 3 * b
 sums-bound bonds b len e a = rw e (sums-small bonds b len a)
 
+pub second-bound : (s : List ℕ) (e f x n : ℕ) → e < f → ((a : ℕ) → getD s a 0 ≤ n) → getD (bump s e x) f 0 ≤ n
+second-bound s e f x n l h = rw (getD-set-other s e f (getD s e 0 + x) 0 (λ q. omega arith)) (h f)
+
 pub sums-step : (bonds : List ℤ) (b len : ℕ) {s t : List ℕ} → s ≡ sumsTo bonds b len → t ≡ withBond bonds b s → t ≡ sumsTo bonds (b + 1) len
 sums-step bonds b len e h = h ∙ ap (withBond bonds b) e ∙ sums-more bonds b len
 

@@ -33,13 +33,13 @@ pub record Summed (sums : List ℕ) (n : ℕ) (flags : List ℕ) : Type 0 where
   pub summed : n ≤ length sums
   pub room : n ≤ length flags
 
--- the bonds have ends that fit, and each of m a cell
+-- the bonds have two ends that fit, in their order, and each of m a cell
 pub record Wide (bonds : List ℤ) (m : ℕ) (ea eb el : List ℕ) : Type 0 where
   pub few : m ≤ maxBonds
   pub firsts : m ≤ length ea
   pub seconds : m ≤ length eb
   pub elided : m ≤ length el
-  pub first-fits : (b : ℕ) → b < m → end1 bonds b < maxAtoms
+  pub order : (b : ℕ) → b < m → end1 bonds b < end2 bonds b
   pub second-fits : (b : ℕ) → b < m → end2 bonds b < maxAtoms
 
 -- buffers that hold the ends of m bonds, and which are elided, in their first cells

@@ -78,8 +78,11 @@ fn is_delocalized(atoms: &[i32], a: AtomId, sum: u16) -> bool
     requires { ⌜ a .0 < maxAtoms ⌝ }
     ensures { λ r. ⌜ r ≡ delocalized (element (now (atoms .entry)) (a .0)) (selected (now (atoms .entry)) (a .0)) sum (hydrogens (now (atoms .entry)) (a .0)) ⌝ }
 {
-    let e = cell::atom_number(atoms, a, ELEMENT);
     let s = cell::atom_number(atoms, a, SELECTED);
+    if s != 1 {
+        return false;
+    }
+    let e = cell::atom_number(atoms, a, ELEMENT);
     let h = cell::atom_number(atoms, a, HYDROGENS);
     valence::delocalized(e, s, sum as usize, h)
 }
@@ -103,19 +106,32 @@ fn fill_flags(atoms: &[i32], sums: &[u16], n: usize, flags: &mut [u8])
     }
 }
 
-// The ends of each bond, and 1 for each elided bond.
-fn fill_bonds(bonds: &[i32], m: usize, ea: &mut [u16], eb: &mut [u16], el: &mut [u8])
+// The ends of each bond, 1 for each elided bond, and the bond sums, in one pass.
+fn fill_bonds(
+    bonds: &[i32],
+    m: usize,
+    ea: &mut [u16],
+    eb: &mut [u16],
+    el: &mut [u8],
+    sums: &mut [u16; MAX_ATOMS],
+)
     requires { ⌜ Wide (now bonds) m (now ea) (now eb) (now el) ⌝ }
+    requires { ⌜ now sums ≡ replicate maxAtoms 0 ⌝ }
     ensures { λ _. ⌜ Wired (now (bonds .entry)) m (now (ea .exit)) (now (eb .exit)) (now (el .exit)) ⌝ }
+    ensures { λ _. ⌜ now (sums .exit) ≡ upTo (bondSum (now (bonds .entry)) m) 0 maxAtoms ⌝ }
 {
     let mut i = 0;
     while i < m {
         let b = BondId(i);
         let first = cell::bond_number(bonds, b, FIRST);
         let second = cell::bond_number(bonds, b, SECOND);
+        let kind = cell::bond_number(bonds, b, KIND);
+        let x = valence::order(kind) as u16;
         ea[i] = first as u16;
         eb[i] = second as u16;
-        el[i] = flag(cell::bond_number(bonds, b, KIND) == 0);
+        el[i] = flag(kind == 0);
+        sums[first] += x;
+        sums[second] += x;
         i += 1;
     }
 }
@@ -136,7 +152,6 @@ pub fn build(
     ensures { λ _. ⌜ Built (now (atoms .entry)) (now (bonds .entry)) n m (now (flags .exit)) (now (ea .exit)) (now (eb .exit)) (now (el .exit)) ⌝ }
 {
     let mut sums = [0u16; MAX_ATOMS];
-    fill_sums(bonds, m, &mut sums);
+    fill_bonds(bonds, m, ea, eb, el, &mut sums);
     fill_flags(atoms, &sums, n, flags);
-    fill_bonds(bonds, m, ea, eb, el);
 }

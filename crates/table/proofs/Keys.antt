@@ -1,5 +1,5 @@
 -- Two bonds have one key exactly if they join the same two atoms. Assumes nothing.
-use Prim.Native.Nat.{ℕ, _+_, _*_, _<_}
+use Prim.Native.Nat.{ℕ, _+_, _*_, _-_, _<_, _≤_}
 use native.Mathlib.Omega.{arith}
 use mathlib.Core.Path.{_≡_, refl, sym, ap, _∙_}
 use mathlib.Core.Bool.{Bool, true, false, _&&_, not}
@@ -7,21 +7,28 @@ use mathlib.Core.List.{List, _++_}
 use lib.ListN.{getD}
 use lib.IntN.{ℤ}
 use lib.Dec.{eqb}
+use borrow.Author.Count.{below-more}
 use borrow.Author.Tests.{eq-eqb, ne-eqb, eqb-true, eqb-false, not-true, not-false}
 use Rattle.loops.specs.Loop.{each, upTo}
-use Rattle.loops.proofs.Loops.{each-same, filled-at}
+use Rattle.loops.proofs.Loops.{each-all, each-same, filled-at}
 use Rattle.table.specs.Cells.{end1, end2}
 use Rattle.table.specs.Valid.{sameEnds, fresh, distinct, bondOk}
 use Rattle.table.specs.Keys.{ShortEnds, endsKey, freshKey}
 use Rattle.table.proofs.Valid.{bond-fine}
 
-key-same : (a b c d : ℕ) → b < 65536 → d < 65536 → eqb (a * 65536 + b) (c * 65536 + d) ≡ (eqb c a && eqb d b)
-key-same a b c d hb hd = split (eqb c a) refl (eqb d b) refl
+key-same : (a b c d : ℕ) → a < 65536 → c < 65536 → eqb (b * 65536 + (65535 - a)) (d * 65536 + (65535 - c)) ≡ (eqb c a && eqb d b)
+key-same a b c d ha hc = split (eqb c a) refl (eqb d b) refl
   where
-    split : (x : Bool) → eqb c a ≡ x → (y : Bool) → eqb d b ≡ y → eqb (a * 65536 + b) (c * 65536 + d) ≡ (x && y)
-    split true e true f = eq-eqb (a * 65536 + b) (c * 65536 + d) (omega (arith, eqb-true c a e, eqb-true d b f))
-    split true e false f = ne-eqb (a * 65536 + b) (c * 65536 + d) (λ (z : a * 65536 + b ≡ c * 65536 + d). eqb-false d b f (omega (arith, eqb-true c a e)))
-    split false e y f = ne-eqb (a * 65536 + b) (c * 65536 + d) (λ (z : a * 65536 + b ≡ c * 65536 + d). eqb-false c a e (omega arith))
+    x : ℕ
+    x = b * 65536 + (65535 - a)
+
+    y : ℕ
+    y = d * 65536 + (65535 - c)
+
+    split : (p : Bool) → eqb c a ≡ p → (q : Bool) → eqb d b ≡ q → eqb x y ≡ (p && q)
+    split true e true f = eq-eqb x y (omega (arith, eqb-true c a e, eqb-true d b f))
+    split true e false f = ne-eqb x y (λ (z : x ≡ y). eqb-false d b f (omega (arith, eqb-true c a e)))
+    split false e q f = ne-eqb x y (λ (z : x ≡ y). eqb-false c a e (omega arith))
 
 module _ (t : List ℤ) (m : ℕ) (keys rest : List ℕ) (e : keys ≡ upTo (endsKey t) 0 m ++ rest) (s : (b : ℕ) → b < m → ShortEnds t b) where
   fresh-key : (i : ℕ) → i < m → freshKey keys i ≡ fresh t i
@@ -30,12 +37,44 @@ module _ (t : List ℤ) (m : ℕ) (keys rest : List ℕ) (e : keys ≡ upTo (end
       let k : j < m = omega arith in
       let q : eqb (getD keys j 0) (getD keys i 0) ≡ (eqb (end1 t i) (end1 t j) && eqb (end2 t i) (end2 t j)) =
       rw (filled-at (endsKey t) m j 0 keys rest e k, filled-at (endsKey t) m i 0 keys rest e h)
-      (key-same (end1 t j) (end2 t j) (end1 t i) (end2 t i) (s j k .second) (s i h .second)) in
+      (key-same (end1 t j) (end2 t j) (end1 t i) (end2 t i) (s j k .first) (s i h .first)) in
       ap not q
 
   pub keys-distinct : each (freshKey keys) 0 m ≡ distinct t m
   unfolding distinct
   keys-distinct = each-same (freshKey keys) (fresh t) m fresh-key
+
+-- bonds with different keys do not join the same two atoms
+key-apart : (t : List ℤ) (k j : ℕ) → endsKey t j < endsKey t k → not (sameEnds t k j) ≡ true
+unfolding sameEnds
+key-apart t k j l = split (eqb (end1 t k) (end1 t j)) refl (eqb (end2 t k) (end2 t j)) refl
+  where
+    split : (p : Bool) → eqb (end1 t k) (end1 t j) ≡ p → (q : Bool) → eqb (end2 t k) (end2 t j) ≡ q → not (p && q) ≡ true
+    split true e true f = absurd (omega (arith, eqb-true (end1 t k) (end1 t j) e, eqb-true (end2 t k) (end2 t j) f))
+    split true e false f = refl
+    split false e q f = refl
+
+-- the keys of the first i bonds of m ascend, up to the last
+pub record Ascends (t : List ℤ) (m i last : ℕ) : Type 0 where
+  pub within : i ≤ m
+  pub below : (j : ℕ) → j < i → endsKey t j ≤ last
+  pub apart : (k : ℕ) → k < i → (j : ℕ) → j < k → endsKey t j < endsKey t k
+
+pub ascends-start : {t : List ℤ} {m : ℕ} → Ascends t m 0 0
+ascends-start = record { within = omega arith; below = λ j l. absurd (omega arith); apart = λ k l. absurd (omega arith) }
+
+module _ {t : List ℤ} {m i last : ℕ} (a : Ascends t m i last) where
+  pub ascends-step : (key : ℕ) → i < m → last < key → key ≡ endsKey t i → Ascends t m (i + 1) key
+  ascends-step key h l e =
+      record {
+        within = omega arith;
+        below = below-more (λ j. endsKey t j ≤ key) i (λ j r. omega (arith, a .below j r)) (omega arith);
+        apart = below-more (λ k. (j : ℕ) → j < k → endsKey t j < endsKey t k) i (a .apart) (λ j r. omega (arith, a .below j r));
+      }
+
+  pub ascends-end : m ≤ i → distinct t m ≡ true
+  unfolding distinct fresh
+  ascends-end h = each-all (fresh t) m λ k l. each-all (λ j. not (sameEnds t k j)) k λ j r. key-apart t k j (a .apart k (omega arith) j r)
 
 -- the ends of a valid bond are small
 pub short-ends : (t : List ℤ) (n b : ℕ) → n < 65536 → bondOk t n b ≡ true → ShortEnds t b
@@ -47,3 +86,7 @@ held {r} e h = sym e ∙ not-false r h
 
 pub failed : {r b : Bool} → r ≡ b → not r ≡ true → b ≡ false
 failed {r} e h = sym e ∙ not-true r h
+
+-- what did not pass claims nothing
+pub never : {A : Type 0} → _≡_ {A = Bool} false true → A
+never e = absurd (let z : _≡_ {A = ℕ} 0 1 = cc in omega arith)

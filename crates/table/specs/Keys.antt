@@ -1,5 +1,5 @@
 -- The two ends of a bond as one number, by which bonds are compared
-use Prim.Native.Nat.{ℕ, _+_, _*_, _<_}
+use Prim.Native.Nat.{ℕ, _+_, _*_, _-_, _<_}
 use mathlib.Core.Bool.{Bool, not}
 use mathlib.Core.List.{List}
 use lib.ListN.{getD}
@@ -13,8 +13,9 @@ pub record ShortEnds (t : List ℤ) (b : ℕ) : Type 0 where
   pub first : end1 t b < 65536
   pub second : end2 t b < 65536
 
+-- the keys of bonds in their usual order ascend: by the second end, and from the highest first end down
 abbrev pub endsKey : List ℤ → ℕ → ℕ
-endsKey t b = end1 t b * 65536 + end2 t b
+endsKey t b = end2 t b * 65536 + (65535 - end1 t b)
 
 -- the number at i differs from each before it
 abbrev pub freshKey : List ℕ → ℕ → Bool

@@ -12,7 +12,7 @@ use Rattle.refusal.specs.declared.Refusal.the-variants.{Short, Invalid}
 use Rattle.table.specs.declared.Check.{Check}
 use Rattle.table.specs.declared.Check.the-variants.{Fine, Refused}
 use Rattle.table.specs.Limits.{maxAtoms, maxBonds, atomCells, bondCells, ELEMENT, SELECTED, ISOTOPE, HYDROGENS, CHARGE, EXTENSION, FIRST, KIND}
-use Rattle.table.specs.Cells.{inRange, atomCell, bondCell, element, selected, end1, end2}
+use Rattle.table.specs.Cells.{number, inRange, atomCell, bondCell, element, selected, end1, end2}
 
 -- 1: the counts are within the limits
 abbrev pub countsOk : ℕ → ℕ → Bool
@@ -69,6 +69,16 @@ atomOk t a = elementOk t a && isotopeOk t a && hydrogensOk t a && chargeOk t a &
 
 unfoldable pub bondOk : List ℤ → ℕ → ℕ → Bool
 bondOk t n b = kindOk t b && orderOk t b && secondOk t n b
+
+-- the same tests on the cells of a row
+abbrev pub selectionOk : ℤ → ℤ → Bool
+selectionOk e s = inRange s (pos 0) (pos 1) && (eqb (number s) 0 || selectable (number e))
+
+unfoldable pub atomRowOk : ℤ → ℤ → ℤ → ℤ → ℤ → ℤ → Bool
+atomRowOk e s i h c x = inRange e (pos 0) (pos 118) && inRange i (pos 0) (pos 999) && inRange h (pos 0) (pos 9) && inRange c (negsuc 8) (pos 9) && inRange x (pos 0) (pos 9999) && selectionOk e s
+
+unfoldable pub bondRowOk : ℤ → ℤ → ℤ → ℕ → Bool
+bondRowOk e f k n = inRange k (pos 0) (pos 3) && (leZ (pos 0) e && ltb (number e) (number f)) && ltb (number f) n
 
 -- the tables pass all; cells after the used rows are not looked at
 unfoldable pub valid : List ℤ → List ℤ → ℕ → ℕ → Bool

@@ -3,7 +3,6 @@ ghost use mathlib.Core.Path.{_≡_};
 ghost use Prim.Native.Nat.{_<_};
 ghost use lib.ListN.{getD, set};
 ghost use lib.IntN.{pos};
-ghost use lib.Signed.{leZ};
 ghost use mir.Val.{SFits};
 ghost use mir.Syntax.{w32};
 ghost use Rattle.table.specs.Limits.{maxAtoms, maxBonds, atomCells, bondCells};
@@ -55,13 +54,6 @@ pub fn cell_within(t: &[i32], i: usize, low: i32, high: i32) -> bool
     within(cell(t, i), low, high)
 }
 
-// internal: whether the cell at a place is not negative.
-pub fn cell_natural(t: &[i32], i: usize) -> bool
-    ensures { λ r. ⌜ r ≡ leZ (pos 0) (getD (now (t .entry)) i (pos 0)) ⌝ }
-{
-    0 <= cell(t, i)
-}
-
 // internal: the number in the cell at a place.
 pub fn cell_number(t: &[i32], i: usize) -> usize
     ensures { λ r. ⌜ r ≡ number (getD (now (t .entry)) i (pos 0)) ⌝ }
@@ -99,14 +91,6 @@ pub fn atom_number(t: &[i32], a: AtomId, f: usize) -> usize
     ensures { λ r. ⌜ r ≡ number (atomCell (now (t .entry)) (a .0) f) ⌝ }
 {
     cell_number(t, atom_place(a, f))
-}
-
-// internal: whether the field of a bond lies between two bounds.
-pub fn bond_within(t: &[i32], b: BondId, f: usize, low: i32, high: i32) -> bool
-    requires { ⌜ (b .0 < maxBonds) × (f < bondCells) ⌝ }
-    ensures { λ r. ⌜ r ≡ inRange (bondCell (now (t .entry)) (b .0) f) low high ⌝ }
-{
-    cell_within(t, bond_place(b, f), low, high)
 }
 
 // internal: the number in a field of a bond.

@@ -1,11 +1,12 @@
 // Valid tables (01: sound): a test for each condition, and all of them.
 ghost use mathlib.Core.Path.{_≡_};
 ghost use Prim.Native.Nat.{ℕ, _<_, _≤_};
+ghost use mathlib.Core.Bool.{true};
 ghost use mathlib.Core.List.{_++_};
 ghost use lib.ListN.{length, drop};
 ghost use Rattle.loops.specs.Loop.{each, upTo};
 ghost use Rattle.table.specs.Limits.{maxAtoms, maxBonds};
-ghost use Rattle.table.specs.Valid.{selectable, selectedOk, atomOk, bondOk, distinct, valid, enough};
+ghost use Rattle.table.specs.Valid.{selectable, selectionOk, atomRowOk, bondRowOk, atomOk, bondOk, distinct, valid, enough};
 ghost use Rattle.table.specs.Keys.{ShortEnds, endsKey, freshKey};
 use crate::ATOM_CELLS;
 use crate::BOND_CELLS;
@@ -32,13 +33,50 @@ pub fn selectable(e: usize) -> bool
 }
 
 // Selected is 0, or 1 with an element that may be selected.
-fn selected_ok(t: &[i32], a: AtomId) -> bool
-    requires { ⌜ a .0 < maxAtoms ⌝ }
-    ensures { λ r. ⌜ r ≡ selectedOk (now (t .entry)) (a .0) ⌝ }
+fn selected_ok(element: i32, selected: i32) -> bool
+    ensures { λ r. ⌜ r ≡ selectionOk element selected ⌝ }
 {
-    let fits = cell::atom_within(t, a, SELECTED, 0, 1);
-    let plain = cell::atom_number(t, a, SELECTED) == 0;
-    fits & (plain | selectable(cell::atom_number(t, a, ELEMENT)))
+    let plain = cell::number(selected) == 0;
+    cell::within(selected, 0, 1) & (plain | selectable(cell::number(element)))
+}
+
+// The six cells of an atom's row are valid.
+fn atom_row_ok(
+    element: i32,
+    selected: i32,
+    isotope: i32,
+    hydrogens: i32,
+    charge: i32,
+    extension: i32,
+) -> bool
+    ensures { λ r. ⌜ r ≡ atomRowOk element selected isotope hydrogens charge extension ⌝ }
+{
+    cell::within(element, 0, 118)
+        & cell::within(isotope, 0, 999)
+        & cell::within(hydrogens, 0, 9)
+        & cell::within(charge, -9, 9)
+        & cell::within(extension, 0, 9999)
+        & selected_ok(element, selected)
+}
+
+// The row of an atom that the table may end before is valid.
+fn atom_ok_beyond(t: &[i32], a: AtomId) -> bool
+    requires { ⌜ a .0 < maxAtoms ⌝ }
+    ensures { λ r. ⌜ r ≡ atomOk (now (t .entry)) (a .0) ⌝ }
+{
+    let element = cell::atom_cell(t, a, ELEMENT);
+    let selected = cell::atom_cell(t, a, SELECTED);
+    let isotope = cell::atom_cell(t, a, ISOTOPE);
+    let hydrogens = cell::atom_cell(t, a, HYDROGENS);
+    let charge = cell::atom_cell(t, a, CHARGE);
+    atom_row_ok(
+        element,
+        selected,
+        isotope,
+        hydrogens,
+        charge,
+        cell::atom_cell(t, a, EXTENSION),
+    )
 }
 
 // The row of an atom is valid.
@@ -46,12 +84,38 @@ fn atom_ok(t: &[i32], a: AtomId) -> bool
     requires { ⌜ a .0 < maxAtoms ⌝ }
     ensures { λ r. ⌜ r ≡ atomOk (now (t .entry)) (a .0) ⌝ }
 {
-    cell::atom_within(t, a, ELEMENT, 0, 118)
-        & cell::atom_within(t, a, ISOTOPE, 0, 999)
-        & cell::atom_within(t, a, HYDROGENS, 0, 9)
-        & cell::atom_within(t, a, CHARGE, -9, 9)
-        & cell::atom_within(t, a, EXTENSION, 0, 9999)
-        & selected_ok(t, a)
+    let p = ATOM_CELLS * a.0;
+    if t.len() <= p + EXTENSION {
+        return atom_ok_beyond(t, a);
+    }
+    atom_row_ok(
+        t[p + ELEMENT],
+        t[p + SELECTED],
+        t[p + ISOTOPE],
+        t[p + HYDROGENS],
+        t[p + CHARGE],
+        t[p + EXTENSION],
+    )
+}
+
+// The three cells of a bond's row are valid, with n atoms.
+fn bond_row_ok(first: i32, second: i32, kind: i32, n: usize) -> bool
+    ensures { λ r. ⌜ r ≡ bondRowOk first second kind n ⌝ }
+{
+    let e = cell::number(first);
+    let f = cell::number(second);
+    let natural = 0 <= first;
+    cell::within(kind, 0, 3) & (natural & (e < f)) & (f < n)
+}
+
+// The row of a bond that the table may end before is valid, with n atoms.
+fn bond_ok_beyond(t: &[i32], n: usize, b: BondId) -> bool
+    requires { ⌜ b .0 < maxBonds ⌝ }
+    ensures { λ r. ⌜ r ≡ bondOk (now (t .entry)) n (b .0) ⌝ }
+{
+    let first = cell::bond_cell(t, b, FIRST);
+    let second = cell::bond_cell(t, b, SECOND);
+    bond_row_ok(first, second, cell::bond_cell(t, b, KIND), n)
 }
 
 // The row of a bond is valid, with n atoms.
@@ -59,10 +123,11 @@ fn bond_ok(t: &[i32], n: usize, b: BondId) -> bool
     requires { ⌜ b .0 < maxBonds ⌝ }
     ensures { λ r. ⌜ r ≡ bondOk (now (t .entry)) n (b .0) ⌝ }
 {
-    let e = cell::bond_number(t, b, FIRST);
-    let f = cell::bond_number(t, b, SECOND);
-    let natural = cell::cell_natural(t, cell::bond_place(b, FIRST));
-    cell::bond_within(t, b, KIND, 0, 3) & (natural & (e < f)) & (f < n)
+    let p = BOND_CELLS * b.0;
+    if t.len() <= p + KIND {
+        return bond_ok_beyond(t, n, b);
+    }
+    bond_row_ok(t[p + FIRST], t[p + SECOND], t[p + KIND], n)
 }
 
 // The rows of n atoms are valid.
@@ -103,7 +168,7 @@ fn ends_key(t: &[i32], b: BondId) -> u32
 {
     let first = cell::bond_number(t, b, FIRST);
     let second = cell::bond_number(t, b, SECOND);
-    (first * 65536 + second) as u32
+    (second * 65536 + (65535 - first)) as u32
 }
 
 // The ends of the first m bonds, each as one number.
@@ -142,12 +207,34 @@ fn all_different(keys: &[u32], m: usize) -> bool
     fine
 }
 
+// The ends of the first m bonds, each as one number, ascend: then no two are the same.
+fn ascending(t: &[i32], m: usize) -> bool
+    requires { ⌜ m ≤ maxBonds ⌝ }
+    requires { ⌜ ((b : ℕ) → b < m → ShortEnds (now t) b) ⌝ }
+    ensures { λ r. ⌜ (r ≡ true → distinct (now (t .entry)) m ≡ true) ⌝ }
+{
+    let mut last = 0;
+    let mut i = 0;
+    while i < m {
+        let key = ends_key(t, BondId(i));
+        if key <= last {
+            return false;
+        }
+        last = key;
+        i += 1;
+    }
+    true
+}
+
 // No two of the first m bonds join the same two atoms.
 fn distinct(t: &[i32], m: usize) -> bool
     requires { ⌜ m ≤ maxBonds ⌝ }
     requires { ⌜ ((b : ℕ) → b < m → ShortEnds (now t) b) ⌝ }
     ensures { λ r. ⌜ r ≡ distinct (now (t .entry)) m ⌝ }
 {
+    if ascending(t, m) {
+        return true;
+    }
     let mut keys = [0u32; MAX_BONDS];
     fill_keys(t, m, &mut keys);
     all_different(&keys, m)

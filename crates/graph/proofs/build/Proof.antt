@@ -1,41 +1,44 @@
 use native.Mathlib.Omega.{arith}
-use mathlib.Core.Path.{_∙_}
+use mathlib.Core.Path.{refl, sym, _∙_}
 use denote.Ref.{now}
 use Rattle.loops.proofs.Loops.{filled-part}
-use Rattle.table.proofs.Valid.{first-end, second-end}
+use Rattle.table.specs.Limits.{maxAtoms}
+use Rattle.table.proofs.Valid.{bond-row, second-end}
 use Rattle.graph.specs.Built.{sumFlag}
+use Rattle.graph.proofs.Sums.{sums-length}
 use Rattle.graph.proofs.Graph.{sum-flags}
 use borrow.Author.Needs.{needs}
 use Rattle.graph.proofs.build.Statement.{statement}
 use Rattle.graph.proofs.build.Tie as tie
 
-slice-aggregate-fill-sums : tie.Need-slice-aggregate-fill-sums
-slice-aggregate-fill-sums c = search needs
-
-fill-sums-requires : tie.Need-fill-sums-requires
-fill-sums-requires c κs = search needs
+fill-bonds-requires : tie.Need-fill-bonds-requires
+fill-bonds-requires c κs =
+    let s = c .before .before .before .before .before .before .before .before in
+    let v = s .pre .0 in
+    let r = s .pre .1 in (
+      record {
+        few = v .few-bonds;
+        firsts = r .firsts;
+        seconds = r .seconds;
+        elided = r .elided;
+        order = λ k l. bond-row v k l .order;
+        second-fits = λ k l. omega (arith, second-end v k l, v .few-atoms);
+      },
+      refl,
+    )
 
 slice-aggregate-fill-flags : tie.Need-slice-aggregate-fill-flags
-slice-aggregate-fill-flags c = search needs
+slice-aggregate-fill-flags c =
+    let f = c .before .before .before .before .before .before .before in
+    let a = f .before .before .before .before .before .before .before .before .before .args in
+    sym (sums-length (now (a .bonds)) (a .m) maxAtoms (f .fill-bonds .ensures .1))
 
 fill-flags-requires : tie.Need-fill-flags-requires
 fill-flags-requires c κs =
-    let s = c .before .before .before .before .before .before .before .before .before in
-    record { few = s .pre .0 .few-atoms; summed = omega (arith, c .before .before .before .fill-sums .kept, s .pre .0 .few-atoms); room = s .pre .1 .atoms }
-
-fill-bonds-requires : tie.Need-fill-bonds-requires
-fill-bonds-requires c κs =
-    let s = c .before .before .before .before .before .before .before .before .before .before .before .before .before .before .before in
-    let v = s .pre .0 in
-    let r = s .pre .1 in
-    record {
-      few = v .few-bonds;
-      firsts = r .firsts;
-      seconds = r .seconds;
-      elided = r .elided;
-      first-fits = λ k l. omega (arith, first-end v k l, v .few-atoms);
-      second-fits = λ k l. omega (arith, second-end v k l, v .few-atoms);
-    }
+    let f = c .before .before .before .before .before .before .before .before in
+    let s = f .before .before .before .before .before .before .before .before .before in
+    let w = sums-length (now (s .args .bonds)) (s .args .m) maxAtoms (f .fill-bonds .ensures .1) in
+    record { few = s .pre .0 .few-atoms; summed = omega (arith, s .pre .0 .few-atoms); room = s .pre .1 .atoms }
 
 same-length : tie.Need-same-length
 same-length c = search needs
@@ -51,26 +54,24 @@ same-length-4 c = search needs
 
 returns : tie.Need-returns
 returns c =
-    let s = c .before .before .before .before .before .before .before .before .before .before .before .before .before .before .before .before .before .before .before .before .before .before in
+    let f = c .before .before .before .before .before .before .before .before .before .before .before in
+    let s = f .before .before .before .before .before .before .before .before .before in
     let a = s .args in
-    let fs = c .before .before .before .before .before .before .before .before .before .before .before .before .fill-flags in
-    let ss = c .before .before .before .before .before .before .before .before .before .before .before .before .before .before .before .before .fill-sums in
+    let e = f .fill-bonds .ensures in
     record {
       delocalized-part =
-          filled-part (sumFlag (now (a .atoms)) (ss .last .1 .1 .0)) (a .n) (now (a .flags)) (fs .ensures)
-          ∙ sum-flags (now (a .atoms)) (now (a .bonds)) (a .n) (a .m) _ (ss .ensures) (s .pre .0 .few-atoms);
-      bonds-part = c .before .before .before .before .before .before .fill-bonds .ensures;
+          filled-part (sumFlag (now (a .atoms)) (f .fill-bonds .last .1 .1 .1 .1 .1 .0)) (a .n) (now (a .flags)) (c .before .before .fill-flags .ensures)
+          ∙ sum-flags (now (a .atoms)) (now (a .bonds)) (a .n) (a .m) maxAtoms (e .1) (s .pre .0 .few-atoms);
+      bonds-part = e .0;
     }
 
 pub build-spec : {M : Type 1} → statement M
 build-spec =
     tie.close
     (tie.spec
-    slice-aggregate-fill-sums
-    fill-sums-requires
+    fill-bonds-requires
     slice-aggregate-fill-flags
     fill-flags-requires
-    fill-bonds-requires
     same-length
     same-length-2
     same-length-3

@@ -1,22 +1,26 @@
-use Prim.Native.Nat.{_-_}
+use Prim.Native.Nat.{_-_, _*_, _<_}
 use native.Mathlib.Omega.{arith}
-use mathlib.Core.Path.{_∙_}
+use mathlib.Core.Path.{_≡_, refl, _∙_}
 use denote.Ref.{now}
 use Rattle.loops.proofs.Loops.{Edited, fills, edited-start, filled-step, filled-end, filled-part}
+use Rattle.table.specs.Limits.{maxAtoms}
 use Rattle.table.specs.Cells.{end1, end2}
 use Rattle.graph.specs.Graph.{elidedFlag}
+use Rattle.graph.proofs.Sums.{order-small, sumsTo, sums-none, sums-bound, second-bound, sums-step, two-ends}
 use Rattle.graph.proofs.fill_bonds.Statement.{statement}
 use Rattle.graph.proofs.fill_bonds.Tie as tie
 
 abbrev Inv-loop : tie.InvT-loop
-Inv-loop bonds m ea₀ eb₀ el₀ i₀ ea eb el i =
-    Edited (fills (end1 bonds)) ea₀ m i ea × Edited (fills (end2 bonds)) eb₀ m i eb × Edited (fills (elidedFlag bonds)) el₀ m i el
+Inv-loop bonds m ea₀ eb₀ el₀ sums₀ i₀ ea eb el sums i =
+    Edited (fills (end1 bonds)) ea₀ m i ea × Edited (fills (end2 bonds)) eb₀ m i eb × Edited (fills (elidedFlag bonds)) el₀ m i el × (sums ≡ sumsTo bonds i maxAtoms)
 
 abbrev μ-loop : tie.MeasureT-loop
-μ-loop bonds m ea₀ eb₀ el₀ i₀ ea eb el i = m - i
+μ-loop bonds m ea₀ eb₀ el₀ sums₀ i₀ ea eb el sums i = m - i
 
 loop-holds : tie.Need-loop-holds Inv-loop μ-loop
-loop-holds c = (edited-start, edited-start, edited-start)
+loop-holds c =
+    let s = c .before .before .before in
+    (edited-start, edited-start, edited-start, s .pre .1 ∙ sums-none (now (s .args .bonds)) maxAtoms)
 
 bond-number-requires : tie.Need-bond-number-requires Inv-loop μ-loop
 bond-number-requires c κs = (omega arith, omega arith)
@@ -24,11 +28,22 @@ bond-number-requires c κs = (omega arith, omega arith)
 bond-number-requires-2 : tie.Need-bond-number-requires-2 Inv-loop μ-loop
 bond-number-requires-2 c κs = (omega arith, omega arith)
 
+bond-number-requires-3 : tie.Need-bond-number-requires-3 Inv-loop μ-loop
+bond-number-requires-3 c κs = (omega arith, omega arith)
+
+order-requires : tie.Need-order-requires Inv-loop μ-loop
+order-requires c κs = tt
+
+cast-x : tie.Need-cast-x Inv-loop μ-loop
+cast-x c = omega (arith, c .order .ensures, order-small (c .before .bond-number3 .result))
+
 cast-ea : tie.Need-cast-ea Inv-loop μ-loop
 cast-ea c =
-    let l = c .before .before .before .loop in
-    let s = c .before .before .before .before .before .before .before in
-    omega (arith, c .before .bond-number .ensures, s .pre .first-fits (l .i) (c .before .before .loop-test .taken))
+    let d = c .before .before .before in
+    let i = d .before .before .loop .i in
+    let w = d .before .before .before .before .before .before .pre .0 in
+    let l = d .before .loop-test .taken in
+    omega (arith, d .bond-number .ensures, w .order i l, w .second-fits i l)
 
 mul-ea : tie.Need-mul-ea Inv-loop μ-loop
 mul-ea c = omega arith
@@ -38,9 +53,10 @@ slice-write-ea c = omega arith
 
 cast-eb : tie.Need-cast-eb Inv-loop μ-loop
 cast-eb c =
-    let l = c .before .before .before .loop in
-    let s = c .before .before .before .before .before .before .before in
-    omega (arith, c .bond-number2 .ensures, s .pre .second-fits (l .i) (c .before .before .loop-test .taken))
+    let d = c .before .before .before in
+    let i = d .before .before .loop .i in
+    let w = d .before .before .before .before .before .before .pre .0 in
+    omega (arith, c .before .before .bond-number2 .ensures, w .second-fits i (d .before .loop-test .taken))
 
 mul-eb : tie.Need-mul-eb Inv-loop μ-loop
 mul-eb c = omega arith
@@ -48,14 +64,79 @@ mul-eb c = omega arith
 slice-write-eb : tie.Need-slice-write-eb Inv-loop μ-loop
 slice-write-eb c = omega arith
 
-bond-number-requires-3 : tie.Need-bond-number-requires-3 Inv-loop μ-loop
-bond-number-requires-3 c κs = (omega arith, omega arith)
-
 flag-requires : tie.Need-flag-requires Inv-loop μ-loop
 flag-requires c κs = tt
 
 slice-write-el : tie.Need-slice-write-el Inv-loop μ-loop
 slice-write-el c = omega arith
+
+mul-sums : tie.Need-mul-sums Inv-loop μ-loop
+mul-sums c =
+    let d = c .before .before .before .before in
+    let i = d .before .before .loop .i in
+    let w = d .before .before .before .before .before .before .pre .0 in
+    let l = d .before .loop-test .taken in
+    omega (arith, d .bond-number .ensures, w .order i l, w .second-fits i l)
+
+element-copy-out-sums : tie.Need-element-copy-out-sums Inv-loop μ-loop
+element-copy-out-sums c =
+    let d = c .before .before .before .before in
+    let i = d .before .before .loop .i in
+    let w = d .before .before .before .before .before .before .pre .0 in
+    let l = d .before .loop-test .taken in
+    omega (arith, d .bond-number .ensures, w .order i l, w .second-fits i l)
+
+add-sums : tie.Need-add-sums Inv-loop μ-loop
+add-sums c =
+    let o = c .before .before in
+    let d = o .before .before .before in
+    let a = d .before .before .loop in
+    let bs = now (d .before .before .before .before .before .before .args .bonds) in
+    omega (arith, sums-bound bs (a .i) maxAtoms (a .inv .3) (d .bond-number .result), o .order .ensures, order-small (o .before .bond-number3 .result))
+
+element-write-sums : tie.Need-element-write-sums Inv-loop μ-loop
+element-write-sums c =
+    let d = c .before .before .before .before .before in
+    let i = d .before .before .loop .i in
+    let w = d .before .before .before .before .before .before .pre .0 in
+    let l = d .before .loop-test .taken in
+    omega (arith, d .bond-number .ensures, w .order i l, w .second-fits i l)
+
+mul-sums-2 : tie.Need-mul-sums-2 Inv-loop μ-loop
+mul-sums-2 c =
+    let f = c .before .before .before .before in
+    let d = f .before in
+    let i = d .before .before .loop .i in
+    let w = d .before .before .before .before .before .before .pre .0 in
+    omega (arith, f .bond-number2 .ensures, w .second-fits i (d .before .loop-test .taken))
+
+element-copy-out-sums-2 : tie.Need-element-copy-out-sums-2 Inv-loop μ-loop
+element-copy-out-sums-2 c =
+    let f = c .before .before .before .before in
+    let d = f .before in
+    let i = d .before .before .loop .i in
+    let w = d .before .before .before .before .before .before .pre .0 in
+    omega (arith, f .bond-number2 .ensures, w .second-fits i (d .before .loop-test .taken))
+
+add-sums-2 : tie.Need-add-sums-2 Inv-loop μ-loop
+add-sums-2 c =
+    let o = c .before .before .before in
+    let f = o .before .before in
+    let d = f .before in
+    let a = d .before .before .loop in
+    let s = d .before .before .before .before .before .before in
+    let e = d .bond-number .result in
+    let g = f .bond-number2 .result in
+    let l : e < g = omega (arith, d .bond-number .ensures, f .bond-number2 .ensures, s .pre .0 .order (a .i) (d .before .loop-test .taken)) in
+    omega (arith, second-bound (a .sums) e g (o .order .result) (3 * a .i) l (sums-bound (now (s .args .bonds)) (a .i) maxAtoms (a .inv .3)), o .order .ensures, order-small (o .before .bond-number3 .result))
+
+element-write-sums-2 : tie.Need-element-write-sums-2 Inv-loop μ-loop
+element-write-sums-2 c =
+    let f = c .before .before .before .before .before in
+    let d = f .before in
+    let i = d .before .before .loop .i in
+    let w = d .before .before .before .before .before .before .pre .0 in
+    omega (arith, f .bond-number2 .ensures, w .second-fits i (d .before .loop-test .taken))
 
 add-i : tie.Need-add-i Inv-loop μ-loop
 add-i c = omega arith
@@ -65,9 +146,22 @@ loop-less c = omega arith
 
 loop-again : tie.Need-loop-again Inv-loop μ-loop
 loop-again c =
-    let v = c .before .before .before .before .before .loop .inv in
-    let l = c .before .before .before .before .loop-test .taken in
-    (filled-step (v .0) _ l (c .before .before .before .bond-number .ensures), filled-step (v .1) _ l (c .before .before .bond-number2 .ensures), filled-step (v .2) _ l (c .flag .ensures ∙ simp (c .before .bond-number3 .ensures)))
+    let o = c .before .before .before in
+    let k = o .before in
+    let f = k .before in
+    let e = f .before in
+    let t = e .before in
+    let v = t .before .loop .inv in
+    let l = t .loop-test .taken in
+    let w = t .before .before .before .before .before .pre .0 in
+    let bs = now (t .before .before .before .before .before .args .bonds) in
+    let i = t .before .loop .i in
+    let ne : e .bond-number .result ≡ f .bond-number2 .result → ⊥ = λ q. omega (arith, e .bond-number .ensures, f .bond-number2 .ensures, w .order i l) in (
+      filled-step (v .0) _ l (e .bond-number .ensures),
+      filled-step (v .1) _ l (f .bond-number2 .ensures),
+      filled-step (v .2) _ l (c .before .before .flag .ensures ∙ simp (k .bond-number3 .ensures)),
+      sums-step bs i _ (v .3) (two-ends bs i _ (e .bond-number .ensures) (f .bond-number2 .ensures) (k .bond-number3 .ensures) (o .order .ensures) ne refl refl),
+    )
 
 same-length : tie.Need-same-length Inv-loop μ-loop
 same-length c = c .before .loop .inv .0 .room
@@ -84,11 +178,14 @@ returns c =
     let v = c .before .loop .inv in
     let q = c .loop-test .left in
     let bs = now (s .args .bonds) in
-    record {
-      first-part = filled-part (end1 bs) (s .args .m) (now (s .args .ea)) (filled-end (v .0) (s .pre .firsts) q);
-      second-part = filled-part (end2 bs) (s .args .m) (now (s .args .eb)) (filled-end (v .1) (s .pre .seconds) q);
-      elided-part = filled-part (elidedFlag bs) (s .args .m) (now (s .args .el)) (filled-end (v .2) (s .pre .elided) q);
-    }
+    let d : c .before .loop .i ≡ s .args .m = omega arith in (
+      record {
+        first-part = filled-part (end1 bs) (s .args .m) (now (s .args .ea)) (filled-end (v .0) (s .pre .0 .firsts) q);
+        second-part = filled-part (end2 bs) (s .args .m) (now (s .args .eb)) (filled-end (v .1) (s .pre .0 .seconds) q);
+        elided-part = filled-part (elidedFlag bs) (s .args .m) (now (s .args .el)) (filled-end (v .2) (s .pre .0 .elided) q);
+      },
+      v .3 ∙ simp d,
+    )
 
 pub fill-bonds-spec : {M : Type 1} → statement M
 fill-bonds-spec =
@@ -99,15 +196,25 @@ fill-bonds-spec =
     loop-holds
     bond-number-requires
     bond-number-requires-2
+    bond-number-requires-3
+    order-requires
+    cast-x
     cast-ea
     mul-ea
     slice-write-ea
     cast-eb
     mul-eb
     slice-write-eb
-    bond-number-requires-3
     flag-requires
     slice-write-el
+    mul-sums
+    element-copy-out-sums
+    add-sums
+    element-write-sums
+    mul-sums-2
+    element-copy-out-sums-2
+    add-sums-2
+    element-write-sums-2
     add-i
     loop-less
     loop-again

@@ -1,10 +1,16 @@
-use mathlib.Core.Path.{_∙_}
+use mathlib.Core.Path.{_≡_, _∙_}
+use borrow.Author.Tests.{ne-eqb}
+use Rattle.valence.specs.Valence.{delocalized}
 use borrow.Author.Needs.{needs}
 use Rattle.graph.proofs.is_delocalized.Statement.{statement}
 use Rattle.graph.proofs.is_delocalized.Tie as tie
 
 atom-number-requires : tie.Need-atom-number-requires
 atom-number-requires c κs = search needs
+
+returns : tie.Need-returns
+unfolding delocalized
+returns c = simp (ne-eqb _ 1 (λ (e : _ ≡ 1). c .if1 .taken (c .before .atom-number .ensures ∙ e)))
 
 atom-number-requires-2 : tie.Need-atom-number-requires-2
 atom-number-requires-2 c κs = search needs
@@ -15,15 +21,16 @@ atom-number-requires-3 c κs = search needs
 delocalized-requires : tie.Need-delocalized-requires
 delocalized-requires c κs = search needs
 
-returns : tie.Need-returns
-returns c = c .delocalized .ensures ∙ simp (c .before .atom-number3 .ensures, c .before .before .atom-number2 .ensures, c .before .before .before .atom-number .ensures)
+returns-2 : tie.Need-returns-2
+returns-2 c = c .delocalized .ensures ∙ simp (c .before .atom-number3 .ensures, c .before .before .atom-number2 .ensures, c .before .before .before .before .atom-number .ensures)
 
 pub is-delocalized-spec : {M : Type 1} → statement M
 is-delocalized-spec =
     tie.close
     (tie.spec
     atom-number-requires
+    returns
     atom-number-requires-2
     atom-number-requires-3
     delocalized-requires
-    returns)
+    returns-2)
