@@ -8,7 +8,6 @@ ghost use Rattle.matching.specs.Model.{reply};
 ghost use Rattle.graph.specs.Graph.{matchingOf, matchable};
 ghost use Rattle.kekule.specs.Kekule.{foundOf, foundCode, isGiven, callOf, out, outOf, roomy, callOn, isMatchingOf, askedOf, tables, kekulized, kekulizedOf, Counted};
 ghost use Rattle.kekule.specs.Calls.{state, ranOf, replayed, replayedOf};
-use ids::BondId;
 use matching::Answer;
 use matching::Call;
 use refusal::Refusal;
@@ -166,14 +165,7 @@ pub fn is_matching_valid(atoms: &[i32], bonds: &[i32], n: usize, m: usize, row: 
     let mut eb = [0u16; MAX_BONDS];
     let mut el = [0u8; MAX_BONDS];
     graph::build(atoms, bonds, n, m, &mut flags, &mut ea, &mut eb, &mut el);
-    search::is_matching(
-        &ea[..m],
-        &eb[..m],
-        &el[..m],
-        &mut flags[..n],
-        row,
-        BondId(0),
-    )
+    search::fits(&ea[..m], &eb[..m], &el[..m], &mut flags[..n], row)
 }
 
 // Whether the row, up to the last bond, is a matching of the molecule; nothing changes. 1: a table or the row is too short,

@@ -1,5 +1,6 @@
 pub mod Flags
 pub mod Choice
 pub mod Check
+pub mod Fitting
 pub mod After
 pub mod Reply

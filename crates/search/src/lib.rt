@@ -126,6 +126,28 @@ pub fn is_matching(
     rest
 }
 
+// internal: whether the row is a matching; the flags are not put back.
+pub fn fits(ea: &[u16], eb: &[u16], el: &[u8], need: &mut [u8], row: &[u8]) -> bool
+    requires { ⌜ Shape (now ea) (now eb) (now el) (now need) (now row) 0 ⌝ }
+    ensures { λ r. ⌜ r ≡ matchingFrom (now (ea .entry)) (now (eb .entry)) (now (el .entry)) (now (need .entry)) (part (length (now (ea .entry))) (now (row .entry)) 0) 0 ⌝ }
+{
+    let mut i = 0;
+    while i < ea.len() {
+        let x = row[i];
+        if x != 0 {
+            if x != 1 {
+                return false;
+            }
+            if !choosable(ea, eb, el, need, BondId(i)) {
+                return false;
+            }
+            mark(ea, eb, need, BondId(i), 0);
+        }
+        i += 1;
+    }
+    all_paired(need)
+}
+
 // internal: the first matching of the bonds from k on that comes after the row, written over it; zeros where there is none.
 pub fn later(ea: &[u16], eb: &[u16], el: &[u8], need: &mut [u8], row: &mut [u8], k: BondId) -> bool
     requires { ⌜ Shape (now ea) (now eb) (now el) (now need) (now row) (k .0) ⌝ }

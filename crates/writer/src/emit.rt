@@ -69,6 +69,9 @@ fn emit_atom(
     let more = last[u] as usize != x;
     let at = lead(out, at, x, u, more, kind[x] as usize);
     let at = spell::field::atom(atoms, AtomId(a), sums[a] as usize, out, at);
+    if !rings::is_end(los, his, k, x) {
+        return Spot { few: true, at };
+    }
     let at = rings::close_from(los, his, k, x, 0, slots, out, at);
     rings::open_from(los, his, kinds, k, x, 0, slots, out, at)
 }

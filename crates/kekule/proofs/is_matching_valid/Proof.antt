@@ -24,34 +24,34 @@ build-requires c κs = search needs
 array-share-prefix-ea : tie.Need-array-share-prefix-ea
 array-share-prefix-ea c = search needs
 
-slice-aggregate-is-matching : tie.Need-slice-aggregate-is-matching
-slice-aggregate-is-matching c = sym (length-first (c .before .before .before .before .before .build .ensures))
+slice-aggregate-fits : tie.Need-slice-aggregate-fits
+slice-aggregate-fits c = sym (length-first (c .before .before .before .before .before .build .ensures))
 
 array-share-prefix-eb : tie.Need-array-share-prefix-eb
 array-share-prefix-eb c = search needs
 
-slice-aggregate-is-matching-2 : tie.Need-slice-aggregate-is-matching-2
-slice-aggregate-is-matching-2 c = sym (length-second (c .before .before .before .before .before .before .build .ensures))
+slice-aggregate-fits-2 : tie.Need-slice-aggregate-fits-2
+slice-aggregate-fits-2 c = sym (length-second (c .before .before .before .before .before .before .build .ensures))
 
 array-share-prefix-el : tie.Need-array-share-prefix-el
 array-share-prefix-el c = search needs
 
-slice-aggregate-is-matching-3 : tie.Need-slice-aggregate-is-matching-3
-slice-aggregate-is-matching-3 c = sym (length-elided (c .before .before .before .before .before .before .before .build .ensures))
+slice-aggregate-fits-3 : tie.Need-slice-aggregate-fits-3
+slice-aggregate-fits-3 c = sym (length-elided (c .before .before .before .before .before .before .before .build .ensures))
 
 array-borrow-prefix-flags : tie.Need-array-borrow-prefix-flags
 array-borrow-prefix-flags c = search needs
 
-slice-aggregate-is-matching-4 : tie.Need-slice-aggregate-is-matching-4
-slice-aggregate-is-matching-4 c = sym (length-flags (c .before .before .before .before .before .before .before .before .build .ensures))
+slice-aggregate-fits-4 : tie.Need-slice-aggregate-fits-4
+slice-aggregate-fits-4 c = sym (length-flags (c .before .before .before .before .before .before .before .before .build .ensures))
 
-is-matching-requires : tie.Need-is-matching-requires
-is-matching-requires c κs =
+fits-requires : tie.Need-fits-requires
+fits-requires c κs =
     let s = c .before .before .before .before .before .before .before .before .before .before .before .before .before .before in
     built-shape (c .before .before .before .before .before .before .before .before .build .ensures) (s .pre .0) (now (s .args .row)) (s .pre .1)
 
 returns : tie.Need-returns
-returns c = c .before .is-matching .ensures .0 ∙ matching-built (c .before .before .before .before .before .before .before .before .before .before .build .ensures) (now (c .before .before .before .before .before .before .before .before .before .before .before .before .before .before .before .before .args .row))
+returns c = c .before .fits2 .ensures ∙ matching-built (c .before .before .before .before .before .before .before .before .before .before .build .ensures) (now (c .before .before .before .before .before .before .before .before .before .before .before .before .before .before .before .before .args .row))
 
 pub is-matching-valid-spec : {M : Type 1} → statement M
 is-matching-valid-spec =
@@ -63,12 +63,12 @@ is-matching-valid-spec =
     slice-aggregate-build-4
     build-requires
     array-share-prefix-ea
-    slice-aggregate-is-matching
+    slice-aggregate-fits
     array-share-prefix-eb
-    slice-aggregate-is-matching-2
+    slice-aggregate-fits-2
     array-share-prefix-el
-    slice-aggregate-is-matching-3
+    slice-aggregate-fits-3
     array-borrow-prefix-flags
-    slice-aggregate-is-matching-4
-    is-matching-requires
+    slice-aggregate-fits-4
+    fits-requires
     returns)
