@@ -12,7 +12,7 @@ use Rattle.grammar.specs.declared.Last.the-variants.{Plain as plain}
 use Rattle.grammar.specs.declared.Mode.the-variants.{Seq as seq, Dot as dot}
 use Rattle.grammar.specs.Fold.{Answer, bad}
 use Rattle.table.specs.Limits.{maxAtoms}
-use Rattle.state.specs.declared.State.{State}
+use Rattle.state.specs.State.{Steering}
 use Rattle.state.specs.declared.Fields.{Fields}
 use Rattle.state.specs.Limits.{bridges}
 use Rattle.reading.specs.Memory.{Memory, nothing, extended}
@@ -37,7 +37,7 @@ from (Piece.End q) = q
 from (Piece.Wrong q) = q
 
 -- what is left to read before the first piece of a sequence, which is an atom
-abbrev pub first : List ℕ → Piece → State → List ℤ → List ℤ → ℕ → Fields → Answer Memory
+abbrev pub first : List ℕ → Piece → Steering → List ℤ → List ℤ → ℕ → Fields → Answer Memory
 first s (Piece.Atom j q) t a b i f = rest s q dot (memory t a b (pendingOf j) i f)
 first s (Piece.Bridge r k q e) t a b i f = bad 0 0
 first s (Piece.Branch q) t a b i f = bad 0 0
@@ -45,7 +45,7 @@ first s (Piece.End q) t a b i f = bad 0 0
 first s (Piece.Wrong q) t a b i f = bad 0 0
 
 -- a reading stands before a piece, in a state and with tables
-abbrev pub Stands : List ℕ → (ℕ → Fields → Answer Memory) → Piece → State → List ℤ → List ℤ → Type 0
+abbrev pub Stands : List ℕ → (ℕ → Fields → Answer Memory) → Piece → Steering → List ℤ → List ℤ → Type 0
 Stands s x (Piece.Atom j q) u a b = (i : ℕ) (f : Fields) → Reaches s (x i f) q dot (pendingOf j) u a b
 Stands s x (Piece.Bridge r k q e) u a b = (i : ℕ) (f : Fields) → (n : ℕ) × (g : Fields) × (x i f ≡ afterBridge s e (bridgeAct r q (memory u a b (kindPending k) n g)))
 Stands s x (Piece.Branch q) u a b = (i : ℕ) (f : Fields) → Reaches s (x i f) q (seq plain) nothing u a b
@@ -65,7 +65,7 @@ Placed s at (Piece.Branch q) = Lies s (at + 1) q (q + 1) × (getD s q 0 ≡ 40)
 Placed s at (Piece.End q) = Lies s (at + 1) q q × ((getD s q 0 ≡ 41 → ⊥) → q ≡ length s)
 Placed s at (Piece.Wrong q) = Unit {0}
 
-pub record Turn (s : List ℕ) (at : ℕ) (x : ℕ → Fields → Answer Memory) (d la lb : ℕ) (r : Piece) (u : State) (a b : List ℤ) : Type 0 where
+pub record Turn (s : List ℕ) (at : ℕ) (x : ℕ → Fields → Answer Memory) (d la lb : ℕ) (r : Piece) (u : Steering) (a b : List ℤ) : Type 0 where
   pub stands : Stands s x r u a b
   pub placed : Placed s at r
   pub fair : Fair u
@@ -83,7 +83,7 @@ from-next s (Piece.Wrong q) v = v .later
 
 module _ (s : List ℕ) (at : ℕ) (x : ℕ → Fields → Answer Memory) where
   -- the next piece was seen
-  stands-next : {p : ℕ} {u : State} {a b : List ℤ} (r : Piece) → ((i : ℕ) (f : Fields) → Reaches s (x i f) p (seq plain) nothing u a b) → Seen s p (seq plain) nothing r → Stands s x r u a b
+  stands-next : {p : ℕ} {u : Steering} {a b : List ℤ} (r : Piece) → ((i : ℕ) (f : Fields) → Reaches s (x i f) p (seq plain) nothing u a b) → Seen s p (seq plain) nothing r → Stands s x r u a b
   stands-next {u = u} {a = a} {b = b} (Piece.Atom j q) h v = λ i f. let w = h i f in record { tens = w .tens; draft = w .draft; is = w .is ∙ v .is u a b (w .tens) (w .draft) }
   stands-next {u = u} {a = a} {b = b} (Piece.Bridge r k q e) h v = λ i f. let w = h i f in let z = v .is u a b (w .tens) (w .draft) in (z .0, w .draft, w .is ∙ z .1)
   stands-next (Piece.Branch q) h v = λ i f. rw (v .here) (h i f)
@@ -97,7 +97,7 @@ module _ (s : List ℕ) (at : ℕ) (x : ℕ → Fields → Answer Memory) where
   placed-next (Piece.End q) l v = rw (v .here) (record { later = omega arith; within = v .within; long = omega arith }, v .stops)
   placed-next (Piece.Wrong q) l v = tt
 
-  module _ {d la lb : ℕ} {r : Piece} {u : State} {a b : List ℤ} (v : Turn s at x d la lb r u a b) where
+  module _ {d la lb : ℕ} {r : Piece} {u : Steering} {a b : List ℤ} (v : Turn s at x d la lb r u a b) where
     -- ---- after an atom
     module _ {j : Joint} {q : ℕ} (e : r ≡ Piece.Atom j q) where
       atom-stands : Stands s x (Piece.Atom j q) u a b
@@ -191,7 +191,7 @@ module _ (s : List ℕ) (at : ℕ) (x : ℕ → Fields → Answer Memory) where
         branch-no : {c : Refusal} {m : ℕ} → o .why ≡ Why.Refused c m → (i : ℕ) (f : Fields) → x i f ≡ bad (codeOf c) m
         branch-no w i f = let y = branch-stands i f in y .is ∙ subst (λ (z : Why). Goes s q (seq plain) nothing u a b z (o .at) (o .st) a′ b′) w (g .goes) (y .tens) (y .draft)
 
-module _ (s : List ℕ) (at : ℕ) (j : Joint) (t : State) (a₀ b₀ : List ℤ) where
+module _ (s : List ℕ) (at : ℕ) (j : Joint) (t : Steering) (a₀ b₀ : List ℤ) where
   abbrev whole : ℕ → Fields → Answer Memory
   whole = first s (Piece.Atom j at) t a₀ b₀
 
@@ -205,7 +205,7 @@ module _ (s : List ℕ) (at : ℕ) (j : Joint) (t : State) (a₀ b₀ : List ℤ
     long-b = refl;
   }
 
-  refused-seq : {a b : List ℤ} {u : State} {o : Out} {c : Refusal} {p : ℕ} → o ≡ refusedAt c p u → ((i : ℕ) (f : Fields) → whole i f ≡ bad (codeOf c) p) → Sequenced s at j t a₀ b₀ a b o
+  refused-seq : {a b : List ℤ} {u : Steering} {o : Out} {c : Refusal} {p : ℕ} → o ≡ refusedAt c p u → ((i : ℕ) (f : Fields) → whole i f ≡ bad (codeOf c) p) → Sequenced s at j t a₀ b₀ a b o
   refused-seq e h = rw e (record { goes = h; past = tt; stops = tt })
 
   handed-seq : {a b : List ℤ} {o : Out} {c : Refusal} {p : ℕ} → o .why ≡ Why.Refused c p → ((i : ℕ) (f : Fields) → whole i f ≡ bad (codeOf c) p) → Sequenced s at j t a₀ b₀ a b o
@@ -215,7 +215,7 @@ module _ (s : List ℕ) (at : ℕ) (j : Joint) (t : State) (a₀ b₀ : List ℤ
     stops = subst⁻¹ (λ (z : Why). Stops s z (o .at)) e tt;
   }
 
-  module _ {r : Piece} {u : State} {a b : List ℤ} (v : Turn s at (first s (Piece.Atom j at) t a₀ b₀) (t .depth) (length a₀) (length b₀) r u a b) where
+  module _ {r : Piece} {u : Steering} {a b : List ℤ} (v : Turn s at (first s (Piece.Atom j at) t a₀ b₀) (t .depth) (length a₀) (length b₀) r u a b) where
     pub end-atom : {k : Joint} {q p : ℕ} {c : Refusal} {o : Out} → r ≡ Piece.Atom k q → (a′ b′ : List ℤ) (y : Added) → Adds s q k (u .hub) (u .atoms) (u .bonds) a b a′ b′ y → y ≡ Added.Refused c p
         → o ≡ refusedAt c p u → Sequenced s at j t a₀ b₀ a′ b′ o
     end-atom e a′ b′ y g ey eo = refused-seq eo (atom-no s at whole v e a′ b′ y g ey)
