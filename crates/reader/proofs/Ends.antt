@@ -28,7 +28,8 @@ use Rattle.table.specs.Valid.{Valid, enough}
 use Rattle.graph.specs.Graph.{bondSum, matchable}
 use Rattle.state.specs.declared.Fields.{Fields}
 use Rattle.state.specs.Limits.{maxText, maxDepth, bridges}
-use Rattle.state.specs.State.{Steering, started}
+use Rattle.state.specs.State.{Steering, steering, started}
+use Rattle.state.specs.declared.State.{State}
 use Rattle.reading.specs.Memory.{Memory, nothing, blank}
 use Rattle.reading.specs.Act.{act, modeAct}
 use Rattle.reading.specs.Read.{Told, zeros, refused, short, beginning, hydrogenate, hydrogenated, leftmost, ended, finished, readFrom, readOf}
@@ -42,7 +43,7 @@ use Rattle.reader.specs.declared.piece.Joint.{Joint}
 use Rattle.reader.specs.declared.bridge.Why.{Why}
 use Rattle.reader.specs.declared.ending.Answer as reply
 use Rattle.reader.specs.Went.{Fair, Went, refusedAt, PastFine, Past, Goes, Stops, Sequenced}
-use Rattle.reader.specs.Ending.{told, hydrogensBy, endedOf, answerOf, TextGoes, TextRead}
+use Rattle.reader.specs.Ending.{told, hydrogensBy, endedOf, answerOf, Unread, TextGoes, TextRead}
 use Rattle.reader.proofs.Branches.{close-down}
 
 -- ---- the whole text
@@ -60,6 +61,11 @@ fair-started e = rw e (record { atoms = omega arith; bonds = omega arith; depth 
     zeros-le zero n i = omega arith
     zeros-le (suc k) n zero = omega arith
     zeros-le (suc k) n (suc i) = zeros-le k n i
+
+-- a new state with arrays of zeros
+pub unread-started : {st : State} {h u k p x : List ℕ} → Unread h u k p x
+    → steering st (replicate maxDepth 0) (replicate bridges 0) (replicate bridges 0) (replicate bridges 0) (replicate maxAtoms 0) ≡ started → steering st h u k p x ≡ started
+unread-started n e = rw (n .hubs, n .openers, n .symbols, n .offsets, n .outsides) e
 
 pub text-empty : (s : List ℕ) (a b : List ℤ) {u : Steering} → length s ≡ 0 → u ≡ started → TextRead s a b a b (record { why = Why.Fine; at = 0; st = u })
 unfolding answer read accepting

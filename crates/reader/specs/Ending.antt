@@ -2,17 +2,18 @@
 use Prim.Native.Nat.{ℕ}
 use mathlib.Core.Path.{_≡_}
 use mathlib.Core.List.{List}
-use lib.ListN.{set}
+use lib.ListN.{set, replicate}
 use lib.IntN.{ℤ, pos}
 use lib.Dec.{eqb}
 use Rattle.loops.specs.Loop.{pick}
 use Rattle.refusal.specs.Code.{codeOf}
 use Rattle.valence.specs.Valence.{implied}
 use Rattle.grammar.specs.Fold.{Answer, good, bad, answer}
-use Rattle.table.specs.Limits.{HYDROGENS}
+use Rattle.table.specs.Limits.{maxAtoms, HYDROGENS}
 use Rattle.table.specs.Cells.{atomPlace, element, selected}
 use Rattle.state.specs.State.{Steering}
 use Rattle.state.specs.declared.Fields.{Fields}
+use Rattle.state.specs.Limits.{maxDepth, bridges}
 use Rattle.reading.specs.Memory.{Memory, nothing, blank}
 use Rattle.reading.specs.Act.{act}
 use Rattle.reading.specs.Read.{Told, beginning, ended}
@@ -37,6 +38,14 @@ endedOf t a b = ended (memory t a b nothing 0 blank)
 -- reading the whole text into tables that stand so, as the byte machine answers
 abbrev pub answerOf : List ℕ → List ℤ → List ℤ → Answer Memory
 answerOf s a b = answer act (beginning a b) s
+
+-- the arrays that are lent with a state in which nothing is read yet
+pub record Unread (h u k p x : List ℕ) : Type 0 where
+  pub hubs : h ≡ replicate maxDepth 0
+  pub openers : u ≡ replicate bridges 0
+  pub symbols : k ≡ replicate bridges 0
+  pub offsets : p ≡ replicate bridges 0
+  pub outsides : x ≡ replicate maxAtoms 0
 
 -- the text was read whole: the machine is content with this state and these tables, or refuses as told
 abbrev pub TextGoes : List ℕ → List ℤ → List ℤ → List ℤ → List ℤ → Why → Steering → Type 0
