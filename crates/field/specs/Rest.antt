@@ -6,7 +6,7 @@ use lib.IntN.{ℤ}
 use Rattle.grammar.specs.declared.Mode.{Mode}
 use Rattle.grammar.specs.declared.State.the-variants.{At as at}
 use Rattle.grammar.specs.Fold.{Answer, going, read, finish}
-use Rattle.state.specs.declared.State.{State}
+use Rattle.state.specs.State.{Steering}
 use Rattle.state.specs.declared.Fields.{Fields}
 use Rattle.reading.specs.Memory.{Memory, Pending}
 use Rattle.reading.specs.Act.{act}
@@ -16,5 +16,5 @@ unfoldable pub rest : List ℕ → ℕ → Mode → Memory → Answer Memory
 rest s p m μ = finish (length s) (read act p (going (at m (μ .st .depth)) μ) (drop p s))
 
 -- a memory, by its parts
-abbrev pub memory : State → List ℤ → List ℤ → Pending → ℕ → Fields → Memory
+abbrev pub memory : Steering → List ℤ → List ℤ → Pending → ℕ → Fields → Memory
 memory t a b k n f = record { st = t; atoms = a; bonds = b; pending = k; tens = n; draft = f }

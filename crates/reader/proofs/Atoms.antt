@@ -24,7 +24,7 @@ use Rattle.table.specs.Limits.{maxAtoms, maxBonds}
 use Rattle.table.specs.Rows.{withAtom, putAtom, withBond, putBond}
 use Rattle.table.specs.declared.Atom.{Atom}
 use Rattle.table.specs.declared.Bond.{Bond}
-use Rattle.state.specs.declared.State.{State}
+use Rattle.state.specs.State.{Steering}
 use Rattle.state.specs.declared.Fields.{Fields}
 use Rattle.reading.specs.Memory.{Memory, nothing, kindOf, bondRow, extended, begun, described, drafted}
 use Rattle.reading.specs.Act.{Acts, modeAct, atomAct, firstByte}
@@ -43,12 +43,12 @@ pub bond-row : (a b k : ℕ) → a < 65536 → b < 65536 → k < 256 → _≡_ {
 bond-row a b k ha hb hk = simp (toZ-pos w32 {n = a} (omega arith), toZ-pos w32 {n = b} (omega arith), toZ-pos w32 {n = k} (omega arith))
 
 -- the memory after an atom that is not bonded, and after one that is
-unbonded-memory : (j : Joint) (t : State) (a b : List ℤ) {a′ : List ℤ} (y : Atom) (o : ℕ) {m : ℕ} (i : ℕ) (f g : Fields) → bondedBy (t .atoms) j ≡ false → a′ ≡ withAtom a (t .atoms) y → m ≡ t .bonds
+unbonded-memory : (j : Joint) (t : Steering) (a b : List ℤ) {a′ : List ℤ} (y : Atom) (o : ℕ) {m : ℕ} (i : ℕ) (f g : Fields) → bondedBy (t .atoms) j ≡ false → a′ ≡ withAtom a (t .atoms) y → m ≡ t .bonds
     → drafted g (described y (begun o (memory t a b (pendingOf j) i f))) ≡ memory (extended t o m) a′ b nothing i g
 unfolding begun
 unbonded-memory j t a b y o i f g hb ea em = rw (hb, ea, em)
 
-bonded-memory : (j : Joint) (t : State) (a b : List ℤ) {a′ b′ : List ℤ} (y : Atom) (o : ℕ) {m : ℕ} (i : ℕ) (f g : Fields) → bondedBy (t .atoms) j ≡ true → a′ ≡ withAtom a (t .atoms) y → m ≡ t .bonds
+bonded-memory : (j : Joint) (t : Steering) (a b : List ℤ) {a′ b′ : List ℤ} (y : Atom) (o : ℕ) {m : ℕ} (i : ℕ) (f g : Fields) → bondedBy (t .atoms) j ≡ true → a′ ≡ withAtom a (t .atoms) y → m ≡ t .bonds
     → b′ ≡ withBond b (t .bonds) (bondRow (t .hub .0) (t .atoms) (kindOf (pendingOf j)))
     → drafted g (described y (begun o (memory t a b (pendingOf j) i f))) ≡ memory (extended t o (m + 1)) a′ b′ nothing i g
 unfolding begun
@@ -56,14 +56,14 @@ bonded-memory j t a b y o i f g hb ea em eb = rw (hb, ea, em, eb)
 
 module _ (s : List ℕ) (at : ℕ) (j : Joint) (hub : AtomId) (n m : ℕ) (a b : List ℤ) where
   -- the memory of a reading in a state
-  abbrev held : State → ℕ → Fields → Memory
+  abbrev held : Steering → ℕ → Fields → Memory
   held t i f = memory t a b (pendingOf j) i f
 
   abbrev byCrowd : ℕ → Memory → Crowd → Acts
   byCrowd x μ Crowd.Fine = keeps (firstByte (letterOf x) μ)
   byCrowd x μ (Crowd.Refused r) = refuses (codeOf r) at
 
-  act-by : (x : ℕ) (t : State) → Counts t hub n m → (i : ℕ) (f : Fields) → atomAct x at (held t i f) ≡ byCrowd x (held t i f) (crowdOf n m (bondedBy n j))
+  act-by : (x : ℕ) (t : Steering) → Counts t hub n m → (i : ℕ) (f : Fields) → atomAct x at (held t i f) ≡ byCrowd x (held t i f) (crowdOf n m (bondedBy n j))
   unfolding atomAct
   act-by x t q i f = split (leb maxAtoms (t .atoms)) (bondedBy (t .atoms) j && leb maxBonds (t .bonds)) ∙ ap (byCrowd x (held t i f)) same
     where
@@ -79,7 +79,7 @@ module _ (s : List ℕ) (at : ℕ) (j : Joint) (hub : AtomId) (n m : ℕ) (a b :
     crowd-is : crowdOf n m (bondedBy n j) ≡ c
     crowd-is = ap (crowdOf n m) (sym ex) ∙ sym ec
 
-    admitted : c ≡ Crowd.Fine → (t : State) → Counts t hub n m → (i : ℕ) (f : Fields) → Admitted s at (held t i f)
+    admitted : c ≡ Crowd.Fine → (t : Steering) → Counts t hub n m → (i : ℕ) (f : Fields) → Admitted s at (held t i f)
     admitted e t q i f = act-by (getD s at 0) t q i f ∙ ap (byCrowd (getD s at 0) (held t i f)) (crowd-is ∙ e)
 
     pub adds-crowded : {r : Refusal} → Begins s at → c ≡ Crowd.Refused r → AddsNot s at j hub n m a b r at

@@ -19,10 +19,9 @@ use Rattle.grammar.specs.declared.Out.the-variants.{Up as up, Down as down}
 use Rattle.grammar.specs.Machine.{next, resting, atomOr, bridgeOr}
 use Rattle.grammar.specs.Fold.{keeps, good, bad}
 use Rattle.table.specs.Limits.{maxAtoms}
-use Rattle.state.specs.declared.State.{State}
 use Rattle.state.specs.declared.Fields.{Fields}
 use Rattle.state.specs.Limits.{maxDepth}
-use Rattle.state.specs.State.{opened, closed}
+use Rattle.state.specs.State.{Steering, opened, closed}
 use Rattle.reading.specs.Memory.{Memory, nothing, moved}
 use Rattle.reading.specs.Act.{modeAct, branchAct}
 use Rattle.field.specs.Rest.{rest, memory}
@@ -31,10 +30,9 @@ use Rattle.field.proofs.Rest.{rest-end, rest-up, rest-up-refused, rest-down}
 use Rattle.field.proofs.Bytes.{there, byte-in}
 use Rattle.reader.specs.declared.piece.Start.{Start}
 use Rattle.reader.specs.declared.bridge.Why.{Why}
-use Rattle.reader.specs.declared.bridge.Out.{Out}
 use Rattle.reader.specs.Piece.{pendingOf, Joined}
 use Rattle.reader.specs.Added.{Reaches}
-use Rattle.reader.specs.Went.{Fair, refusedAt, PastFine, Past, Goes, Stops, Sequenced, Branched}
+use Rattle.reader.specs.Went.{Fair, Went, refusedAt, PastFine, Past, Goes, Stops, Sequenced, Branched}
 use Rattle.reader.proofs.Bridges.{set-le}
 
 open-up : (b : ℕ) → b ≡ 40 → next (seq plain) b ≡ up
@@ -53,11 +51,11 @@ close-act : (b p : ℕ) (μ : Memory) → b ≡ 41 → modeAct (seq plain) b p �
 unfolding modeAct letters among nonzero bondSymbols letterOf selectedOf
 close-act b p μ e = rw e
 
-pub fair-opened : {t u : State} → u ≡ opened t → Fair t → t .depth < maxDepth → Fair u
+pub fair-opened : {t u : Steering} → u ≡ opened t → Fair t → t .depth < maxDepth → Fair u
 unfolding opened
 fair-opened {t} e g h = rw e (record { atoms = g .atoms; bonds = g .bonds; depth = omega arith; hub = g .hub; stack = set-le (t .stack) (t .depth) (t .hub .0) maxAtoms (g .hub) (g .stack); opener = g .opener })
 
-fair-closed : {t u : State} → u ≡ closed t → Fair t → Fair u
+fair-closed : {t u : Steering} → u ≡ closed t → Fair t → Fair u
 unfolding closed
 fair-closed {t} e g = rw e (record { atoms = g .atoms; bonds = g .bonds; depth = omega (arith, g .depth); hub = g .stack (t .depth - 1); stack = set-le (t .stack) (t .depth - 1) 0 maxAtoms (omega arith) (g .stack); opener = g .opener })
 
@@ -67,23 +65,23 @@ unfolding resting
 ends-inside s p d μ z e =
     rest-end s p (seq plain) μ (omega arith) ∙ ap (λ (k : ℕ). pick (resting (seq plain) k) (good μ) (bad 3 (length s))) e ∙ ap (bad 3) (sym z)
 
-module _ (s : List ℕ) (p : ℕ) (t : State) (a b : List ℤ) (l : p < length s) (e : getD s p 0 ≡ 40) where
-  pub branch-deep : {o : Out} → maxDepth ≤ t .depth → o ≡ refusedAt DeepBranch p t → Branched s p t a b a b o
+module _ (s : List ℕ) (p : ℕ) (t : Steering) (a b : List ℤ) (l : p < length s) (e : getD s p 0 ≡ 40) where
+  pub branch-deep : {o : Went} → maxDepth ≤ t .depth → o ≡ refusedAt DeepBranch p t → Branched s p t a b a b o
   unfolding branchAct
   branch-deep h eo = rw eo (record {
     goes = λ i f. rest-up-refused s p (seq plain) (memory t a b nothing i f) (there s p) l (open-up (getD s p 0) e) (open-act (getD s p 0) p (memory t a b nothing i f) e ∙ rw (le-leb maxDepth (t .depth) h));
     past = tt;
   })
 
-  module _ (h : t .depth < maxDepth) {u : State} (eu : u ≡ opened t) {r : Start} (j : Joined s (p + 1) r) where
+  module _ (h : t .depth < maxDepth) {u : Steering} (eu : u ≡ opened t) {r : Start} (j : Joined s (p + 1) r) where
     goes-in : (i : ℕ) (f : Fields) → rest s p (seq plain) (memory t a b nothing i f) ≡ rest s (r .at) dot (memory u a b (pendingOf (r .joint)) i f)
     unfolding branchAct opened
     goes-in i f =
         rest-up s p (seq plain) (memory t a b nothing i f) (there s p) l (open-up (getD s p 0) e) {ν = memory (opened t) a b nothing i f}
         (open-act (getD s p 0) p (memory t a b nothing i f) e ∙ rw (lt-leb maxDepth (t .depth) h)) (add-one (t .depth))
-        ∙ j .is (opened t) a b i f ∙ ap (λ (v : State). rest s (r .at) dot (memory v a b (pendingOf (r .joint)) i f)) (sym eu)
+        ∙ j .is (opened t) a b i f ∙ ap (λ (v : Steering). rest s (r .at) dot (memory v a b (pendingOf (r .joint)) i f)) (sym eu)
 
-    module _ {a′ b′ : List ℤ} {o : Out} (g : Sequenced s (r .at) (r .joint) u a b a′ b′ o) where
+    module _ {a′ b′ : List ℤ} {o : Went} (g : Sequenced s (r .at) (r .joint) u a b a′ b′ o) where
       pub branch-refused : {c : Refusal} {q : ℕ} → o .why ≡ Why.Refused c q → Branched s p t a b a′ b′ o
       branch-refused w = record {
         goes = subst⁻¹ (λ (z : Why). Goes s p (seq plain) nothing t a b z (o .at) (o .st) a′ b′) w
@@ -97,13 +95,13 @@ module _ (s : List ℕ) (p : ℕ) (t : State) (a b : List ℤ) (l : p < length s
 
         pub inner-deep : o .st .depth ≡ t .depth + 1
         unfolding opened
-        inner-deep = inner-past .deep ∙ ap (λ (v : State). v .depth) eu
+        inner-deep = inner-past .deep ∙ ap (λ (v : Steering). v .depth) eu
 
         inner : (i : ℕ) (f : Fields) → Reaches s (rest s p (seq plain) (memory t a b nothing i f)) (o .at) (seq plain) nothing (o .st) a′ b′
         inner i f = let y = subst (λ (z : Why). Goes s (r .at) dot (pendingOf (r .joint)) u a b z (o .at) (o .st) a′ b′) w (g .goes) i f in
             record { tens = y .tens; draft = y .draft; is = goes-in i f ∙ y .is }
 
-        pub branch-closes : {c : ℕ} {v : State} → Peeked s (o .at) c → c ≡ 41 → v ≡ closed (o .st) → Branched s p t a b a′ b′ (record { why = Why.Fine; at = o .at + 1; st = v })
+        pub branch-closes : {c : ℕ} {v : Steering} → Peeked s (o .at) c → c ≡ 41 → v ≡ closed (o .st) → Branched s p t a b a′ b′ (record { why = Why.Fine; at = o .at + 1; st = v })
         unfolding closed
         branch-closes {c} {v} k q ev = record {
           goes = λ i f. let y = inner i f in record {
@@ -116,11 +114,11 @@ module _ (s : List ℕ) (p : ℕ) (t : State) (a b : List ℤ) (l : p < length s
             later = omega (arith, inner-past .later, j .later);
             within = omega (arith, byte-in k q);
             fair = fair-closed ev (inner-past .fair);
-            deep = ap (λ (x : State). x .depth) ev ∙ omega (arith, inner-deep);
+            deep = ap (λ (x : Steering). x .depth) ev ∙ omega (arith, inner-deep);
           };
         }
 
-        pub branch-unclosed : {c : ℕ} {x : Out} → Peeked s (o .at) c → (c ≡ 41 → ⊥) → x ≡ refusedAt Grammar (o .at) (o .st) → Branched s p t a b a′ b′ x
+        pub branch-unclosed : {c : ℕ} {x : Went} → Peeked s (o .at) c → (c ≡ 41 → ⊥) → x ≡ refusedAt Grammar (o .at) (o .st) → Branched s p t a b a′ b′ x
         branch-unclosed {c} k n ex =
             let z : o .at ≡ length s = subst (λ (y : Why). Stops s y (o .at)) w (g .stops) (λ y. n (k .is ∙ y)) in
             let d : o .st .depth ≡ suc (t .depth) = omega (arith, inner-deep) in

@@ -17,17 +17,15 @@ use Rattle.grammar.specs.Fold.{keeps, refuses}
 use Rattle.table.specs.Limits.{maxAtoms, maxBonds}
 use Rattle.table.specs.Rows.{withBond, putBond}
 use Rattle.table.specs.declared.Bond.{Bond}
-use Rattle.state.specs.declared.State.{State}
 use Rattle.state.specs.declared.Fields.{Fields}
-use Rattle.state.specs.State.{joined, bridged}
+use Rattle.state.specs.State.{Steering, joined, bridged}
 use Rattle.reading.specs.Memory.{Memory, nothing, symbol, kindOf, joins, joinedAlready, clash, meet, between, closeRefusal, moved}
 use Rattle.reading.specs.Act.{Acts, orRefuse, bridgeAct, bridgeBond}
 use Rattle.field.specs.Rest.{memory}
 use Rattle.reader.specs.declared.bridge.Why.{Why}
-use Rattle.reader.specs.declared.bridge.Out.{Out}
 use Rattle.reader.specs.declared.bridge.Closing.{Closing}
 use Rattle.reader.specs.Piece.{kindPending}
-use Rattle.reader.specs.Went.{Fair, refusedAt}
+use Rattle.reader.specs.Went.{Fair, Went, refusedAt}
 use Rattle.reader.specs.Bridge.{closingOf, Bridges}
 
 module _ (bonds : List ℤ) (a b : ℕ) {m i : ℕ} (l : Left (λ j. not (joins bonds a b j)) m i) where
@@ -88,9 +86,9 @@ set-le (x ∷ l) zero v n h k (suc i) = k (suc i)
 set-le (x ∷ l) (suc r) v n h k zero = k zero
 set-le (x ∷ l) (suc r) v n h k (suc i) = set-le l r v n h (λ j. k (suc j)) i
 
-module _ (t : State) (r k p : ℕ) (b : List ℤ) (g : Fair t) where
+module _ (t : Steering) (r k p : ℕ) (b : List ℤ) (g : Fair t) where
   -- a bridge that opens
-  pub bridge-opens : {u : State} → getD (t .opener) r 0 ≡ 0 → u ≡ joined t r k p → Bridges t r k p b b (record { why = Why.Fine; at = p; st = u })
+  pub bridge-opens : {u : Steering} → getD (t .opener) r 0 ≡ 0 → u ≡ joined t r k p → Bridges t r k p b b (record { why = Why.Fine; at = p; st = u })
   unfolding bridgeAct joined
   bridge-opens {u} z e = let q = eq-eqb (getD (t .opener) r 0) 0 z in
       let d : u ≡ bridged t r (t .hub .0 + 1) k p (t .bonds) = e ∙ rw q in
@@ -105,7 +103,7 @@ module _ (t : State) (r k p : ℕ) (b : List ℤ) (g : Fair t) where
     unfolding bridgeAct
     act-closes a i f = rw (ne-eqb (getD (t .opener) r 0) 0 n, kind-kept k, ec) (close-act b (t .bonds) (getD (t .opener) r 0 - 1) (t .hub .0) (getD (t .symbol) r 0) k p _)
 
-    pub bridge-closes : {x : Bond} {b′ : List ℤ} {u : State} → c ≡ Closing.Bond x → b′ ≡ putBond b (t .bonds) x → u ≡ joined t r k p → Bridges t r k p b b′ (record { why = Why.Fine; at = p; st = u })
+    pub bridge-closes : {x : Bond} {b′ : List ℤ} {u : Steering} → c ≡ Closing.Bond x → b′ ≡ putBond b (t .bonds) x → u ≡ joined t r k p → Bridges t r k p b b′ (record { why = Why.Fine; at = p; st = u })
     unfolding joined putBond
     bridge-closes {x} {b′} {u} e eb eu =
         let w = closing-bond b (t .bonds) (getD (t .opener) r 0 - 1) (t .hub .0) (getD (t .symbol) r 0) k (sym ec ∙ e) in
@@ -117,7 +115,7 @@ module _ (t : State) (r k p : ℕ) (b : List ℤ) (g : Fair t) where
           fair = rw d (record { atoms = g .atoms; bonds = omega (arith, w .1); depth = g .depth; hub = g .hub; stack = g .stack; opener = set-le (t .opener) r 0 (maxAtoms + 1) (omega arith) (g .opener) }, refl);
         }
 
-    pub bridge-refused : {x : Refusal} {o : Out} → c ≡ Closing.Refused x → o ≡ refusedAt x p t → Bridges t r k p b b o
+    pub bridge-refused : {x : Refusal} {o : Went} → c ≡ Closing.Refused x → o ≡ refusedAt x p t → Bridges t r k p b b o
     bridge-refused e eo = rw eo (record {
       is = λ a i f. act-closes a i f ∙ ap (byClosing p (moved (joined t r k p) (bridgeBond r (memory t a b (kindPending k) i f)))) e;
       fair = tt;

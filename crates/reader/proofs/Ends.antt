@@ -26,10 +26,10 @@ use Rattle.table.specs.Limits.{maxAtoms, HYDROGENS}
 use Rattle.table.specs.Cells.{atomPlace, element, selected}
 use Rattle.table.specs.Valid.{Valid, enough}
 use Rattle.graph.specs.Graph.{bondSum, matchable}
-use Rattle.state.specs.declared.State.{State}
 use Rattle.state.specs.declared.Fields.{Fields}
 use Rattle.state.specs.Limits.{maxText, maxDepth, bridges}
-use Rattle.state.specs.State.{started}
+use Rattle.state.specs.State.{Steering, steering, started}
+use Rattle.state.specs.declared.State.{State}
 use Rattle.reading.specs.Memory.{Memory, nothing, blank}
 use Rattle.reading.specs.Act.{act, modeAct}
 use Rattle.reading.specs.Read.{Told, zeros, refused, short, beginning, hydrogenate, hydrogenated, leftmost, ended, finished, readFrom, readOf}
@@ -41,10 +41,9 @@ use Rattle.field.proofs.Rest.{rest-end, rest-down-stop}
 use Rattle.field.proofs.Bytes.{there}
 use Rattle.reader.specs.declared.piece.Joint.{Joint}
 use Rattle.reader.specs.declared.bridge.Why.{Why}
-use Rattle.reader.specs.declared.bridge.Out.{Out}
 use Rattle.reader.specs.declared.ending.Answer as reply
-use Rattle.reader.specs.Went.{Fair, refusedAt, PastFine, Past, Goes, Stops, Sequenced}
-use Rattle.reader.specs.Ending.{told, hydrogensBy, endedOf, answerOf, TextGoes, TextRead}
+use Rattle.reader.specs.Went.{Fair, Went, refusedAt, PastFine, Past, Goes, Stops, Sequenced}
+use Rattle.reader.specs.Ending.{told, hydrogensBy, endedOf, answerOf, Unread, TextGoes, TextRead}
 use Rattle.reader.proofs.Branches.{close-down}
 
 -- ---- the whole text
@@ -54,7 +53,7 @@ unfolding answer rest read feed act step next modeAct started
 start-dot [] a b h = absurd (omega arith)
 start-dot (x ∷ s) a b h = refl
 
-pub fair-started : {u : State} → u ≡ started → Fair u
+pub fair-started : {u : Steering} → u ≡ started → Fair u
 unfolding started
 fair-started e = rw e (record { atoms = omega arith; bonds = omega arith; depth = omega arith; hub = omega arith; stack = zeros-le maxDepth maxAtoms; opener = zeros-le bridges (maxAtoms + 1) })
   where
@@ -63,12 +62,17 @@ fair-started e = rw e (record { atoms = omega arith; bonds = omega arith; depth 
     zeros-le (suc k) n zero = omega arith
     zeros-le (suc k) n (suc i) = zeros-le k n i
 
-pub text-empty : (s : List ℕ) (a b : List ℤ) {u : State} → length s ≡ 0 → u ≡ started → TextRead s a b a b (record { why = Why.Fine; at = 0; st = u })
+-- a new state with arrays of zeros
+pub unread-started : {st : State} {h u k p x : List ℕ} → Unread h u k p x
+    → steering st (replicate maxDepth 0) (replicate bridges 0) (replicate bridges 0) (replicate bridges 0) (replicate maxAtoms 0) ≡ started → steering st h u k p x ≡ started
+unread-started n e = rw (n .hubs, n .openers, n .symbols, n .offsets, n .outsides) e
+
+pub text-empty : (s : List ℕ) (a b : List ℤ) {u : Steering} → length s ≡ 0 → u ≡ started → TextRead s a b a b (record { why = Why.Fine; at = 0; st = u })
 unfolding answer read accepting
 text-empty [] a b e q = record { is = (0, blank, fair-started q, rw q) }
 text-empty (x ∷ s) a b e q = absurd (omega arith)
 
-module _ (s : List ℕ) (a b : List ℤ) (h : length s ≡ 0 → ⊥) {u : State} (eu : u ≡ started) {a′ b′ : List ℤ} {o : Out} (g : Sequenced s 0 Joint.Elided u a b a′ b′ o) where
+module _ (s : List ℕ) (a b : List ℤ) (h : length s ≡ 0 → ⊥) {u : Steering} (eu : u ≡ started) {a′ b′ : List ℤ} {o : Went} (g : Sequenced s 0 Joint.Elided u a b a′ b′ o) where
   positive : 0 < length s
   positive = split (length s) h
     where
@@ -77,7 +81,7 @@ module _ (s : List ℕ) (a b : List ℤ) (h : length s ≡ 0 → ⊥) {u : State
       split (suc n) k = omega arith
 
   begun-at : answerOf s a b ≡ rest s 0 dot (memory u a b nothing 0 blank)
-  begun-at = start-dot s a b positive ∙ ap (λ (v : State). rest s 0 dot (memory v a b nothing 0 blank)) (sym eu)
+  begun-at = start-dot s a b positive ∙ ap (λ (v : Steering). rest s 0 dot (memory v a b nothing 0 blank)) (sym eu)
 
   pub text-refused : {c : Refusal} {p : ℕ} → o .why ≡ Why.Refused c p → TextRead s a b a′ b′ o
   text-refused w = record {
@@ -91,13 +95,13 @@ module _ (s : List ℕ) (a b : List ℤ) (h : length s ≡ 0 → ⊥) {u : State
 
     flat : o .st .depth ≡ 0
     unfolding started
-    flat = past .deep ∙ ap (λ (v : State). v .depth) eu
+    flat = past .deep ∙ ap (λ (v : Steering). v .depth) eu
 
     reached : (i : ℕ) × (f : Fields) × (answerOf s a b ≡ rest s (o .at) (seq plain) (memory (o .st) a′ b′ nothing i f))
     reached = let y = subst (λ (z : Why). Goes s 0 dot nothing u a b z (o .at) (o .st) a′ b′) w (g .goes) 0 blank in (y .tens, y .draft, begun-at ∙ y .is)
 
     -- a `)` that closes nothing
-    pub text-wrong : {x : Out} → o .at < length s → x ≡ refusedAt Grammar (o .at) (o .st) → TextRead s a b a′ b′ x
+    pub text-wrong : {x : Went} → o .at < length s → x ≡ refusedAt Grammar (o .at) (o .st) → TextRead s a b a′ b′ x
     text-wrong l ex = rw ex (record { is = reached .2 ∙ rest-down-stop s (o .at) (seq plain) (memory (o .st) a′ b′ nothing (reached .0) (reached .1)) (there s (o .at)) l (close-down (getD s (o .at) 0) closing) flat })
       where
         closing : getD s (o .at) 0 ≡ 41
@@ -126,7 +130,7 @@ pub implied-cell : (e s sum : ℕ) → toZ w32 (implied e s sum) ≡ pos (implie
 implied-cell e s sum = toZ-pos w32 {n = implied e s sum} (omega (arith, implied-small e s sum))
 
 -- ---- after the last byte
-module _ (t : State) (a b : List ℤ) {p : ℕ} (e : p ≡ leftmost (t .opener) (t .offset)) where
+module _ (t : Steering) (a b : List ℤ) {p : ℕ} (e : p ≡ leftmost (t .opener) (t .offset)) where
   pub ended-open : {x y : List ℤ} → p < maxText → x ≡ zeros a → y ≡ zeros b → told (reply.Answer.Refused OpenBridge p) x y ≡ endedOf t a b
   unfolding ended
   ended-open h ex ey = rw (ex, ey, ← e, lt-ltb p maxText h)
@@ -175,7 +179,7 @@ module _ (s : List ℕ) (a b : List ℤ) where
     unfolding readOf
     told-long l ex ey = rw (ex, ey, h, lt-leb (length s) maxText l)
 
-    module _ (l : length s ≤ maxText) {a₁ b₁ : List ℤ} (ea : a₁ ≡ zeros a) (eb : b₁ ≡ zeros b) {x y : List ℤ} {o : Out} (g : TextRead s a₁ b₁ x y o) where
+    module _ (l : length s ≤ maxText) {a₁ b₁ : List ℤ} (ea : a₁ ≡ zeros a) (eb : b₁ ≡ zeros b) {x y : List ℤ} {o : Went} (g : TextRead s a₁ b₁ x y o) where
       whole : readOf s a b ≡ byAnswer a b (answerOf s a₁ b₁)
       unfolding readOf readFrom answer
       whole = rw (h, le-leb (length s) maxText l, ea, eb) (finished-by (length s) a b (read act 0 (going start (beginning (zeros a) (zeros b))) s))

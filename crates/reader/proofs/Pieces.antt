@@ -21,9 +21,8 @@ use Rattle.grammar.specs.declared.Out.the-variants.{Stop as stop, To as to}
 use Rattle.grammar.specs.Machine.{next, resting, atomOr, bridgeOr}
 use Rattle.grammar.specs.Fold.{keeps, refuses}
 use Rattle.grammar.proofs.Ends.{each}
-use Rattle.state.specs.declared.State.{State}
 use Rattle.state.specs.declared.Fields.{Fields}
-use Rattle.state.specs.State.{joined, bridged}
+use Rattle.state.specs.State.{Steering, joined, bridged}
 use Rattle.reading.specs.Memory.{Memory, nothing, dotted, symbol, symbolKind, counting, moved, kindOf, closeRefusal}
 use Rattle.reading.specs.Bracket.{digit}
 use Rattle.reading.specs.Act.{Acts, modeAct, bridgeAct, orRefuse, bridgeBond}
@@ -129,12 +128,12 @@ module _ (s : List ℕ) (p : ℕ) {b : ℕ} (k : Peeked s p b) where
     pub symbol-in : p < length s
     symbol-in = k .within (symbol-joins b listed .some)
 
-    symbol-step : (t : State) (a c : List ℤ) (i : ℕ) (f : Fields) → rest s p (seq plain) (memory t a c nothing i f) ≡ rest s (p + 1) bond (memory t a c (symbol x) i f)
+    symbol-step : (t : Steering) (a c : List ℤ) (i : ℕ) (f : Fields) → rest s p (seq plain) (memory t a c nothing i f) ≡ rest s (p + 1) bond (memory t a c (symbol x) i f)
     unfolding modeAct
     symbol-step t a c i f = let j = symbol-joins b listed in
         rest-to s p (seq plain) (memory t a c nothing i f) k symbol-in (j .out) {ν = memory t a c (symbol x) i f} (rw (j .letter, j .digit, j .percent, listed, j .point, e)) refl
 
-    inner-step : (t : State) (a c : List ℤ) (i : ℕ) (f : Fields) → rest s p inside (memory t a c nothing i f) ≡ rest s (p + 1) dot (memory t a c (symbol x) i f)
+    inner-step : (t : Steering) (a c : List ℤ) (i : ℕ) (f : Fields) → rest s p inside (memory t a c nothing i f) ≡ rest s (p + 1) dot (memory t a c (symbol x) i f)
     unfolding modeAct
     inner-step t a c i f = let j = symbol-joins b listed in
         rest-to s p inside (memory t a c nothing i f) k symbol-in (j .inner) {ν = memory t a c (symbol x) i f} (rw (j .letter, j .point, e)) refl
@@ -210,7 +209,7 @@ pub seen-end : (s : List ℕ) (p : ℕ) → p ≤ length s → length s ≤ p �
 seen-end s p l h = record { here = refl; mode = refl; joint = refl; within = l; stops = λ n. omega arith }
 
 -- ---- a bridge
-joined-depth : (t : State) (r k p : ℕ) → joined t r k p .depth ≡ t .depth
+joined-depth : (t : Steering) (r k p : ℕ) → joined t r k p .depth ≡ t .depth
 unfolding joined
 joined-depth t r k p = split (eqb (getD (t .opener) r 0) 0)
   where
@@ -223,7 +222,7 @@ unfolding bridgeAct
 bridge-depth r p μ ν h =
     split (eqb (getD (μ .st .opener) r 0) 0) (closeRefusal (μ .bonds) (μ .st .bonds) (getD (μ .st .opener) r 0 - 1) (μ .st .hub .0) (getD (μ .st .symbol) r 0) (kindOf (μ .pending))) h
   where
-    after : State
+    after : Steering
     after = joined (μ .st) r (kindOf (μ .pending)) p
 
     split : (x : Bool) (c : ℕ) → pick x (keeps (moved after μ)) (orRefuse c p (moved after (bridgeBond r μ))) ≡ keeps ν → ν .st .depth ≡ μ .st .depth

@@ -1,32 +1,30 @@
--- The loop over the pieces of a sequence: what was left to read before a piece is what is left after it. Assumes nothing.
+-- The loop over the pieces of a chain: a reading that stood before its first piece stands before the piece that is next. Assumes nothing.
 use Prim.Native.Nat.{ℕ, _+_, _≤_, _<_}
 use native.Mathlib.Omega.{arith}
 use mathlib.Core.Path.{_≡_, refl, ap, _∙_, subst, subst⁻¹}
-use mathlib.Core.List.{List}
+use mathlib.Core.List.{List, []}
 use lib.ListN.{length, getD}
 use lib.IntN.{ℤ}
 use Rattle.refusal.specs.declared.Refusal.{Refusal}
 use Rattle.refusal.specs.declared.Refusal.the-variants.{Grammar}
 use Rattle.refusal.specs.Code.{codeOf}
 use Rattle.grammar.specs.declared.Last.the-variants.{Plain as plain}
-use Rattle.grammar.specs.declared.Mode.the-variants.{Seq as seq, Dot as dot}
+use Rattle.grammar.specs.declared.Mode.the-variants.{Seq as seq}
 use Rattle.grammar.specs.Fold.{Answer, bad}
 use Rattle.table.specs.Limits.{maxAtoms}
+use Rattle.state.specs.State.{Steering, steering}
 use Rattle.state.specs.declared.State.{State}
-use Rattle.state.specs.declared.Fields.{Fields}
 use Rattle.state.specs.Limits.{bridges}
 use Rattle.reading.specs.Memory.{Memory, nothing, extended}
-use Rattle.reading.specs.Act.{bridgeAct}
-use Rattle.field.specs.Rest.{rest, memory}
 use Rattle.reader.specs.declared.piece.Joint.{Joint}
 use Rattle.reader.specs.declared.piece.Piece.{Piece}
 use Rattle.reader.specs.declared.atom.Added.{Added}
 use Rattle.reader.specs.declared.bridge.Why.{Why}
-use Rattle.reader.specs.declared.bridge.Out.{Out}
-use Rattle.reader.specs.Piece.{pendingOf, kindPending, afterBridge, Seen}
+use Rattle.reader.specs.Piece.{afterBridge, Seen}
 use Rattle.reader.specs.Added.{Reaches, Adds}
-use Rattle.reader.specs.Went.{Fair, refusedAt, PastFine, Past, Goes, Stops, Sequenced, Branched}
+use Rattle.reader.specs.Went.{Fair, Went, refusedAt, GoesOn}
 use Rattle.reader.specs.Bridge.{Bridged, FairAfter, Bridges}
+use Rattle.reader.specs.Chain.{Stands, Lies, EndsAfter, ChainEnds, Chained}
 
 -- where a piece begins
 abbrev pub from : Piece → ℕ
@@ -36,75 +34,71 @@ from (Piece.Branch q) = q
 from (Piece.End q) = q
 from (Piece.Wrong q) = q
 
--- what is left to read before the first piece of a sequence, which is an atom
-abbrev pub first : List ℕ → Piece → State → List ℤ → List ℤ → ℕ → Fields → Answer Memory
-first s (Piece.Atom j q) t a b i f = rest s q dot (memory t a b (pendingOf j) i f)
-first s (Piece.Bridge r k q e) t a b i f = bad 0 0
-first s (Piece.Branch q) t a b i f = bad 0 0
-first s (Piece.End q) t a b i f = bad 0 0
-first s (Piece.Wrong q) t a b i f = bad 0 0
+-- ---- the next piece was seen
+module _ (s : List ℕ) (p : ℕ) where
+  pub from-next : (r : Piece) → Seen s p (seq plain) nothing r → p ≤ from r
+  from-next (Piece.Atom j q) v = v .later
+  from-next (Piece.Bridge r k q e) v = v .later
+  from-next (Piece.Branch q) v = omega (arith, v .here)
+  from-next (Piece.End q) v = omega (arith, v .here)
+  from-next (Piece.Wrong q) v = v .later
 
--- a reading stands before a piece, in a state and with tables
-abbrev pub Stands : List ℕ → (ℕ → Fields → Answer Memory) → Piece → State → List ℤ → List ℤ → Type 0
-Stands s x (Piece.Atom j q) u a b = (i : ℕ) (f : Fields) → Reaches s (x i f) q dot (pendingOf j) u a b
-Stands s x (Piece.Bridge r k q e) u a b = (i : ℕ) (f : Fields) → (n : ℕ) × (g : Fields) × (x i f ≡ afterBridge s e (bridgeAct r q (memory u a b (kindPending k) n g)))
-Stands s x (Piece.Branch q) u a b = (i : ℕ) (f : Fields) → Reaches s (x i f) q (seq plain) nothing u a b
-Stands s x (Piece.End q) u a b = (i : ℕ) (f : Fields) → Reaches s (x i f) q (seq plain) nothing u a b
-Stands s x (Piece.Wrong q) u a b = (i : ℕ) (f : Fields) → x i f ≡ bad 3 q
+  pub stands-next : {x : Answer Memory} {u : Steering} {a b : List ℤ} (r : Piece) → Reaches s x p (seq plain) nothing u a b → Seen s p (seq plain) nothing r → Stands s x r u a b
+  stands-next {u = u} {a = a} {b = b} (Piece.Atom j q) w v = record { tens = w .tens; draft = w .draft; is = w .is ∙ v .is u a b (w .tens) (w .draft) }
+  stands-next {u = u} {a = a} {b = b} (Piece.Bridge r k q e) w v = let z = v .is u a b (w .tens) (w .draft) in (z .0, w .draft, w .is ∙ z .1)
+  stands-next (Piece.Branch q) w v = rw (v .here) w
+  stands-next (Piece.End q) w v = rw (v .here) w
+  stands-next {u = u} {a = a} {b = b} (Piece.Wrong q) w v = w .is ∙ v .is u a b (w .tens) (w .draft)
 
--- where the piece lies, in a sequence that begins at an offset
-pub record Lies (s : List ℕ) (at q e : ℕ) : Type 0 where
-  pub later : at ≤ q
-  pub within : e ≤ length s
-  pub long : q ≤ e
+  pub lies-next : (r : Piece) → Seen s p (seq plain) nothing r → Lies s r
+  lies-next (Piece.Atom j q) v = v .within
+  lies-next (Piece.Bridge r k q e) v = (v .number, v .long, v .within)
+  lies-next (Piece.Branch q) v = rw (v .here) (v .within, v .byte)
+  lies-next (Piece.End q) v = rw (v .here) (v .within, v .stops)
+  lies-next (Piece.Wrong q) v = tt
 
-abbrev pub Placed : List ℕ → ℕ → Piece → Type 0
-Placed s at (Piece.Atom j q) = Lies s at q q
-Placed s at (Piece.Bridge r k q e) = Lies s at q e × (q < e) × (r < bridges)
-Placed s at (Piece.Branch q) = Lies s (at + 1) q (q + 1) × (getD s q 0 ≡ 40)
-Placed s at (Piece.End q) = Lies s (at + 1) q q × ((getD s q 0 ≡ 41 → ⊥) → q ≡ length s)
-Placed s at (Piece.Wrong q) = Unit {0}
+  pub ends-next : {at : ℕ} (r : Piece) → at < p → Seen s p (seq plain) nothing r → EndsAfter at r
+  ends-next (Piece.Atom j q) l v = omega (arith, v .later)
+  ends-next (Piece.Bridge r k q e) l v = omega (arith, v .later)
+  ends-next (Piece.Branch q) l v = omega (arith, v .here)
+  ends-next (Piece.End q) l v = omega (arith, v .here)
+  ends-next (Piece.Wrong q) l v = tt
 
-pub record Turn (s : List ℕ) (at : ℕ) (x : ℕ → Fields → Answer Memory) (d la lb : ℕ) (r : Piece) (u : State) (a b : List ℤ) : Type 0 where
-  pub stands : Stands s x r u a b
-  pub placed : Placed s at r
+-- fair without the arrays that a chain or a bridge is not lent
+pub fair-chain : {st : State} {h u k p x : List ℕ} → Fair (steering st h u k p x) → Fair (steering st [] u k p x)
+fair-chain g = record { atoms = g .atoms; bonds = g .bonds; depth = g .depth; hub = g .hub; stack = λ i. omega arith; opener = g .opener }
+
+pub fair-bridge : {st : State} {h u k p x : List ℕ} → Fair (steering st h u k p x) → Fair (steering st [] u k p [])
+fair-bridge g = record { atoms = g .atoms; bonds = g .bonds; depth = g .depth; hub = g .hub; stack = λ i. omega arith; opener = g .opener }
+
+-- ---- what holds at each turn of the loop, from the piece r₀ in t with the tables a₀, b₀ on
+pub record Turn (s : List ℕ) (r₀ : Piece) (t : Steering) (a₀ b₀ : List ℤ) (r : Piece) (u : Steering) (a b : List ℤ) : Type 0 where
+  pub stands : (x : Answer Memory) → Stands s x r₀ t a₀ b₀ → Stands s x r u a b
+  pub lies : Lies s r
+  pub later : (p : ℕ) → EndsAfter p r₀ → EndsAfter p r
   pub fair : Fair u
-  pub deep : u .depth ≡ d
-  pub long-a : length a ≡ la
-  pub long-b : length b ≡ lb
+  pub deep : u .depth ≡ t .depth
+  pub long-a : length a ≡ length a₀
+  pub long-b : length b ≡ length b₀
 
--- the next piece begins at the offset or after it
-pub from-next : (s : List ℕ) {p : ℕ} (r : Piece) → Seen s p (seq plain) nothing r → p ≤ from r
-from-next s (Piece.Atom j q) v = v .later
-from-next s (Piece.Bridge r k q e) v = v .later
-from-next s (Piece.Branch q) v = omega (arith, v .here)
-from-next s (Piece.End q) v = omega (arith, v .here)
-from-next s (Piece.Wrong q) v = v .later
+module _ {s : List ℕ} {r₀ : Piece} {t : Steering} {a₀ b₀ : List ℤ} where
+  pub turn-start : Lies s r₀ → Fair t → Turn s r₀ t a₀ b₀ r₀ t a₀ b₀
+  turn-start l g = record { stands = λ x h. h; lies = l; later = λ p h. h; fair = g; deep = refl; long-a = refl; long-b = refl }
 
-module _ (s : List ℕ) (at : ℕ) (x : ℕ → Fields → Answer Memory) where
-  -- the next piece was seen
-  stands-next : {p : ℕ} {u : State} {a b : List ℤ} (r : Piece) → ((i : ℕ) (f : Fields) → Reaches s (x i f) p (seq plain) nothing u a b) → Seen s p (seq plain) nothing r → Stands s x r u a b
-  stands-next {u = u} {a = a} {b = b} (Piece.Atom j q) h v = λ i f. let w = h i f in record { tens = w .tens; draft = w .draft; is = w .is ∙ v .is u a b (w .tens) (w .draft) }
-  stands-next {u = u} {a = a} {b = b} (Piece.Bridge r k q e) h v = λ i f. let w = h i f in let z = v .is u a b (w .tens) (w .draft) in (z .0, w .draft, w .is ∙ z .1)
-  stands-next (Piece.Branch q) h v = λ i f. rw (v .here) (h i f)
-  stands-next (Piece.End q) h v = λ i f. rw (v .here) (h i f)
-  stands-next {u = u} {a = a} {b = b} (Piece.Wrong q) h v = λ i f. let w = h i f in w .is ∙ v .is u a b (w .tens) (w .draft)
+  refused-chain : {a b : List ℤ} {u : Steering} {o : Went} {c : Refusal} {p : ℕ} → o ≡ refusedAt c p u → ((x : Answer Memory) → Stands s x r₀ t a₀ b₀ → x ≡ bad (codeOf c) p) → Chained s r₀ t a₀ b₀ a b o
+  refused-chain e h = rw e (record { goes = h; ends = tt })
 
-  placed-next : {p : ℕ} (r : Piece) → at < p → Seen s p (seq plain) nothing r → Placed s at r
-  placed-next (Piece.Atom j q) l v = record { later = omega (arith, v .later); within = v .within; long = omega arith }
-  placed-next (Piece.Bridge r k q e) l v = (record { later = omega (arith, v .later); within = v .within; long = omega (arith, v .long) }, v .long, v .number)
-  placed-next (Piece.Branch q) l v = rw (v .here) (record { later = omega arith; within = omega (arith, v .within); long = omega arith }, v .byte)
-  placed-next (Piece.End q) l v = rw (v .here) (record { later = omega arith; within = v .within; long = omega arith }, v .stops)
-  placed-next (Piece.Wrong q) l v = tt
-
-  module _ {d la lb : ℕ} {r : Piece} {u : State} {a b : List ℤ} (v : Turn s at x d la lb r u a b) where
+  module _ {r : Piece} {u : Steering} {a b : List ℤ} (v : Turn s r₀ t a₀ b₀ r u a b) where
     -- ---- after an atom
     module _ {j : Joint} {q : ℕ} (e : r ≡ Piece.Atom j q) where
-      atom-stands : Stands s x (Piece.Atom j q) u a b
-      atom-stands = subst (λ (z : Piece). Stands s x z u a b) e (v .stands)
+      atom-stands : (x : Answer Memory) → Stands s x r₀ t a₀ b₀ → Stands s x (Piece.Atom j q) u a b
+      atom-stands x h = subst (λ (z : Piece). Stands s x z u a b) e (v .stands x h)
 
-      pub atom-lies : Lies s at q q
-      atom-lies = subst (Placed s at) e (v .placed)
+      atom-ends : (p : ℕ) → EndsAfter p r₀ → p ≤ q
+      atom-ends p h = subst (EndsAfter p) e (v .later p h)
+
+      pub atom-lies : q ≤ length s
+      atom-lies = subst (Lies s) e (v .lies)
 
       module _ (a′ b′ : List ℤ) (y : Added) (g : Adds s q j (u .hub) (u .atoms) (u .bonds) a b a′ b′ y) where
         module _ {o l p : ℕ} (ey : y ≡ Added.Atom o l p) where
@@ -120,28 +114,32 @@ module _ (s : List ℕ) (at : ℕ) (x : ℕ → Fields → Answer Memory) where
           pub atom-room : u .atoms < maxAtoms
           atom-room = atom-added .atoms
 
-          pub turn-atom : (z : Piece) → Seen s p (seq plain) nothing z → length a′ ≡ length a → length b′ ≡ length b → Turn s at x d la lb z (extended u o l) a′ b′
+          pub turn-atom : (z : Piece) → Seen s p (seq plain) nothing z → length a′ ≡ length a → length b′ ≡ length b → Turn s r₀ t a₀ b₀ z (extended u o l) a′ b′
           turn-atom z h ka kb = let w = atom-added in record {
-            stands = stands-next z (λ i f. let y = atom-stands i f in let c = w .is u (refl, refl, refl) (y .tens) (y .draft) in record { tens = c .tens; draft = c .draft; is = y .is ∙ c .is }) h;
-            placed = placed-next z (omega (arith, atom-lies .later, atom-later)) h;
+            stands = λ x k. let y = atom-stands x k in let c = w .is u (refl, refl, refl) (y .tens) (y .draft) in stands-next s p z (record { tens = c .tens; draft = c .draft; is = y .is ∙ c .is }) h;
+            lies = lies-next s p z h;
+            later = λ n k. ends-next s p z (omega (arith, atom-ends n k, atom-later)) h;
             fair = record { atoms = omega (arith, atom-room); bonds = w .bonds (v .fair .bonds); depth = v .fair .depth; hub = omega (arith, atom-room); stack = v .fair .stack; opener = v .fair .opener };
             deep = v .deep;
             long-a = ka ∙ v .long-a;
             long-b = kb ∙ v .long-b;
           }
 
-        atom-no : {c : Refusal} {p : ℕ} → y ≡ Added.Refused c p → (i : ℕ) (f : Fields) → x i f ≡ bad (codeOf c) p
-        atom-no ey i f = let w = subst (Adds s q j (u .hub) (u .atoms) (u .bonds) a b a′ b′) ey g in let h = atom-stands i f in h .is ∙ w .is u (refl, refl, refl) (h .tens) (h .draft)
+        pub end-atom : {c : Refusal} {p : ℕ} {o : Went} → y ≡ Added.Refused c p → o ≡ refusedAt c p u → Chained s r₀ t a₀ b₀ a′ b′ o
+        end-atom ey eo = refused-chain eo (λ x h. let w = subst (Adds s q j (u .hub) (u .atoms) (u .bonds) a b a′ b′) ey g in let k = atom-stands x h in k .is ∙ w .is u (refl, refl, refl) (k .tens) (k .draft))
 
     -- ---- after a bridge
     module _ {n k q p : ℕ} (e : r ≡ Piece.Bridge n k q p) where
-      bridge-stands : Stands s x (Piece.Bridge n k q p) u a b
-      bridge-stands = subst (λ (z : Piece). Stands s x z u a b) e (v .stands)
+      bridge-stands : (x : Answer Memory) → Stands s x r₀ t a₀ b₀ → Stands s x (Piece.Bridge n k q p) u a b
+      bridge-stands x h = subst (λ (z : Piece). Stands s x z u a b) e (v .stands x h)
 
-      pub bridge-lies : Lies s at q p × (q < p) × (n < bridges)
-      bridge-lies = subst (Placed s at) e (v .placed)
+      bridge-ends : (m : ℕ) → EndsAfter m r₀ → m ≤ q
+      bridge-ends m h = subst (EndsAfter m) e (v .later m h)
 
-      module _ {b′ : List ℤ} {o : Out} (g : Bridges u n k q b b′ o) where
+      pub bridge-lies : (n < bridges) × (q < p) × (p ≤ length s)
+      bridge-lies = subst (Lies s) e (v .lies)
+
+      module _ {b′ : List ℤ} {o : Went} (g : Bridges u n k q b b′ o) where
         module _ (w : o .why ≡ Why.Fine) where
           bridged : Bridged u n k q b b′ Why.Fine (o .st)
           bridged = subst (λ (z : Why). Bridged u n k q b b′ z (o .st)) w (g .is)
@@ -149,89 +147,37 @@ module _ (s : List ℕ) (at : ℕ) (x : ℕ → Fields → Answer Memory) where
           still-fair : Fair (o .st) × (o .st .depth ≡ u .depth)
           still-fair = subst (λ (z : Why). FairAfter u z (o .st)) w (g .fair)
 
-          pub turn-bridge : (z : Piece) → Seen s p (seq plain) nothing z → length b′ ≡ length b → Turn s at x d la lb z (o .st) a b′
+          pub turn-bridge : (z : Piece) → Seen s p (seq plain) nothing z → length b′ ≡ length b → Turn s r₀ t a₀ b₀ z (o .st) a b′
           turn-bridge z h kb = record {
-            stands = stands-next z (λ i f. let y = bridge-stands i f in record { tens = y .0; draft = y .1; is = y .2 ∙ ap (afterBridge s p) (bridged a (y .0) (y .1)) }) h;
-            placed = placed-next z (omega (arith, bridge-lies .0 .later, bridge-lies .1)) h;
+            stands = λ x i. let y = bridge-stands x i in stands-next s p z (record { tens = y .0; draft = y .1; is = y .2 ∙ ap (afterBridge s p) (bridged a (y .0) (y .1)) }) h;
+            lies = lies-next s p z h;
+            later = λ m i. ends-next s p z (omega (arith, bridge-ends m i, bridge-lies .1)) h;
             fair = still-fair .0;
             deep = still-fair .1 ∙ v .deep;
             long-a = v .long-a;
             long-b = kb ∙ v .long-b;
           }
 
-        bridge-no : {c : Refusal} {m : ℕ} → o .why ≡ Why.Refused c m → (i : ℕ) (f : Fields) → x i f ≡ bad (codeOf c) m
-        bridge-no w i f = let y = bridge-stands i f in y .2 ∙ ap (afterBridge s p) (subst (λ (z : Why). Bridged u n k q b b′ z (o .st)) w (g .is) a (y .0) (y .1))
+        pub end-bridge : {c : Refusal} {m : ℕ} → o .why ≡ Why.Refused c m → Chained s r₀ t a₀ b₀ a b′ o
+        end-bridge {c} {m} w = record {
+          goes = λ x h. let y = bridge-stands x h in
+              let d : x ≡ bad (codeOf c) m = y .2 ∙ ap (afterBridge s p) (subst (λ (z : Why). Bridged u n k q b b′ z (o .st)) w (g .is) a (y .0) (y .1)) in
+              subst⁻¹ (λ (z : Why). GoesOn s x z (o .at) (o .st) a b′) w d;
+          ends = subst⁻¹ (λ (z : Why). ChainEnds s r₀ t z (o .at) (o .st)) w tt;
+        }
 
-    -- ---- after a branch
-    module _ {q : ℕ} (e : r ≡ Piece.Branch q) where
-      branch-stands : Stands s x (Piece.Branch q) u a b
-      branch-stands = subst (λ (z : Piece). Stands s x z u a b) e (v .stands)
+    -- ---- at the end of the chain
+    pub end-wrong : {q : ℕ} {o : Went} → r ≡ Piece.Wrong q → o ≡ refusedAt Grammar q u → Chained s r₀ t a₀ b₀ a b o
+    end-wrong e eo = refused-chain eo (λ x h. subst (λ (z : Piece). Stands s x z u a b) e (v .stands x h))
 
-      pub branch-lies : Lies s (at + 1) q (q + 1) × (getD s q 0 ≡ 40)
-      branch-lies = subst (Placed s at) e (v .placed)
+    pub end-branch : {q : ℕ} → r ≡ Piece.Branch q → Chained s r₀ t a₀ b₀ a b (record { why = Why.Fine; at = q; st = u })
+    end-branch {q} e = let l : (q < length s) × (getD s q 0 ≡ 40) = subst (Lies s) e (v .lies) in record {
+      goes = λ x h. subst (λ (z : Piece). Stands s x z u a b) e (v .stands x h);
+      ends = record { later = λ p h. subst (EndsAfter p) e (v .later p h); within = omega (arith, l .0); fair = v .fair; deep = v .deep; stops = λ n m. absurd (n (l .1)) };
+    }
 
-      module _ {a′ b′ : List ℤ} {o : Out} (g : Branched s q u a b a′ b′ o) where
-        module _ (w : o .why ≡ Why.Fine) where
-          pub branch-past : PastFine s q u (o .at) (o .st)
-          branch-past = subst (λ (z : Why). Past s q u z (o .at) (o .st)) w (g .past)
-
-          branch-goes : Goes s q (seq plain) nothing u a b Why.Fine (o .at) (o .st) a′ b′
-          branch-goes = subst (λ (z : Why). Goes s q (seq plain) nothing u a b z (o .at) (o .st) a′ b′) w (g .goes)
-
-          pub turn-branch : (z : Piece) → Seen s (o .at) (seq plain) nothing z → length a′ ≡ length a → length b′ ≡ length b → Turn s at x d la lb z (o .st) a′ b′
-          turn-branch z h ka kb = record {
-            stands = stands-next z (λ i f. let y = branch-stands i f in let c = branch-goes (y .tens) (y .draft) in record { tens = c .tens; draft = c .draft; is = y .is ∙ c .is }) h;
-            placed = placed-next z (omega (arith, branch-lies .0 .later, branch-past .later)) h;
-            fair = branch-past .fair;
-            deep = branch-past .deep ∙ v .deep;
-            long-a = ka ∙ v .long-a;
-            long-b = kb ∙ v .long-b;
-          }
-
-        branch-no : {c : Refusal} {m : ℕ} → o .why ≡ Why.Refused c m → (i : ℕ) (f : Fields) → x i f ≡ bad (codeOf c) m
-        branch-no w i f = let y = branch-stands i f in y .is ∙ subst (λ (z : Why). Goes s q (seq plain) nothing u a b z (o .at) (o .st) a′ b′) w (g .goes) (y .tens) (y .draft)
-
-module _ (s : List ℕ) (at : ℕ) (j : Joint) (t : State) (a₀ b₀ : List ℤ) where
-  abbrev whole : ℕ → Fields → Answer Memory
-  whole = first s (Piece.Atom j at) t a₀ b₀
-
-  pub turn-start : at ≤ length s → Fair t → Turn s at (first s (Piece.Atom j at) t a₀ b₀) (t .depth) (length a₀) (length b₀) (Piece.Atom j at) t a₀ b₀
-  turn-start l g = record {
-    stands = λ i f. record { tens = i; draft = f; is = refl };
-    placed = record { later = omega arith; within = l; long = omega arith };
-    fair = g;
-    deep = refl;
-    long-a = refl;
-    long-b = refl;
-  }
-
-  refused-seq : {a b : List ℤ} {u : State} {o : Out} {c : Refusal} {p : ℕ} → o ≡ refusedAt c p u → ((i : ℕ) (f : Fields) → whole i f ≡ bad (codeOf c) p) → Sequenced s at j t a₀ b₀ a b o
-  refused-seq e h = rw e (record { goes = h; past = tt; stops = tt })
-
-  handed-seq : {a b : List ℤ} {o : Out} {c : Refusal} {p : ℕ} → o .why ≡ Why.Refused c p → ((i : ℕ) (f : Fields) → whole i f ≡ bad (codeOf c) p) → Sequenced s at j t a₀ b₀ a b o
-  handed-seq {a} {b} {o} e h = record {
-    goes = subst⁻¹ (λ (z : Why). Goes s at dot (pendingOf j) t a₀ b₀ z (o .at) (o .st) a b) e h;
-    past = subst⁻¹ (λ (z : Why). Past s at t z (o .at) (o .st)) e tt;
-    stops = subst⁻¹ (λ (z : Why). Stops s z (o .at)) e tt;
-  }
-
-  module _ {r : Piece} {u : State} {a b : List ℤ} (v : Turn s at (first s (Piece.Atom j at) t a₀ b₀) (t .depth) (length a₀) (length b₀) r u a b) where
-    pub end-atom : {k : Joint} {q p : ℕ} {c : Refusal} {o : Out} → r ≡ Piece.Atom k q → (a′ b′ : List ℤ) (y : Added) → Adds s q k (u .hub) (u .atoms) (u .bonds) a b a′ b′ y → y ≡ Added.Refused c p
-        → o ≡ refusedAt c p u → Sequenced s at j t a₀ b₀ a′ b′ o
-    end-atom e a′ b′ y g ey eo = refused-seq eo (atom-no s at whole v e a′ b′ y g ey)
-
-    pub end-bridge : {n k q p m : ℕ} {b′ : List ℤ} {o : Out} {c : Refusal} → r ≡ Piece.Bridge n k q p → Bridges u n k q b b′ o → o .why ≡ Why.Refused c m → Sequenced s at j t a₀ b₀ a b′ o
-    end-bridge e g w = handed-seq w (bridge-no s at whole v e g w)
-
-    pub end-branch : {q m : ℕ} {a′ b′ : List ℤ} {o : Out} {c : Refusal} → r ≡ Piece.Branch q → Branched s q u a b a′ b′ o → o .why ≡ Why.Refused c m → Sequenced s at j t a₀ b₀ a′ b′ o
-    end-branch e g w = handed-seq w (branch-no s at whole v e g w)
-
-    pub end-wrong : {q : ℕ} {o : Out} → r ≡ Piece.Wrong q → o ≡ refusedAt Grammar q u → Sequenced s at j t a₀ b₀ a b o
-    end-wrong e eo = refused-seq eo (subst (λ (z : Piece). Stands s whole z u a b) e (v .stands))
-
-    pub end-fine : {q : ℕ} → r ≡ Piece.End q → Sequenced s at j t a₀ b₀ a b (record { why = Why.Fine; at = q; st = u })
-    end-fine {q} e = let w = subst (Placed s at) e (v .placed) in record {
-      goes = subst (λ (z : Piece). Stands s whole z u a b) e (v .stands);
-      past = record { later = omega (arith, w .0 .later); within = w .0 .within; fair = v .fair; deep = v .deep };
-      stops = w .1;
+    pub end-fine : {q : ℕ} → r ≡ Piece.End q → Chained s r₀ t a₀ b₀ a b (record { why = Why.Fine; at = q; st = u })
+    end-fine {q} e = let l : (q ≤ length s) × ((getD s q 0 ≡ 41 → ⊥) → q ≡ length s) = subst (Lies s) e (v .lies) in record {
+      goes = λ x h. subst (λ (z : Piece). Stands s x z u a b) e (v .stands x h);
+      ends = record { later = λ p h. subst (EndsAfter p) e (v .later p h); within = l .0; fair = v .fair; deep = v .deep; stops = λ n m. l .1 m };
     }

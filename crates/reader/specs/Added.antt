@@ -16,7 +16,7 @@ use Rattle.grammar.specs.declared.Mode.{Mode}
 use Rattle.grammar.specs.declared.Mode.the-variants.{Seq as seq, Dot as dot}
 use Rattle.grammar.specs.Fold.{Answer, bad}
 use Rattle.table.specs.Limits.{maxAtoms, maxBonds}
-use Rattle.state.specs.declared.State.{State}
+use Rattle.state.specs.State.{Steering}
 use Rattle.state.specs.declared.Fields.{Fields}
 use Rattle.reading.specs.Memory.{Memory, Pending, nothing, afterDot, extended}
 use Rattle.field.specs.Rest.{rest, memory}
@@ -34,13 +34,13 @@ abbrev pub crowdOf : ℕ → ℕ → Bool → Crowd
 crowdOf n m bonded = pick (leb maxAtoms n) (Crowd.Refused ManyAtoms) (pick (bonded && leb maxBonds m) (Crowd.Refused ManyBonds) Crowd.Fine)
 
 -- a reading x goes on at an offset, in a mode, with a joint, a state and tables; what it remembers of a `%` or a bracket may be anything
-pub record Reaches (s : List ℕ) (x : Answer Memory) (p : ℕ) (m : Mode) (k : Pending) (t : State) (a b : List ℤ) : Type 0 where
+pub record Reaches (s : List ℕ) (x : Answer Memory) (p : ℕ) (m : Mode) (k : Pending) (t : Steering) (a b : List ℤ) : Type 0 where
   pub tens : ℕ
   pub draft : Fields
   pub is : x ≡ rest s p m (memory t a b k tens draft)
 
 -- in every state with this hub and these counts
-abbrev pub Counts : State → AtomId → ℕ → ℕ → Type 0
+abbrev pub Counts : Steering → AtomId → ℕ → ℕ → Type 0
 Counts t hub n m = (t .hub ≡ hub) × (t .atoms ≡ n) × (t .bonds ≡ m)
 
 pub record AddsAtom (s : List ℕ) (at : ℕ) (j : Joint) (hub : AtomId) (n m : ℕ) (a b a′ b′ : List ℤ) (o l p : ℕ) : Type 0 where
@@ -48,10 +48,10 @@ pub record AddsAtom (s : List ℕ) (at : ℕ) (j : Joint) (hub : AtomId) (n m : 
   pub later : at < p
   pub atoms : n < maxAtoms
   pub bonds : m ≤ maxBonds → l ≤ maxBonds
-  pub is : (t : State) → Counts t hub n m → (i : ℕ) (f : Fields) → Reaches s (rest s at dot (memory t a b (pendingOf j) i f)) p (seq plain) nothing (extended t o l) a′ b′
+  pub is : (t : Steering) → Counts t hub n m → (i : ℕ) (f : Fields) → Reaches s (rest s at dot (memory t a b (pendingOf j) i f)) p (seq plain) nothing (extended t o l) a′ b′
 
 pub record AddsNot (s : List ℕ) (at : ℕ) (j : Joint) (hub : AtomId) (n m : ℕ) (a b : List ℤ) (r : Refusal) (p : ℕ) : Type 0 where
-  pub is : (t : State) → Counts t hub n m → (i : ℕ) (f : Fields) → rest s at dot (memory t a b (pendingOf j) i f) ≡ bad (codeOf r) p
+  pub is : (t : Steering) → Counts t hub n m → (i : ℕ) (f : Fields) → rest s at dot (memory t a b (pendingOf j) i f) ≡ bad (codeOf r) p
 
 abbrev pub Adds : List ℕ → ℕ → Joint → AtomId → ℕ → ℕ → List ℤ → List ℤ → List ℤ → List ℤ → Added → Type 0
 Adds s at j hub n m a b a′ b′ (Added.Atom o l p) = AddsAtom s at j hub n m a b a′ b′ o l p

@@ -13,7 +13,7 @@ use Rattle.grammar.specs.declared.Last.the-variants.{Plain as plain}
 use Rattle.grammar.specs.declared.Mode.{Mode}
 use Rattle.grammar.specs.declared.Mode.the-variants.{Seq as seq, Bond as bond, Dot as dot, Inside as inside}
 use Rattle.grammar.specs.Fold.{Answer, bad, keeps, refuses}
-use Rattle.state.specs.declared.State.{State}
+use Rattle.state.specs.State.{Steering}
 use Rattle.state.specs.declared.Fields.{Fields}
 use Rattle.state.specs.Limits.{bridges}
 use Rattle.reading.specs.Memory.{Memory, Pending, nothing, dotted, symbol}
@@ -60,14 +60,14 @@ afterBridge s p (refuses c q) = bad c q
 pub record SeenAtom (s : List ℕ) (p : ℕ) (m : Mode) (k : Pending) (j : Joint) (q : ℕ) : Type 0 where
   pub within : q ≤ length s
   pub later : p ≤ q
-  pub is : (t : State) (a b : List ℤ) (n : ℕ) (f : Fields) → rest s p m (memory t a b k n f) ≡ rest s q dot (memory t a b (pendingOf j) n f)
+  pub is : (t : Steering) (a b : List ℤ) (n : ℕ) (f : Fields) → rest s p m (memory t a b k n f) ≡ rest s q dot (memory t a b (pendingOf j) n f)
 
 pub record SeenBridge (s : List ℕ) (p : ℕ) (m : Mode) (k : Pending) (r x q e : ℕ) : Type 0 where
   pub number : r < bridges
   pub within : e ≤ length s
   pub later : p ≤ q
   pub long : q < e
-  pub is : (t : State) (a b : List ℤ) (n : ℕ) (f : Fields) → (i : ℕ) × (rest s p m (memory t a b k n f) ≡ afterBridge s e (bridgeAct r q (memory t a b (kindPending x) i f)))
+  pub is : (t : Steering) (a b : List ℤ) (n : ℕ) (f : Fields) → (i : ℕ) × (rest s p m (memory t a b k n f) ≡ afterBridge s e (bridgeAct r q (memory t a b (kindPending x) i f)))
 
 pub record SeenBranch (s : List ℕ) (p : ℕ) (m : Mode) (k : Pending) (q : ℕ) : Type 0 where
   pub here : q ≡ p
@@ -85,7 +85,7 @@ pub record SeenEnd (s : List ℕ) (p : ℕ) (m : Mode) (k : Pending) (q : ℕ) :
 
 pub record SeenWrong (s : List ℕ) (p : ℕ) (m : Mode) (k : Pending) (q : ℕ) : Type 0 where
   pub later : p ≤ q
-  pub is : (t : State) (a b : List ℤ) (n : ℕ) (f : Fields) → rest s p m (memory t a b k n f) ≡ bad 3 q
+  pub is : (t : Steering) (a b : List ℤ) (n : ℕ) (f : Fields) → rest s p m (memory t a b k n f) ≡ bad 3 q
 
 abbrev pub Seen : List ℕ → ℕ → Mode → Pending → Piece → Type 0
 Seen s p m k (Piece.Atom j q) = SeenAtom s p m k j q
@@ -98,4 +98,4 @@ Seen s p m k (Piece.Wrong q) = SeenWrong s p m k q
 pub record Joined (s : List ℕ) (p : ℕ) (r : Start) : Type 0 where
   pub within : r .at ≤ length s
   pub later : p ≤ r .at
-  pub is : (t : State) (a b : List ℤ) (n : ℕ) (f : Fields) → rest s p inside (memory t a b nothing n f) ≡ rest s (r .at) dot (memory t a b (pendingOf (r .joint)) n f)
+  pub is : (t : Steering) (a b : List ℤ) (n : ℕ) (f : Fields) → rest s p inside (memory t a b nothing n f) ≡ rest s (r .at) dot (memory t a b (pendingOf (r .joint)) n f)

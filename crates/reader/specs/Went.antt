@@ -9,12 +9,12 @@ use Rattle.refusal.specs.Code.{codeOf}
 use Rattle.grammar.specs.declared.Last.the-variants.{Plain as plain}
 use Rattle.grammar.specs.declared.Mode.{Mode}
 use Rattle.grammar.specs.declared.Mode.the-variants.{Seq as seq, Dot as dot}
-use Rattle.grammar.specs.Fold.{bad}
+use Rattle.grammar.specs.Fold.{Answer, bad}
 use Rattle.table.specs.Limits.{maxAtoms, maxBonds}
-use Rattle.state.specs.declared.State.{State}
+use Rattle.state.specs.State.{Steering, steering}
 use Rattle.state.specs.declared.Fields.{Fields}
 use Rattle.state.specs.Limits.{maxDepth}
-use Rattle.reading.specs.Memory.{Pending, nothing}
+use Rattle.reading.specs.Memory.{Memory, Pending, nothing}
 use Rattle.field.specs.Rest.{rest, memory}
 use Rattle.reader.specs.declared.piece.Joint.{Joint}
 use Rattle.reader.specs.declared.bridge.Why.{Why}
@@ -23,7 +23,7 @@ use Rattle.reader.specs.Piece.{pendingOf}
 use Rattle.reader.specs.Added.{Reaches}
 
 -- the counts are within the limits, and the atoms that the state holds are numbers of atoms
-pub record Fair (t : State) : Type 0 where
+pub record Fair (t : Steering) : Type 0 where
   pub atoms : t .atoms ≤ maxAtoms
   pub bonds : t .bonds ≤ maxBonds
   pub depth : t .depth ≤ maxDepth
@@ -31,22 +31,36 @@ pub record Fair (t : State) : Type 0 where
   pub stack : (i : ℕ) → getD (t .stack) i 0 ≤ maxAtoms
   pub opener : (i : ℕ) → getD (t .opener) i 0 ≤ maxAtoms + 1
 
-abbrev pub refusedAt : Refusal → ℕ → State → Out
+-- how a part of a text went, the next offset, and what steers the reading from there
+pub record Went : Type 0 where
+  pub why : Why
+  pub at : ℕ
+  pub st : Steering
+
+-- what the code hands back and the five arrays that are lent with its state
+abbrev pub went : Out → List ℕ → List ℕ → List ℕ → List ℕ → List ℕ → Went
+went o h u k p x = record { why = o .why; at = o .at; st = steering (o .st) h u k p x }
+
+abbrev pub refusedAt : Refusal → ℕ → Steering → Went
 refusedAt r p t = record { why = Why.Refused r p; at = p; st = t }
 
+-- a reading x goes on as it went
+abbrev pub GoesOn : List ℕ → Answer Memory → Why → ℕ → Steering → List ℤ → List ℤ → Type 0
+GoesOn s x Why.Fine q u a b = Reaches s x q (seq plain) nothing u a b
+GoesOn s x (Why.Refused r e) q u a b = x ≡ bad (codeOf r) e
+
 -- from p in the mode m with the joint k, the state t and the tables a, b, the reading goes on as it went
-abbrev pub Goes : List ℕ → ℕ → Mode → Pending → State → List ℤ → List ℤ → Why → ℕ → State → List ℤ → List ℤ → Type 0
-Goes s p m k t a b Why.Fine q u a′ b′ = (i : ℕ) (f : Fields) → Reaches s (rest s p m (memory t a b k i f)) q (seq plain) nothing u a′ b′
-Goes s p m k t a b (Why.Refused r e) q u a′ b′ = (i : ℕ) (f : Fields) → rest s p m (memory t a b k i f) ≡ bad (codeOf r) e
+abbrev pub Goes : List ℕ → ℕ → Mode → Pending → Steering → List ℤ → List ℤ → Why → ℕ → Steering → List ℤ → List ℤ → Type 0
+Goes s p m k t a b w q u a′ b′ = (i : ℕ) (f : Fields) → GoesOn s (rest s p m (memory t a b k i f)) w q u a′ b′
 
 -- after a part that was read from p in t: it lies after p and within the text, and the state is fair and as deep
-pub record PastFine (s : List ℕ) (p : ℕ) (t : State) (q : ℕ) (u : State) : Type 0 where
+pub record PastFine (s : List ℕ) (p : ℕ) (t : Steering) (q : ℕ) (u : Steering) : Type 0 where
   pub later : p < q
   pub within : q ≤ length s
   pub fair : Fair u
   pub deep : u .depth ≡ t .depth
 
-abbrev pub Past : List ℕ → ℕ → State → Why → ℕ → State → Type 0
+abbrev pub Past : List ℕ → ℕ → Steering → Why → ℕ → Steering → Type 0
 Past s p t Why.Fine q u = PastFine s p t q u
 Past s p t (Why.Refused r e) q u = Unit {0}
 
@@ -55,11 +69,11 @@ abbrev pub Stops : List ℕ → Why → ℕ → Type 0
 Stops s Why.Fine q = (getD s q 0 ≡ 41 → ⊥) → q ≡ length s
 Stops s (Why.Refused r e) q = Unit {0}
 
-pub record Sequenced (s : List ℕ) (p : ℕ) (j : Joint) (t : State) (a b a′ b′ : List ℤ) (o : Out) : Type 0 where
+pub record Sequenced (s : List ℕ) (p : ℕ) (j : Joint) (t : Steering) (a b a′ b′ : List ℤ) (o : Went) : Type 0 where
   pub goes : Goes s p dot (pendingOf j) t a b (o .why) (o .at) (o .st) a′ b′
   pub past : Past s p t (o .why) (o .at) (o .st)
   pub stops : Stops s (o .why) (o .at)
 
-pub record Branched (s : List ℕ) (p : ℕ) (t : State) (a b a′ b′ : List ℤ) (o : Out) : Type 0 where
+pub record Branched (s : List ℕ) (p : ℕ) (t : Steering) (a b a′ b′ : List ℤ) (o : Went) : Type 0 where
   pub goes : Goes s p (seq plain) nothing t a b (o .why) (o .at) (o .st) a′ b′
   pub past : Past s p t (o .why) (o .at) (o .st)

@@ -1,15 +1,18 @@
 // A bridge: it opens at the hub, or closes with a bond.
 ghost use mathlib.Core.Path.{_≡_};
-ghost use Prim.Native.Nat.{_≤_, _<_};
+ghost use mathlib.Core.List.{List, []};
+ghost use Prim.Native.Nat.{ℕ, _≤_, _<_};
 ghost use Rattle.table.specs.Limits.{maxBonds};
 ghost use Rattle.state.specs.Limits.{bridges, maxText};
+ghost use Rattle.state.specs.State.{steering};
 ghost use Rattle.reading.specs.Memory.{joins, joinedAlready, meet, between};
-ghost use Rattle.reader.specs.Went.{Fair, refusedAt};
+ghost use Rattle.reader.specs.Went.{Fair, went, refusedAt};
 ghost use Rattle.reader.specs.Bridge.{closingOf, Bridges};
 use crate::atom::bond_of;
 use ids::AtomId;
 use ids::BondId;
 use refusal::Refusal;
+use state::BRIDGES;
 use state::State;
 use table::Bond;
 use table::FIRST;
@@ -39,7 +42,7 @@ pub enum Closing {
 
 // internal: a refusal at an offset.
 pub fn refuse(r: Refusal, at: usize, st: State) -> Out
-    ensures { λ o. ⌜ o ≡ refusedAt r at st ⌝ }
+    ensures { λ o. ⌜ ((h u k p x : List ℕ) → went o h u k p x ≡ refusedAt r at (steering st h u k p x)) ⌝ }
 {
     let why = Why::Refused(r, at);
     Out { why, at, st }
@@ -112,16 +115,25 @@ fn close_at(bonds: &[i32], m: usize, u: AtomId, hub: AtomId, j: u8, k: u8) -> Cl
 }
 
 // internal: a bridge with its number, the kind of its symbol, and the offset of its digit or `%`.
-pub fn bridge(st: State, number: usize, kind: u8, at: usize, bonds: &mut [i32]) -> Out
-    requires { ⌜ Fair st ⌝ }
+pub fn bridge(
+    st: State,
+    number: usize,
+    kind: u8,
+    at: usize,
+    bonds: &mut [i32],
+    openers: &mut [u16; BRIDGES],
+    symbols: &mut [u8; BRIDGES],
+    offsets: &mut [u16; BRIDGES],
+) -> Out
+    requires { ⌜ Fair (steering st [] (now openers) (now symbols) (now offsets) []) ⌝ }
     requires { ⌜ number < bridges ⌝ }
     requires { ⌜ at ≤ maxText ⌝ }
-    ensures { λ r. ⌜ Bridges st number kind at (now (bonds .entry)) (now (bonds .exit)) r ⌝ }
+    ensures { λ r. ⌜ ((h x : List ℕ) → Fair (steering st h (now (openers .entry)) (now (symbols .entry)) (now (offsets .entry)) x) → Bridges (steering st h (now (openers .entry)) (now (symbols .entry)) (now (offsets .entry)) x) number kind at (now (bonds .entry)) (now (bonds .exit)) (went r h (now (openers .exit)) (now (symbols .exit)) (now (offsets .exit)) x)) ⌝ }
 {
     let fine = Why::Fine;
-    let u = st.opener[number] as usize;
+    let u = openers[number] as usize;
     if u == 0 {
-        let opened = st.join(number, kind, at);
+        let opened = st.join(number, kind, at, openers, symbols, offsets);
         return Out {
             why: fine,
             at,
@@ -129,11 +141,11 @@ pub fn bridge(st: State, number: usize, kind: u8, at: usize, bonds: &mut [i32]) 
         };
     }
     let m = st.bonds;
-    let c = close_at(bonds, m, AtomId(u - 1), st.hub, st.symbol[number], kind);
+    let c = close_at(bonds, m, AtomId(u - 1), st.hub, symbols[number], kind);
     match c {
         Closing::Bond(x) => {
             put_bond(bonds, BondId(m), x);
-            let closed = st.join(number, kind, at);
+            let closed = st.join(number, kind, at, openers, symbols, offsets);
             Out {
                 why: fine,
                 at,

@@ -1,10 +1,11 @@
 // After the last byte: open bridges, hydrogens, and whether a matching exists.
 ghost use mathlib.Core.Path.{_≡_};
-ghost use Prim.Native.Nat.{_<_};
-ghost use Rattle.table.specs.Limits.{maxAtoms};
+ghost use mathlib.Core.List.{List};
+ghost use Prim.Native.Nat.{ℕ, _≤_, _<_};
+ghost use Rattle.table.specs.Limits.{maxAtoms, maxBonds};
 ghost use Rattle.table.specs.Valid.{Valid};
+ghost use Rattle.state.specs.State.{steering};
 ghost use Rattle.reading.specs.Read.{earlier, leftmost, hydrogenated};
-ghost use Rattle.reader.specs.Went.{Fair};
 ghost use Rattle.reader.specs.Ending.{hydrogensBy, told, endedOf};
 use graph::fill_sums;
 use ids::AtomId;
@@ -42,13 +43,13 @@ fn earlier(p: usize, opener: u16, offset: u16) -> usize
 }
 
 // The offset of the leftmost opening; MAX_TEXT where no bridge is open.
-fn leftmost(st: State) -> usize
-    ensures { λ r. ⌜ r ≡ leftmost (st .opener) (st .offset) ⌝ }
+fn leftmost(openers: &[u16; BRIDGES], offsets: &[u16; BRIDGES]) -> usize
+    ensures { λ r. ⌜ r ≡ leftmost (now (openers .entry)) (now (offsets .entry)) ⌝ }
 {
     let mut p = MAX_TEXT;
     let mut i = 0;
     while i < BRIDGES {
-        p = earlier(p, st.opener[i], st.offset[i]);
+        p = earlier(p, openers[i], offsets[i]);
         i += 1;
     }
     p
@@ -69,33 +70,40 @@ fn hydrogenate_atom(atoms: &mut [i32], a: AtomId, outside: u8, sum: u16)
 }
 
 // Writes the hydrogens of every atom that stood outside brackets.
-fn hydrogenate(st: State, atoms: &mut [i32], bonds: &[i32])
-    requires { ⌜ Fair st ⌝ }
-    ensures { λ _. ⌜ now (atoms .exit) ≡ hydrogenated (st .outside) (now (bonds .entry)) (st .bonds) (st .atoms) (now (atoms .entry)) ⌝ }
+fn hydrogenate(st: State, outsides: &[u8; MAX_ATOMS], atoms: &mut [i32], bonds: &[i32])
+    requires { ⌜ (st .atoms ≤ maxAtoms) × (st .bonds ≤ maxBonds) ⌝ }
+    ensures { λ _. ⌜ now (atoms .exit) ≡ hydrogenated (now (outsides .entry)) (now (bonds .entry)) (st .bonds) (st .atoms) (now (atoms .entry)) ⌝ }
 {
     let mut sums = [0u16; MAX_ATOMS];
     fill_sums(bonds, st.bonds, &mut sums);
     let n = st.atoms;
     let mut i = 0;
     while i < n {
-        hydrogenate_atom(atoms, AtomId(i), st.outside[i], sums[i]);
+        hydrogenate_atom(atoms, AtomId(i), outsides[i], sums[i]);
         i += 1;
     }
 }
 
 // internal: what a text that was read whole answers: 10, 11 or the molecule.
-pub fn end(st: State, atoms: &mut [i32], bonds: &mut [i32]) -> Answer
-    requires { ⌜ Fair st ⌝ }
-    requires { ⌜ Valid (hydrogenated (st .outside) (now bonds) (st .bonds) (st .atoms) (now atoms)) (now bonds) (st .atoms) (st .bonds) ⌝ }
-    ensures { λ r. ⌜ told r (now (atoms .exit)) (now (bonds .exit)) ≡ endedOf st (now (atoms .entry)) (now (bonds .entry)) ⌝ }
+pub fn end(
+    st: State,
+    openers: &[u16; BRIDGES],
+    offsets: &[u16; BRIDGES],
+    outsides: &[u8; MAX_ATOMS],
+    atoms: &mut [i32],
+    bonds: &mut [i32],
+) -> Answer
+    requires { ⌜ (st .atoms ≤ maxAtoms) × (st .bonds ≤ maxBonds) ⌝ }
+    requires { ⌜ Valid (hydrogenated (now outsides) (now bonds) (st .bonds) (st .atoms) (now atoms)) (now bonds) (st .atoms) (st .bonds) ⌝ }
+    ensures { λ r. ⌜ ((h k : List ℕ) → told r (now (atoms .exit)) (now (bonds .exit)) ≡ endedOf (steering st h (now (openers .entry)) k (now (offsets .entry)) (now (outsides .entry))) (now (atoms .entry)) (now (bonds .entry))) ⌝ }
 {
-    let p = leftmost(st);
+    let p = leftmost(openers, offsets);
     if p < MAX_TEXT {
         clear(atoms);
         clear(bonds);
         return Answer::Refused(Refusal::OpenBridge, p);
     }
-    hydrogenate(st, atoms, bonds);
+    hydrogenate(st, outsides, atoms, bonds);
     let n = st.atoms;
     let m = st.bonds;
     if kekule::matchable(atoms, bonds, n, m) {

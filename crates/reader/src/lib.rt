@@ -4,7 +4,8 @@ ghost use Prim.Native.Nat.{_≤_};
 ghost use lib.ListN.{length};
 ghost use Rattle.state.specs.Limits.{maxText};
 ghost use Rattle.reading.specs.Read.{readOf};
-ghost use Rattle.reader.specs.Ending.{told, TextRead};
+ghost use Rattle.reader.specs.Went.{went};
+ghost use Rattle.reader.specs.Ending.{told, Unread, TextRead};
 use crate::bridge::Out;
 use crate::bridge::Why;
 use crate::bridge::refuse;
@@ -13,7 +14,10 @@ use crate::ending::MAX_TEXT;
 use crate::piece::Joint;
 use crate::sequence::sequence;
 use refusal::Refusal;
+use state::BRIDGES;
+use state::MAX_DEPTH;
 use state::State;
+use table::MAX_ATOMS;
 use table::row::clear;
 use table::validity;
 
@@ -23,10 +27,20 @@ pub mod ending;
 pub mod piece;
 pub mod sequence;
 
-// The whole text, into zeroed tables: empty, or one sequence.
-fn read_text(text: &[u8], atoms: &mut [i32], bonds: &mut [i32]) -> Out
+// The whole text, into zeroed tables, with zeroed arrays for the state: empty, or one sequence.
+fn read_text(
+    text: &[u8],
+    atoms: &mut [i32],
+    bonds: &mut [i32],
+    hubs: &mut [u16; MAX_DEPTH],
+    openers: &mut [u16; BRIDGES],
+    symbols: &mut [u8; BRIDGES],
+    offsets: &mut [u16; BRIDGES],
+    outsides: &mut [u8; MAX_ATOMS],
+) -> Out
     requires { ⌜ length (now text) ≤ maxText ⌝ }
-    ensures { λ r. ⌜ TextRead (now (text .entry)) (now (atoms .entry)) (now (bonds .entry)) (now (atoms .exit)) (now (bonds .exit)) r ⌝ }
+    requires { ⌜ Unread (now hubs) (now openers) (now symbols) (now offsets) (now outsides) ⌝ }
+    ensures { λ r. ⌜ TextRead (now (text .entry)) (now (atoms .entry)) (now (bonds .entry)) (now (atoms .exit)) (now (bonds .exit)) (went r (now (hubs .exit)) (now (openers .exit)) (now (symbols .exit)) (now (offsets .exit)) (now (outsides .exit))) ⌝ }
 {
     let st = State::new();
     if text.len() == 0 {
@@ -37,7 +51,19 @@ fn read_text(text: &[u8], atoms: &mut [i32], bonds: &mut [i32]) -> Out
             st,
         };
     }
-    let o = sequence(text, 0, Joint::Elided, st, atoms, bonds);
+    let o = sequence(
+        text,
+        0,
+        Joint::Elided,
+        st,
+        atoms,
+        bonds,
+        hubs,
+        openers,
+        symbols,
+        offsets,
+        outsides,
+    );
     let w = o.why;
     let Why::Fine = w else {
         return o;
@@ -63,12 +89,26 @@ pub fn read(text: &[u8], atoms: &mut [i32], bonds: &mut [i32]) -> Answer
     if MAX_TEXT < text.len() {
         return Answer::Refused(Refusal::LongText, MAX_TEXT);
     }
-    let o = read_text(text, atoms, bonds);
+    let mut hubs = [0u16; MAX_DEPTH];
+    let mut openers = [0u16; BRIDGES];
+    let mut symbols = [0u8; BRIDGES];
+    let mut offsets = [0u16; BRIDGES];
+    let mut outsides = [0u8; MAX_ATOMS];
+    let o = read_text(
+        text,
+        atoms,
+        bonds,
+        &mut hubs,
+        &mut openers,
+        &mut symbols,
+        &mut offsets,
+        &mut outsides,
+    );
     let w = o.why;
     match w {
         Why::Fine => {
             let st = o.st;
-            ending::end(st, atoms, bonds)
+            ending::end(st, &openers, &offsets, &outsides, atoms, bonds)
         }
         Why::Refused(r, p) => {
             clear(atoms);

@@ -1,9 +1,12 @@
-// Sequences and branches: each reader calls the other, and the unread byte count falls.
+// Chains of atoms and bridges; sequences and branches, each of whose readers calls the other, and the unread byte count falls.
 ghost use mathlib.Core.Path.{_≡_};
-ghost use Prim.Native.Nat.{_≤_, _<_};
+ghost use mathlib.Core.List.{List, []};
+ghost use Prim.Native.Nat.{ℕ, _≤_, _<_};
 ghost use lib.ListN.{length, getD};
 ghost use Rattle.state.specs.Limits.{maxText};
-ghost use Rattle.reader.specs.Went.{Fair, Sequenced, Branched};
+ghost use Rattle.state.specs.State.{steering};
+ghost use Rattle.reader.specs.Went.{Fair, went, Sequenced, Branched};
+ghost use Rattle.reader.specs.Chain.{Lies, Chained};
 use crate::atom::Added;
 use crate::atom::atom_at;
 use crate::bridge::Out;
@@ -17,25 +20,30 @@ use crate::piece::joint_at;
 use field::byte::peek;
 use ids::AtomId;
 use refusal::Refusal;
+use state::BRIDGES;
 use state::MAX_DEPTH;
 use state::State;
+use table::MAX_ATOMS;
 
-// internal: an atom at an offset after a joint, and any number of pieces.
-pub fn sequence(
+// Atoms and bridges from a piece on, up to a `(`, a `)` or the end of the text.
+fn chain(
     s: &[u8],
-    at: usize,
-    joint: Joint,
+    start: Piece,
     st: State,
     atoms: &mut [i32],
     bonds: &mut [i32],
+    openers: &mut [u16; BRIDGES],
+    symbols: &mut [u8; BRIDGES],
+    offsets: &mut [u16; BRIDGES],
+    outsides: &mut [u8; MAX_ATOMS],
 ) -> Out
-    requires { ⌜ Fair st ⌝ }
-    requires { ⌜ at ≤ length (now s) ⌝ }
+    requires { ⌜ Fair (steering st [] (now openers) (now symbols) (now offsets) (now outsides)) ⌝ }
+    requires { ⌜ Lies (now s) start ⌝ }
     requires { ⌜ length (now s) ≤ maxText ⌝ }
-    ensures { λ r. ⌜ Sequenced (now (s .entry)) at joint st (now (atoms .entry)) (now (bonds .entry)) (now (atoms .exit)) (now (bonds .exit)) r ⌝ }
+    ensures { λ r. ⌜ ((h : List ℕ) → Fair (steering st h (now (openers .entry)) (now (symbols .entry)) (now (offsets .entry)) (now (outsides .entry))) → Chained (now (s .entry)) start (steering st h (now (openers .entry)) (now (symbols .entry)) (now (offsets .entry)) (now (outsides .entry))) (now (atoms .entry)) (now (bonds .entry)) (now (atoms .exit)) (now (bonds .exit)) (went r h (now (openers .exit)) (now (symbols .exit)) (now (offsets .exit)) (now (outsides .exit)))) ⌝ }
 {
     let mut cur = st;
-    let mut piece = Piece::Atom(joint, at);
+    let mut piece = start;
     loop {
         match piece {
             Piece::Atom(j, q) => {
@@ -47,7 +55,7 @@ pub fn sequence(
                         cur.hub = h;
                         cur.atoms = n + 1;
                         cur.bonds = m;
-                        cur.outside[n] = outside;
+                        outsides[n] = outside;
                         piece = glance(s, p);
                         continue;
                     }
@@ -57,7 +65,7 @@ pub fn sequence(
                 }
             }
             Piece::Bridge(r, k, q, p) => {
-                let o = bridge(cur, r, k, q, bonds);
+                let o = bridge(cur, r, k, q, bonds, openers, symbols, offsets);
                 let w = o.why;
                 let Why::Fine = w else {
                     return o;
@@ -67,18 +75,7 @@ pub fn sequence(
                 piece = glance(s, p);
                 continue;
             }
-            Piece::Branch(q) => {
-                let o = branch(s, q, cur, atoms, bonds);
-                let w = o.why;
-                let Why::Fine = w else {
-                    return o;
-                };
-                let t = o.st;
-                cur = t;
-                piece = glance(s, o.at);
-                continue;
-            }
-            Piece::End(p) => {
+            Piece::Branch(p) | Piece::End(p) => {
                 let fine = Why::Fine;
                 return Out {
                     why: fine,
@@ -93,22 +90,117 @@ pub fn sequence(
     }
 }
 
+// internal: an atom at an offset after a joint, and any number of pieces.
+pub fn sequence(
+    s: &[u8],
+    at: usize,
+    joint: Joint,
+    st: State,
+    atoms: &mut [i32],
+    bonds: &mut [i32],
+    hubs: &mut [u16; MAX_DEPTH],
+    openers: &mut [u16; BRIDGES],
+    symbols: &mut [u8; BRIDGES],
+    offsets: &mut [u16; BRIDGES],
+    outsides: &mut [u8; MAX_ATOMS],
+) -> Out
+    requires { ⌜ Fair (steering st (now hubs) (now openers) (now symbols) (now offsets) (now outsides)) ⌝ }
+    requires { ⌜ at ≤ length (now s) ⌝ }
+    requires { ⌜ length (now s) ≤ maxText ⌝ }
+    ensures { λ r. ⌜ Sequenced (now (s .entry)) at joint (steering st (now (hubs .entry)) (now (openers .entry)) (now (symbols .entry)) (now (offsets .entry)) (now (outsides .entry))) (now (atoms .entry)) (now (bonds .entry)) (now (atoms .exit)) (now (bonds .exit)) (went r (now (hubs .exit)) (now (openers .exit)) (now (symbols .exit)) (now (offsets .exit)) (now (outsides .exit))) ⌝ }
+{
+    let mut o = chain(
+        s,
+        Piece::Atom(joint, at),
+        st,
+        atoms,
+        bonds,
+        openers,
+        symbols,
+        offsets,
+        outsides,
+    );
+    loop {
+        let w = o.why;
+        let Why::Fine = w else {
+            return o;
+        };
+        let q = o.at;
+        if peek(s, q) != 40 {
+            return o;
+        }
+        let t = o.st;
+        let b = branch(
+            s,
+            q,
+            t,
+            atoms,
+            bonds,
+            hubs,
+            openers,
+            symbols,
+            offsets,
+            outsides,
+        );
+        let v = b.why;
+        let Why::Fine = v else {
+            return b;
+        };
+        let u = b.st;
+        let piece = glance(s, b.at);
+        o = chain(
+            s,
+            piece,
+            u,
+            atoms,
+            bonds,
+            openers,
+            symbols,
+            offsets,
+            outsides,
+        );
+    }
+}
+
 // internal: a branch, whose `(` stands at the offset.
-pub fn branch(s: &[u8], at: usize, st: State, atoms: &mut [i32], bonds: &mut [i32]) -> Out
-    requires { ⌜ Fair st ⌝ }
+pub fn branch(
+    s: &[u8],
+    at: usize,
+    st: State,
+    atoms: &mut [i32],
+    bonds: &mut [i32],
+    hubs: &mut [u16; MAX_DEPTH],
+    openers: &mut [u16; BRIDGES],
+    symbols: &mut [u8; BRIDGES],
+    offsets: &mut [u16; BRIDGES],
+    outsides: &mut [u8; MAX_ATOMS],
+) -> Out
+    requires { ⌜ Fair (steering st (now hubs) (now openers) (now symbols) (now offsets) (now outsides)) ⌝ }
     requires { ⌜ at < length (now s) ⌝ }
     requires { ⌜ getD (now s) at 0 ≡ 40 ⌝ }
     requires { ⌜ length (now s) ≤ maxText ⌝ }
-    ensures { λ r. ⌜ Branched (now (s .entry)) at st (now (atoms .entry)) (now (bonds .entry)) (now (atoms .exit)) (now (bonds .exit)) r ⌝ }
+    ensures { λ r. ⌜ Branched (now (s .entry)) at (steering st (now (hubs .entry)) (now (openers .entry)) (now (symbols .entry)) (now (offsets .entry)) (now (outsides .entry))) (now (atoms .entry)) (now (bonds .entry)) (now (atoms .exit)) (now (bonds .exit)) (went r (now (hubs .exit)) (now (openers .exit)) (now (symbols .exit)) (now (offsets .exit)) (now (outsides .exit))) ⌝ }
 {
     let d = st.depth;
     if MAX_DEPTH <= d {
         return refuse(Refusal::DeepBranch, at, st);
     }
-    let inner = st.open();
+    let inner = st.open(hubs);
     let start = joint_at(s, at + 1);
     let joint = start.joint;
-    let o = sequence(s, start.at, joint, inner, atoms, bonds);
+    let o = sequence(
+        s,
+        start.at,
+        joint,
+        inner,
+        atoms,
+        bonds,
+        hubs,
+        openers,
+        symbols,
+        offsets,
+        outsides,
+    );
     let w = o.why;
     let Why::Fine = w else {
         return o;
@@ -116,7 +208,7 @@ pub fn branch(s: &[u8], at: usize, st: State, atoms: &mut [i32], bonds: &mut [i3
     let e = o.at;
     let t = o.st;
     if peek(s, e) == 41 {
-        let back = t.close();
+        let back = t.close(hubs);
         let fine = Why::Fine;
         return Out {
             why: fine,

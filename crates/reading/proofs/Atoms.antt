@@ -24,7 +24,7 @@ use Rattle.state.specs.declared.Fields.{Fields}
 use Rattle.reading.specs.Memory.{Memory, kindOf, afterDot, bareRow, bondRow, bonded, begun, described, drafted}
 use Rattle.reading.specs.Act.{firstByte, atomAct}
 use Rattle.reading.proofs.Cases.{by-test}
-use Rattle.reading.proofs.Sane.{Tables, Steering, HalfRead, Sane, SaneAct}
+use Rattle.reading.proofs.Sane.{Tables, Steers, HalfRead, Sane, SaneAct}
 use Rattle.reading.proofs.Rows.{rowOk}
 use Rattle.reading.proofs.Tables.{atom-added, atom-described, bond-added}
 use Rattle.reading.proofs.Steering.{later, extended-steering}
@@ -34,7 +34,7 @@ use Rattle.reading.proofs.Letters.{Begins}
 -- what does not depend on the mode: before the first atom there is no hub
 pub record Ready (p q d i : ℕ) (μ : Memory) : Type 0 where
   pub tables : Tables p q (μ .st .atoms) (μ .st .bonds) (μ .atoms) (μ .bonds)
-  pub steering : Steering i (μ .st)
+  pub steering : Steers i (μ .st)
   pub kind : kindOf (μ .pending) ≤ 3
   pub depth : μ .st .depth ≡ d
   pub hub : (μ .st .atoms ≡ 0 → ⊥) → μ .st .hub .0 < μ .st .atoms
@@ -42,7 +42,7 @@ pub record Ready (p q d i : ℕ) (μ : Memory) : Type 0 where
 -- and after the first atom
 pub record Held (p q d i : ℕ) (μ : Memory) : Type 0 where
   pub tables : Tables p q (μ .st .atoms) (μ .st .bonds) (μ .atoms) (μ .bonds)
-  pub steering : Steering i (μ .st)
+  pub steering : Steers i (μ .st)
   pub kind : kindOf (μ .pending) ≤ 3
   pub depth : μ .st .depth ≡ d
   pub hub : μ .st .hub .0 < μ .st .atoms

@@ -16,7 +16,7 @@ use Rattle.table.specs.Limits.{maxAtoms, maxBonds, atomCells, bondCells, FIRST}
 use Rattle.table.specs.Cells.{inRange, bondCell, end1, end2}
 use Rattle.table.specs.Valid.{atomOk, kindOk, selectable}
 use Rattle.state.specs.Limits.{maxDepth, bridges}
-use Rattle.state.specs.declared.State as state
+use Rattle.state.specs.State.{Steering}
 use Rattle.state.specs.declared.Fields.{Fields}
 use Rattle.reading.specs.Memory.{Memory, kindOf}
 
@@ -46,7 +46,7 @@ pub record Tables (p q n m : ℕ) (atoms bonds : List ℤ) : Type 0 where
 -- ---- the state
 
 -- the open branches and the open bridges name atoms that were read, i bytes of the text being behind
-pub record Steering (i : ℕ) (s : state.State) : Type 0 where
+pub record Steers (i : ℕ) (s : Steering) : Type 0 where
   pub stack-length : length (s .stack) ≡ maxDepth
   pub opener-length : length (s .opener) ≡ bridges
   pub symbol-length : length (s .symbol) ≡ bridges
@@ -106,7 +106,7 @@ HalfRead (extension k) μ = (k ≤ 3) × InRange 999 (extensionMost k) (μ .draf
 -- ---- the machine's state
 
 -- nothing is read yet
-pub record Unread (s : state.State) : Type 0 where
+pub record Unread (s : Steering) : Type 0 where
   pub atoms : s .atoms ≡ 0
   pub bonds : s .bonds ≡ 0
   pub depth : s .depth ≡ 0
@@ -127,7 +127,7 @@ Stands (at m d) μ = Standing m d μ
 -- i bytes are read, the machine is in the state σ, the tables have p and q cells
 pub record Sane (p q : ℕ) (σ : State) (i : ℕ) (μ : Memory) : Type 0 where
   pub tables : Tables p q (μ .st .atoms) (μ .st .bonds) (μ .atoms) (μ .bonds)
-  pub steering : Steering i (μ .st)
+  pub steering : Steers i (μ .st)
   pub kind : kindOf (μ .pending) ≤ 3
   pub stands : Stands σ μ
 

@@ -8,10 +8,9 @@ use lib.ListN.{length, getD, set, replicate, length-set, length-replicate}
 use lib.Seq.{getD-set-same, getD-set-other}
 use Rattle.table.specs.Limits.{maxAtoms}
 use Rattle.state.specs.Limits.{maxDepth, bridges}
-use Rattle.state.specs.declared.State.{State}
-use Rattle.state.specs.State.{started, opened, closed, bridged}
+use Rattle.state.specs.State.{Steering, started, opened, closed, bridged}
 use Rattle.reading.specs.Memory.{extended}
-use Rattle.reading.proofs.Sane.{Steering}
+use Rattle.reading.proofs.Sane.{Steers}
 
 -- what holds of a value, and of every cell, holds of every cell after the value is written
 set-each : (P : ℕ → Type 0) (l : List ℕ) (i v : ℕ) → i < length l → P v → ((k : ℕ) → P (getD l k 0)) → (k : ℕ) → P (getD (set l i v) k 0)
@@ -26,7 +25,7 @@ replicate-0 zero k = refl
 replicate-0 (suc n) zero = refl
 replicate-0 (suc n) (suc k) = replicate-0 n k
 
-pub started-steering : Steering 0 started
+pub started-steering : Steers 0 started
 unfolding started
 started-steering =
     record {
@@ -42,9 +41,9 @@ started-steering =
       offset = λ r l. absurd (omega (arith, replicate-0 bridges r));
     }
 
-module _ {i : ℕ} {s : State} (w : Steering i s) where
+module _ {i : ℕ} {s : Steering} (w : Steers i s) where
   -- a byte later
-  pub later : Steering (suc i) s
+  pub later : Steers (suc i) s
   later =
       record {
         stack-length = w .stack-length;
@@ -60,7 +59,7 @@ module _ {i : ℕ} {s : State} (w : Steering i s) where
       }
 
   -- one atom more
-  pub extended-steering : (x m : ℕ) → Steering (suc i) (extended s x m)
+  pub extended-steering : (x m : ℕ) → Steers (suc i) (extended s x m)
   extended-steering x m =
       record {
         stack-length = w .stack-length;
@@ -76,7 +75,7 @@ module _ {i : ℕ} {s : State} (w : Steering i s) where
       }
 
   -- a branch more
-  pub opened-steering : s .depth < maxDepth → s .hub .0 < s .atoms → Steering (suc i) (opened s)
+  pub opened-steering : s .depth < maxDepth → s .hub .0 < s .atoms → Steers (suc i) (opened s)
   unfolding opened
   opened-steering d h =
       record {
@@ -100,7 +99,7 @@ module _ {i : ℕ} {s : State} (w : Steering i s) where
           split (no n) = rw (getD-set-other (s .stack) (s .depth) k (s .hub .0) 0 n) (w .stack k (omega arith))
 
   -- a branch less
-  pub closed-steering : 0 < s .depth → Steering (suc i) (closed s)
+  pub closed-steering : 0 < s .depth → Steers (suc i) (closed s)
   unfolding closed
   closed-steering d =
       record {
@@ -122,7 +121,7 @@ module _ {i : ℕ} {s : State} (w : Steering i s) where
   closed-hub d = w .stack (s .depth - 1) (omega arith)
 
   -- another opener, symbol and offset of a bridge number
-  pub bridged-steering : (r a k p m : ℕ) → r < bridges → a ≤ s .atoms → k ≤ 3 → p ≤ i → Steering (suc i) (bridged s r a k p m)
+  pub bridged-steering : (r a k p m : ℕ) → r < bridges → a ≤ s .atoms → k ≤ 3 → p ≤ i → Steers (suc i) (bridged s r a k p m)
   bridged-steering r a k p m h ha hk hp =
       record {
         stack-length = w .stack-length;

@@ -11,7 +11,7 @@ use Rattle.table.specs.declared.Bond.{Bond}
 use Rattle.table.specs.Limits.{maxAtoms, maxBonds}
 use Rattle.table.specs.Cells.{end1, end2}
 use Rattle.table.specs.Rows.{withAtom, withBond}
-use Rattle.state.specs.declared.State.{State}
+use Rattle.state.specs.State.{Steering}
 use Rattle.state.specs.declared.Fields.{Fields}
 
 -- what stands before the next atom or bridge: nothing, a dot, or a bond symbol of a kind
@@ -22,7 +22,7 @@ pub data Pending : Type 0 where
 
 -- the state, both tables, the pending joint, the first digit after `%`, and the fields of the bracket being read
 pub record Memory : Type 0 where
-  pub st : State
+  pub st : Steering
   pub atoms : List ℤ
   pub bonds : List ℤ
   pub pending : Pending
@@ -73,7 +73,7 @@ between a b k = pick (ltb a b) (bondRow a b k) (bondRow b a k)
 -- ---- a new atom
 
 -- one atom more, which is the hub; x: 1 if it stands outside brackets
-abbrev pub extended : State → ℕ → ℕ → State
+abbrev pub extended : Steering → ℕ → ℕ → Steering
 extended s x m =
     record {
       hub = record { 0 = s .atoms };
@@ -118,7 +118,7 @@ described x μ =
 abbrev pub awaiting : Pending → Memory → Memory
 awaiting p μ = record { st = μ .st; atoms = μ .atoms; bonds = μ .bonds; pending = p; tens = μ .tens; draft = μ .draft }
 
-abbrev pub moved : State → Memory → Memory
+abbrev pub moved : Steering → Memory → Memory
 moved s μ = record { st = s; atoms = μ .atoms; bonds = μ .bonds; pending = nothing; tens = μ .tens; draft = μ .draft }
 
 abbrev pub counting : ℕ → Memory → Memory

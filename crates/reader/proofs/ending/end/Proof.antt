@@ -20,7 +20,7 @@ same-length-2 : tie.Need-same-length-2
 same-length-2 c = search needs
 
 returns : tie.Need-returns
-returns c = ended-open _ _ _ (c .before .before .before .before .before .before .before .leftmost .ensures) (c .before .before .before .before .before .before .if1 .taken) (c .before .before .before .before .clear .ensures) (c .before .clear2 .ensures)
+returns c = λ h k. ended-open _ _ _ (c .before .before .before .before .before .before .before .leftmost .ensures) (c .before .before .before .before .before .before .if1 .taken) (c .before .before .before .before .clear .ensures) (c .before .clear2 .ensures)
 
 hydrogenate-requires : tie.Need-hydrogenate-requires
 hydrogenate-requires c κs = c .before .before .before .before .pre .0
@@ -35,7 +35,7 @@ same-length-4 : tie.Need-same-length-4
 same-length-4 c = search needs
 
 returns-2 : tie.Need-returns-2
-returns-2 c = ended-matched _ _ _ (c .before .before .before .before .before .before .before .before .before .leftmost .ensures) (c .before .before .before .before .before .before .before .before .if1 .left) (c .before .before .before .before .before .hydrogenate .ensures) (sym (c .before .matchable .ensures) ∙ c .if2 .taken)
+returns-2 c = λ h k. ended-matched _ _ _ (c .before .before .before .before .before .before .before .before .before .leftmost .ensures) (c .before .before .before .before .before .before .before .before .if1 .left) (c .before .before .before .before .before .hydrogenate .ensures) (sym (c .before .matchable .ensures) ∙ c .if2 .taken)
 
 clear-requires-3 : tie.Need-clear-requires-3
 clear-requires-3 c κs = search needs
@@ -50,7 +50,7 @@ same-length-6 : tie.Need-same-length-6
 same-length-6 c = search needs
 
 returns-3 : tie.Need-returns-3
-returns-3 c = ended-unmatched _ _ _ (c .before .before .before .before .before .before .before .before .before .before .before .before .before .before .before .leftmost .ensures) (c .before .before .before .before .before .before .before .before .before .before .before .before .before .before .if1 .left) (c .before .before .before .before .before .before .before .before .before .before .before .hydrogenate .ensures) (sym (c .before .before .before .before .before .before .before .matchable .ensures) ∙ c .before .before .before .before .before .before .if2 .left) (c .before .before .before .before .clear3 .ensures) (c .before .clear4 .ensures)
+returns-3 c = λ h k. ended-unmatched _ _ _ (c .before .before .before .before .before .before .before .before .before .before .before .before .before .before .before .leftmost .ensures) (c .before .before .before .before .before .before .before .before .before .before .before .before .before .before .if1 .left) (c .before .before .before .before .before .before .before .before .before .before .before .hydrogenate .ensures) (sym (c .before .before .before .before .before .before .before .matchable .ensures) ∙ c .before .before .before .before .before .before .if2 .left) (c .before .before .before .before .clear3 .ensures) (c .before .clear4 .ensures)
 
 pub end-spec : {M : Type 1} → statement M
 end-spec =

@@ -1,4 +1,4 @@
-use Prim.Native.Nat.{_-_}
+use Prim.Native.Nat.{ℕ, _-_}
 use mathlib.Core.Path.{_≡_, _∙_}
 use native.Mathlib.Omega.{arith}
 use borrow.Author.Needs.{needs}
@@ -12,10 +12,10 @@ use Rattle.reader.proofs.ending.hydrogenate.Statement.{statement}
 use Rattle.reader.proofs.ending.hydrogenate.Tie as tie
 
 abbrev Inv-loop : tie.InvT-loop
-Inv-loop atoms₀ bonds st sums n i₀ atoms i = (sums ≡ upTo (bondSum bonds (st .bonds)) 0 maxAtoms) × Edited (reading.hydrogenate (st .outside) bonds (st .bonds)) atoms₀ n i atoms
+Inv-loop outsides atoms₀ bonds sums n i₀ atoms i = (m : ℕ) → sums ≡ upTo (bondSum bonds m) 0 maxAtoms → Edited (reading.hydrogenate outsides bonds m) atoms₀ n i atoms
 
 abbrev μ-loop : tie.MeasureT-loop
-μ-loop atoms₀ bonds st sums n i₀ atoms i = n - i
+μ-loop outsides atoms₀ bonds sums n i₀ atoms i = n - i
 
 slice-aggregate-fill-sums : tie.Need-slice-aggregate-fill-sums Inv-loop μ-loop
 slice-aggregate-fill-sums c = search needs
@@ -24,35 +24,35 @@ fill-sums-requires : tie.Need-fill-sums-requires Inv-loop μ-loop
 fill-sums-requires c κs = search needs
 
 loop-holds : tie.Need-loop-holds Inv-loop μ-loop
-loop-holds c = (c .before .fill-sums .ensures, edited-start)
+loop-holds c = λ m e. edited-start
 
 element-copy-out-hydrogenate-atom : tie.Need-element-copy-out-hydrogenate-atom Inv-loop μ-loop
-element-copy-out-hydrogenate-atom c = omega (arith, c .before .before .before .before .before .before .pre .atoms)
+element-copy-out-hydrogenate-atom c = omega (arith, c .before .before .before .before .before .before .pre .0)
 
 mul-hydrogenate-atom : tie.Need-mul-hydrogenate-atom Inv-loop μ-loop
 mul-hydrogenate-atom c = search needs
 
 array-read-hydrogenate-atom : tie.Need-array-read-hydrogenate-atom Inv-loop μ-loop
-array-read-hydrogenate-atom c = omega (arith, c .before .before .before .before .before .before .before .pre .atoms)
+array-read-hydrogenate-atom c = omega (arith, c .before .before .before .before .before .before .before .pre .0)
 
 hydrogenate-atom-requires : tie.Need-hydrogenate-atom-requires Inv-loop μ-loop
-hydrogenate-atom-requires c κs = omega (arith, c .before .before .before .before .before .before .before .pre .atoms)
+hydrogenate-atom-requires c κs = omega (arith, c .before .before .before .before .before .before .before .pre .0)
 
 add-i : tie.Need-add-i Inv-loop μ-loop
-add-i c = omega (arith, c .before .before .before .before .before .before .before .before .before .pre .atoms)
+add-i c = omega (arith, c .before .before .before .before .before .before .before .before .before .pre .0)
 
 loop-less : tie.Need-loop-less Inv-loop μ-loop
 loop-less c = omega arith
 
 loop-again : tie.Need-loop-again Inv-loop μ-loop
-loop-again c = (c .before .before .before .before .before .loop .inv .0, edited-step (c .before .before .before .before .before .loop .inv .1) _ (c .before .before .before .before .loop-test .taken) (c .before .hydrogenate-atom .ensures ∙ hydrogens-step (c .before .before .before .before .before .before .before .before .before .args .t1 .outside) (c .before .before .before .before .before .before .before .before .before .args .bonds .now) (c .before .before .before .before .before .before .before .before .before .args .t1 .bonds) (c .before .before .before .before .before .loop .i) (c .before .before .before .before .before .loop .atoms) (c .before .before .before .before .before .loop .inv .0) (omega (arith, c .before .before .before .before .before .before .before .before .before .pre .atoms, c .before .before .before .before .loop-test .taken))) (c .before .hydrogenate-atom .kept .0))
+loop-again c = λ m e. edited-step (c .before .before .before .before .before .loop .inv m e) _ (c .before .before .before .before .loop-test .taken) (c .before .hydrogenate-atom .ensures ∙ hydrogens-step (c .before .before .before .before .before .before .before .before .before .args .outsides .now) (c .before .before .before .before .before .before .before .before .before .args .bonds .now) m (c .before .before .before .before .before .loop .i) (c .before .before .before .before .before .loop .atoms) e (omega (arith, c .before .before .before .before .before .before .before .before .before .pre .0, c .before .before .before .before .loop-test .taken))) (c .before .hydrogenate-atom .kept .0)
 
 same-length : tie.Need-same-length Inv-loop μ-loop
-same-length c = c .before .loop .inv .1 .room
+same-length c = c .before .loop .inv _ (c .before .before .before .fill-sums .ensures) .room
 
 returns : tie.Need-returns Inv-loop μ-loop
 unfolding reading.hydrogenated
-returns c = edited-end (c .before .loop .inv .1) (c .loop-test .left)
+returns c = edited-end (c .before .loop .inv _ (c .before .before .before .fill-sums .ensures)) (c .loop-test .left)
 
 pub hydrogenate-spec : {M : Type 1} → statement M
 hydrogenate-spec =

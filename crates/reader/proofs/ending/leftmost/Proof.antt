@@ -9,10 +9,10 @@ use Rattle.reader.proofs.ending.leftmost.Statement.{statement}
 use Rattle.reader.proofs.ending.leftmost.Tie as tie
 
 abbrev Inv-loop : tie.InvT-loop
-Inv-loop st p₀ i₀ p i = Ran (λ r q. earlier q (getD (st .opener) r 0) (getD (st .offset) r 0)) maxText bridges i p
+Inv-loop openers offsets p₀ i₀ p i = Ran (λ r q. earlier q (getD openers r 0) (getD offsets r 0)) maxText bridges i p
 
 abbrev μ-loop : tie.MeasureT-loop
-μ-loop st p₀ i₀ p i = bridges - i
+μ-loop openers offsets p₀ i₀ p i = bridges - i
 
 loop-holds : tie.Need-loop-holds Inv-loop μ-loop
 loop-holds c = ran-start

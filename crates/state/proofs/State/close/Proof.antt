@@ -15,20 +15,20 @@ mul-h c = search needs
 element-copy-out-h : tie.Need-element-copy-out-h
 element-copy-out-h c = search needs
 
-cast-self : tie.Need-cast-self
-cast-self c = search needs
+cast-hubs : tie.Need-cast-hubs
+cast-hubs c = search needs
 
-mul-self : tie.Need-mul-self
-mul-self c = search needs
+mul-hubs : tie.Need-mul-hubs
+mul-hubs c = search needs
 
-element-write-self : tie.Need-element-write-self
-element-write-self c = search needs
+element-write-hubs : tie.Need-element-write-hubs
+element-write-hubs c = search needs
 
 returns : tie.Need-returns
 unfolding closed
-returns c = refl
+returns c = λ u k p x. refl
 
 pub close-spec : {M : Type 1} → statement M
 close-spec =
     tie.close
-    (tie.spec sub-d mul-h element-copy-out-h cast-self mul-self element-write-self returns)
+    (tie.spec sub-d mul-h element-copy-out-h cast-hubs mul-hubs element-write-hubs returns)

@@ -12,55 +12,55 @@ mul-if1 c = search needs
 element-copy-out-if1 : tie.Need-element-copy-out-if1
 element-copy-out-if1 c = search needs
 
-add-self : tie.Need-add-self
-add-self c = search needs
+add-openers : tie.Need-add-openers
+add-openers c = search needs
 
-cast-self : tie.Need-cast-self
-cast-self c = search needs
+cast-openers : tie.Need-cast-openers
+cast-openers c = search needs
 
-mul-self : tie.Need-mul-self
-mul-self c = search needs
+mul-openers : tie.Need-mul-openers
+mul-openers c = search needs
 
-element-write-self : tie.Need-element-write-self
-element-write-self c = search needs
+element-write-openers : tie.Need-element-write-openers
+element-write-openers c = search needs
 
-element-write-self-2 : tie.Need-element-write-self-2
-element-write-self-2 c = search needs
+element-write-symbols : tie.Need-element-write-symbols
+element-write-symbols c = search needs
 
-cast-self-2 : tie.Need-cast-self-2
-cast-self-2 c = search needs
+cast-offsets : tie.Need-cast-offsets
+cast-offsets c = search needs
 
-mul-self-2 : tie.Need-mul-self-2
-mul-self-2 c = search needs
+mul-offsets : tie.Need-mul-offsets
+mul-offsets c = search needs
 
-element-write-self-3 : tie.Need-element-write-self-3
-element-write-self-3 c = search needs
+element-write-offsets : tie.Need-element-write-offsets
+element-write-offsets c = search needs
 
 returns : tie.Need-returns
 unfolding joined
-returns c = simp (eq-eqb _ _ (c .if1 .taken))
+returns c = λ h x. simp (eq-eqb _ _ (c .if1 .taken))
 
-mul-self-3 : tie.Need-mul-self-3
-mul-self-3 c = search needs
+mul-openers-2 : tie.Need-mul-openers-2
+mul-openers-2 c = search needs
 
-element-write-self-4 : tie.Need-element-write-self-4
-element-write-self-4 c = search needs
+element-write-openers-2 : tie.Need-element-write-openers-2
+element-write-openers-2 c = search needs
 
-element-write-self-5 : tie.Need-element-write-self-5
-element-write-self-5 c = search needs
+element-write-symbols-2 : tie.Need-element-write-symbols-2
+element-write-symbols-2 c = search needs
 
-mul-self-4 : tie.Need-mul-self-4
-mul-self-4 c = search needs
+mul-offsets-2 : tie.Need-mul-offsets-2
+mul-offsets-2 c = search needs
 
-element-write-self-6 : tie.Need-element-write-self-6
-element-write-self-6 c = search needs
+element-write-offsets-2 : tie.Need-element-write-offsets-2
+element-write-offsets-2 c = search needs
 
-add-self-2 : tie.Need-add-self-2
-add-self-2 c = search needs
+add-self : tie.Need-add-self
+add-self c = search needs
 
 returns-2 : tie.Need-returns-2
 unfolding joined
-returns-2 c = simp (ne-eqb _ _ (c .if1 .left))
+returns-2 c = λ h x. simp (ne-eqb _ _ (c .if1 .left))
 
 pub join-spec : {M : Type 1} → statement M
 join-spec =
@@ -68,19 +68,19 @@ join-spec =
     (tie.spec
     mul-if1
     element-copy-out-if1
-    add-self
-    cast-self
-    mul-self
-    element-write-self
-    element-write-self-2
-    cast-self-2
-    mul-self-2
-    element-write-self-3
+    add-openers
+    cast-openers
+    mul-openers
+    element-write-openers
+    element-write-symbols
+    cast-offsets
+    mul-offsets
+    element-write-offsets
     returns
-    mul-self-3
-    element-write-self-4
-    element-write-self-5
-    mul-self-4
-    element-write-self-6
-    add-self-2
+    mul-openers-2
+    element-write-openers-2
+    element-write-symbols-2
+    mul-offsets-2
+    element-write-offsets-2
+    add-self
     returns-2)
