@@ -57,7 +57,7 @@ atom-requires : tie.Need-atom-requires
 atom-requires c κs = search needs
 
 is-end-requires : tie.Need-is-end-requires
-is-end-requires c κs = let s = c .before .before .before .before .before .before .before .before .before .before .before .before .before .before .before .before .before .before .before .before .before .before .before in let r = s .pre .0 in (r .lower, r .higher)
+is-end-requires c κs = search needs
 
 same-length : tie.Need-same-length
 same-length c = search needs
@@ -68,7 +68,7 @@ returns c =
     emitted _ _ _ _ _ _ _ _ _ _ _ _ _ _ _ _ _ _ _ _ _ refl refl (c .before .before .before .before .before .before .before .before .before .lead .ensures) (c .before .before .before .before .atom .ensures) (close-off _ _ _ _ off _ _) (open-off _ _ _ _ off _ _ _)
 
 close-from-requires : tie.Need-close-from-requires
-close-from-requires c κs = let s = c .before .before .before .before .before .before .before .before .before .before .before .before .before .before .before .before .before .before .before .before .before .before .before .before .before .before .before in let r = s .pre .0 in ((r .lower, r .higher), (r .bridges, s .pre .1))
+close-from-requires c κs = search needs
 
 open-from-requires : tie.Need-open-from-requires
 open-from-requires c κs = let s = c .before .before .before .before .before .before .before .before .before .before .before .before .before .before .before .before .before .before .before .before .before .before .before .before .before .before .before .before .before .before .before .before .before .before in let r = s .pre .0 in ((r .lower, r .higher), ((r .bridges, omega (arith, s .pre .1, c .before .before .before .before .before .before .close-from .kept .1 .1 .1 .1 .1 .0)), r .opened))
