@@ -1,28 +1,25 @@
 -- The loop over the chains and branches of a sequence: what was left to read before it is what is left after a chain. Assumes nothing.
-use Prim.Native.Nat.{ℕ, suc, _+_, _-_, _≤_, _<_}
+use Prim.Native.Nat.{ℕ, suc, _-_, _<_}
 use native.Mathlib.Omega.{arith}
-use mathlib.Core.Path.{_≡_, refl, sym, _∙_, subst, subst⁻¹}
+use mathlib.Core.Path.{_≡_, refl, _∙_, subst, subst⁻¹}
 use mathlib.Core.List.{List}
 use lib.ListN.{length, getD}
 use lib.IntN.{ℤ}
 use Rattle.refusal.specs.declared.Refusal.{Refusal}
-use Rattle.refusal.specs.Code.{codeOf}
 use Rattle.grammar.specs.declared.Last.the-variants.{Plain as plain}
 use Rattle.grammar.specs.declared.Mode.the-variants.{Seq as seq, Dot as dot}
-use Rattle.grammar.specs.Fold.{Answer, bad}
 use Rattle.state.specs.State.{Steering}
 use Rattle.state.specs.declared.Fields.{Fields}
-use Rattle.reading.specs.Memory.{Memory, nothing}
+use Rattle.reading.specs.Memory.{nothing}
 use Rattle.field.specs.Rest.{rest, memory}
 use Rattle.field.specs.Field.{Peeked}
-use Rattle.field.proofs.Bytes.{byte-in}
 use Rattle.reader.specs.declared.piece.Joint.{Joint}
 use Rattle.reader.specs.declared.piece.Piece.{Piece}
 use Rattle.reader.specs.declared.bridge.Why.{Why}
 use Rattle.reader.specs.Piece.{pendingOf, Seen}
 use Rattle.reader.specs.Added.{Reaches}
-use Rattle.reader.specs.Went.{Fair, Went, GoesOn, Goes, PastFine, Past, Stops, Sequenced, Branched}
-use Rattle.reader.specs.Chain.{Stands, ChainedFine, ChainEnds, Chained}
+use Rattle.reader.specs.Went.{Went, Goes, PastFine, Past, Stops, Sequenced, Branched}
+use Rattle.reader.specs.Chain.{Stands, ChainEnds, Chained}
 use Rattle.reader.proofs.Turns.{stands-next, ends-next}
 
 -- how much is left to read after a chain: nothing where it was refused
@@ -93,7 +90,7 @@ module _ {s : List ℕ} {p : ℕ} {j : Joint} {t : Steering} {a₀ b₀ : List �
       -- a branch was read
       module _ {x : Went} {a₁ b₁ : List ℤ} (g : Branched s (o .at) (o .st) a b a₁ b₁ x) where
         pub sequence-stuck : {c : Refusal} {e : ℕ} → x .why ≡ Why.Refused c e → Sequenced s p j t a₀ b₀ a₁ b₁ x
-        sequence-stuck {c} {e} n = record {
+        sequence-stuck n = record {
           goes = subst⁻¹ (λ (z : Why). Goes s p dot (pendingOf j) t a₀ b₀ z (x .at) (x .st) a₁ b₁) n
               (λ i f. let y = run-goes i f in y .is ∙ subst (λ (z : Why). Goes s (o .at) (seq plain) nothing (o .st) a b z (x .at) (x .st) a₁ b₁) n (g .goes) (y .tens) (y .draft));
           past = subst⁻¹ (λ (z : Why). Past s p t z (x .at) (x .st)) n tt;

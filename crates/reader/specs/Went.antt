@@ -41,6 +41,7 @@ pub record Went : Type 0 where
 abbrev pub went : Out → List ℕ → List ℕ → List ℕ → List ℕ → List ℕ → Went
 went o h u k p x = record { why = o .why; at = o .at; st = steering (o .st) h u k p x }
 
+-- a refusal, at its offset
 abbrev pub refusedAt : Refusal → ℕ → Steering → Went
 refusedAt r p t = record { why = Why.Refused r p; at = p; st = t }
 

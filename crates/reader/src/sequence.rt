@@ -48,8 +48,7 @@ fn chain(
         match piece {
             Piece::Atom(j, q) => {
                 let n = cur.atoms;
-                let a = atom_at(s, q, j, cur.hub, n, cur.bonds, atoms, bonds);
-                match a {
+                match atom_at(s, q, j, cur.hub, n, cur.bonds, atoms, bonds) {
                     Added::Atom(outside, m, p) => {
                         let h = AtomId(n);
                         cur.hub = h;
@@ -57,11 +56,8 @@ fn chain(
                         cur.bonds = m;
                         outsides[n] = outside;
                         piece = glance(s, p);
-                        continue;
                     }
-                    Added::Refused(r, e) => {
-                        return refuse(r, e, cur);
-                    }
+                    Added::Refused(r, e) => return refuse(r, e, cur),
                 }
             }
             Piece::Bridge(r, k, q, p) => {
@@ -70,10 +66,8 @@ fn chain(
                 let Why::Fine = w else {
                     return o;
                 };
-                let t = o.st;
-                cur = t;
+                cur = o.st;
                 piece = glance(s, p);
-                continue;
             }
             Piece::Branch(p) | Piece::End(p) => {
                 let fine = Why::Fine;
@@ -83,9 +77,7 @@ fn chain(
                     st: cur,
                 };
             }
-            Piece::Wrong(q) => {
-                return refuse(Refusal::Grammar, q, cur);
-            }
+            Piece::Wrong(q) => return refuse(Refusal::Grammar, q, cur),
         }
     }
 }
@@ -109,17 +101,8 @@ pub fn sequence(
     requires { ⌜ length (now s) ≤ maxText ⌝ }
     ensures { λ r. ⌜ Sequenced (now (s .entry)) at joint (steering st (now (hubs .entry)) (now (openers .entry)) (now (symbols .entry)) (now (offsets .entry)) (now (outsides .entry))) (now (atoms .entry)) (now (bonds .entry)) (now (atoms .exit)) (now (bonds .exit)) (went r (now (hubs .exit)) (now (openers .exit)) (now (symbols .exit)) (now (offsets .exit)) (now (outsides .exit))) ⌝ }
 {
-    let mut o = chain(
-        s,
-        Piece::Atom(joint, at),
-        st,
-        atoms,
-        bonds,
-        openers,
-        symbols,
-        offsets,
-        outsides,
-    );
+    let p = Piece::Atom(joint, at);
+    let mut o = chain(s, p, st, atoms, bonds, openers, symbols, offsets, outsides);
     loop {
         let w = o.why;
         let Why::Fine = w else {
@@ -147,18 +130,8 @@ pub fn sequence(
             return b;
         };
         let u = b.st;
-        let piece = glance(s, b.at);
-        o = chain(
-            s,
-            piece,
-            u,
-            atoms,
-            bonds,
-            openers,
-            symbols,
-            offsets,
-            outsides,
-        );
+        let p = glance(s, b.at);
+        o = chain(s, p, u, atoms, bonds, openers, symbols, offsets, outsides);
     }
 }
 

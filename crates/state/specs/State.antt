@@ -1,5 +1,5 @@
 -- 01, The text: "What steers the reading is the hub, the open branches and the open bridges"
-use Prim.Native.Nat.{ℕ, zero, suc, _+_, _-_}
+use Prim.Native.Nat.{ℕ, _+_, _-_}
 use mathlib.Core.List.{List}
 use lib.ListN.{getD, set, replicate}
 use lib.Dec.{eqb}

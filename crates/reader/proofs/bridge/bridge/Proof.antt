@@ -3,12 +3,6 @@ use Rattle.reader.proofs.Bridges.{bridge-opens, bridge-closes, bridge-r
 use borrow.Author.Needs.{needs}
 use Rattle.reader.proofs.bridge.bridge.Statement.{statement}
 use Rattle.reader.proofs.bridge.bridge.Tie as tie
-use Rattle.reader.proofs.bridge.bridge.Reads as reads
-use Rattle.reader.proofs.bridge.bridge.Lts as lts
-use Rattle.reader.proofs.bridge.close_at.Reads as close-at-reads
-use Rattle.reader.proofs.bridge.refuse.Reads as refuse-reads
-use Rattle.state.proofs.State.join.Reads as join-reads
-use Rattle.table.proofs.row.put_bond.Reads as put-bond-reads
 
 mul-u : tie.Need-mul-u
 mul-u c = search needs

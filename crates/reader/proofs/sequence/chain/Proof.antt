@@ -27,26 +27,20 @@ enum-known-piece c = search needs
 atom-at-requires : tie.Need-atom-at-requires Inv-loop μ-loop
 atom-at-requires c κs = (atom-lies (c .before .before .before .before .before .loop .inv [] (c .before .before .before .before .before .before .before .pre .0)) (c .before .before .before .piece .given .1), omega (arith, (c .before .before .before .before .before .loop .inv [] (c .before .before .before .before .before .before .before .pre .0)) .fair .hub))
 
-enum-known-a : tie.Need-enum-known-a Inv-loop μ-loop
-enum-known-a c = search needs
+enum-known-outside : tie.Need-enum-known-outside Inv-loop μ-loop
+enum-known-outside c = search needs
 
 add-cur : tie.Need-add-cur Inv-loop μ-loop
-add-cur c = omega (arith, atom-room (c .before .before .before .before .before .before .before .before .before .before .before .loop .inv [] (c .before .before .before .before .before .before .before .before .before .before .before .before .before .pre .0)) (c .before .before .before .before .before .before .before .before .before .piece .given .1) _ _ _ (c .before .before .before .before .before .atom-at .ensures) (c .before .a .given .1))
+add-cur c = omega (arith, atom-room (c .before .before .before .before .before .before .before .before .before .before .before .loop .inv [] (c .before .before .before .before .before .before .before .before .before .before .before .before .before .pre .0)) (c .before .before .before .before .before .before .before .before .before .piece .given .1) _ _ _ (c .before .before .before .before .before .atom-at .ensures) (c .before .outside .given .1))
 
 element-write-outsides : tie.Need-element-write-outsides Inv-loop μ-loop
-element-write-outsides c = atom-room (c .before .before .before .before .before .before .before .before .before .before .before .loop .inv [] (c .before .before .before .before .before .before .before .before .before .before .before .before .before .pre .0)) (c .before .before .before .before .before .before .before .before .before .piece .given .1) _ _ _ (c .before .before .before .before .before .atom-at .ensures) (c .before .a .given .1)
+element-write-outsides c = atom-room (c .before .before .before .before .before .before .before .before .before .before .before .loop .inv [] (c .before .before .before .before .before .before .before .before .before .before .before .before .before .pre .0)) (c .before .before .before .before .before .before .before .before .before .piece .given .1) _ _ _ (c .before .before .before .before .before .atom-at .ensures) (c .before .outside .given .1)
 
 glance-requires : tie.Need-glance-requires Inv-loop μ-loop
-glance-requires c κs = atom-in (c .before .before .before .before .before .before .before .before .before .before .before .loop .inv [] (c .before .before .before .before .before .before .before .before .before .before .before .before .before .pre .0)) (c .before .before .before .before .before .before .before .before .before .piece .given .1) _ _ _ (c .before .before .before .before .before .atom-at .ensures) (c .before .a .given .1)
+glance-requires c κs = atom-in (c .before .before .before .before .before .before .before .before .before .before .before .loop .inv [] (c .before .before .before .before .before .before .before .before .before .before .before .before .before .pre .0)) (c .before .before .before .before .before .before .before .before .before .piece .given .1) _ _ _ (c .before .before .before .before .before .atom-at .ensures) (c .before .outside .given .1)
 
-loop-less : tie.Need-loop-less Inv-loop μ-loop
-loop-less c = omega (arith, ap from (c .before .before .before .before .before .before .before .before .before .before .piece .given .1), from-next _ _ (c .glance .result) (c .glance .ensures), atom-later (c .before .before .before .before .before .before .before .before .before .before .before .before .loop .inv [] (c .before .before .before .before .before .before .before .before .before .before .before .before .before .before .pre .0)) (c .before .before .before .before .before .before .before .before .before .before .piece .given .1) _ _ _ (c .before .before .before .before .before .before .atom-at .ensures) (c .before .before .a .given .1), atom-in (c .before .before .before .before .before .before .before .before .before .before .before .before .loop .inv [] (c .before .before .before .before .before .before .before .before .before .before .before .before .before .before .pre .0)) (c .before .before .before .before .before .before .before .before .before .before .piece .given .1) _ _ _ (c .before .before .before .before .before .before .atom-at .ensures) (c .before .before .a .given .1))
-
-loop-again : tie.Need-loop-again Inv-loop μ-loop
-loop-again c = λ h g. turn-atom (c .before .before .before .before .before .before .before .before .before .before .before .before .loop .inv h g) (c .before .before .before .before .before .before .before .before .before .before .piece .given .1) _ _ _ (c .before .before .before .before .before .before .atom-at .ensures) (c .before .before .a .given .1) (c .glance .result) (c .glance .ensures) (c .before .before .before .before .before .before .atom-at .kept .1 .1 .1 .1 .1 .1 .0) (c .before .before .before .before .before .before .atom-at .kept .1 .1 .1 .1 .1 .1 .1 .0)
-
-enum-known-a-2 : tie.Need-enum-known-a-2 Inv-loop μ-loop
-enum-known-a-2 c = search needs
+enum-known-r : tie.Need-enum-known-r Inv-loop μ-loop
+enum-known-r c = search needs
 
 refuse-requires : tie.Need-refuse-requires Inv-loop μ-loop
 refuse-requires c κs = search needs
@@ -58,7 +52,13 @@ same-length-2 : tie.Need-same-length-2 Inv-loop μ-loop
 same-length-2 c = c .before .before .before .before .before .before .atom-at .kept .1 .1 .1 .1 .1 .1 .1 .0 ∙ (c .before .before .before .before .before .before .before .before .before .before .before .before .loop .inv [] (c .before .before .before .before .before .before .before .before .before .before .before .before .before .before .pre .0)) .long-b
 
 returns : tie.Need-returns Inv-loop μ-loop
-returns c = λ h g. end-atom (c .before .before .before .before .before .before .before .before .before .before .before .before .loop .inv h g) (c .before .before .before .before .before .before .before .before .before .before .piece .given .1) _ _ _ (c .before .before .before .before .before .before .atom-at .ensures) (c .before .before .a2 .given .1) (c .refuse .ensures _ _ _ _ _)
+returns c = λ h g. end-atom (c .before .before .before .before .before .before .before .before .before .before .before .before .loop .inv h g) (c .before .before .before .before .before .before .before .before .before .before .piece .given .1) _ _ _ (c .before .before .before .before .before .before .atom-at .ensures) (c .before .before .r .given .1) (c .refuse .ensures _ _ _ _ _)
+
+loop-less : tie.Need-loop-less Inv-loop μ-loop
+loop-less c = omega (arith, ap from (c .before .before .before .before .before .before .before .before .before .before .piece .given .1), from-next _ _ (c .glance .result) (c .glance .ensures), atom-later (c .before .before .before .before .before .before .before .before .before .before .before .before .loop .inv [] (c .before .before .before .before .before .before .before .before .before .before .before .before .before .before .pre .0)) (c .before .before .before .before .before .before .before .before .before .before .piece .given .1) _ _ _ (c .before .before .before .before .before .before .atom-at .ensures) (c .before .before .outside .given .1), atom-in (c .before .before .before .before .before .before .before .before .before .before .before .before .loop .inv [] (c .before .before .before .before .before .before .before .before .before .before .before .before .before .before .pre .0)) (c .before .before .before .before .before .before .before .before .before .before .piece .given .1) _ _ _ (c .before .before .before .before .before .before .atom-at .ensures) (c .before .before .outside .given .1))
+
+loop-again : tie.Need-loop-again Inv-loop μ-loop
+loop-again c = λ h g. turn-atom (c .before .before .before .before .before .before .before .before .before .before .before .before .loop .inv h g) (c .before .before .before .before .before .before .before .before .before .before .piece .given .1) _ _ _ (c .before .before .before .before .before .before .atom-at .ensures) (c .before .before .outside .given .1) (c .glance .result) (c .glance .ensures) (c .before .before .before .before .before .before .atom-at .kept .1 .1 .1 .1 .1 .1 .0) (c .before .before .before .before .before .before .atom-at .kept .1 .1 .1 .1 .1 .1 .1 .0)
 
 enum-known-piece-2 : tie.Need-enum-known-piece-2 Inv-loop μ-loop
 enum-known-piece-2 c = search needs
@@ -138,17 +138,17 @@ chain-spec =
     loop-holds
     enum-known-piece
     atom-at-requires
-    enum-known-a
+    enum-known-outside
     add-cur
     element-write-outsides
     glance-requires
-    loop-less
-    loop-again
-    enum-known-a-2
+    enum-known-r
     refuse-requires
     same-length
     same-length-2
     returns
+    loop-less
+    loop-again
     enum-known-piece-2
     bridge-requires
     enum-told

@@ -3,8 +3,6 @@ use mathlib.Core.Path.{refl}
 use borrow.Author.Needs.{needs}
 use Rattle.state.proofs.State.close.Statement.{statement}
 use Rattle.state.proofs.State.close.Tie as tie
-use Rattle.state.proofs.State.close.Reads as reads
-use Rattle.state.proofs.State.close.Lts as lts
 
 sub-d : tie.Need-sub-d
 sub-d c = search needs

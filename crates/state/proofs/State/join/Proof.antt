@@ -3,8 +3,6 @@ use borrow.Author.Tests.{eq-eqb, ne-eqb}
 use borrow.Author.Needs.{needs}
 use Rattle.state.proofs.State.join.Statement.{statement}
 use Rattle.state.proofs.State.join.Tie as tie
-use Rattle.state.proofs.State.join.Reads as reads
-use Rattle.state.proofs.State.join.Lts as lts
 
 mul-if1 : tie.Need-mul-if1
 mul-if1 c = search needs

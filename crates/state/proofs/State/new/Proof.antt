@@ -2,8 +2,6 @@ use Rattle.state.specs.State.{started}
 use mathlib.Core.Path.{refl}
 use Rattle.state.proofs.State.new.Statement.{statement}
 use Rattle.state.proofs.State.new.Tie as tie
-use Rattle.state.proofs.State.new.Reads as reads
-use Rattle.state.proofs.State.new.Lts as lts
 
 returns : tie.Need-returns
 unfolding started

@@ -3,8 +3,6 @@ use mathlib.Core.Path.{refl}
 use borrow.Author.Needs.{needs}
 use Rattle.state.proofs.State.open.Statement.{statement}
 use Rattle.state.proofs.State.open.Tie as tie
-use Rattle.state.proofs.State.open.Reads as reads
-use Rattle.state.proofs.State.open.Lts as lts
 
 cast-hubs : tie.Need-cast-hubs
 cast-hubs c = search needs
