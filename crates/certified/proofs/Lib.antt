@@ -1,2 +1,3 @@
+mod Along
 pub mod Count
 pub mod Reason

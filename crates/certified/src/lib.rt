@@ -201,28 +201,25 @@ fn seek_from(
     requires { ⌜ Shape (now ea) (now eb) (now el) (now need) (now row) (k .0) ⌝ }
     ensures { λ r. ⌜ Searched (now (need .entry)) (now (row .entry)) (k .0) (length (now (ea .entry))) (allFrom (now (ea .entry)) (now (eb .entry)) (now (el .entry)) (now (need .entry)) (k .0)) r (now (need .exit)) (now (row .exit)) ⌝ }
 {
-    let at = k.0;
-    if at == ea.len() {
-        return search::all_paired(need);
-    }
-    if hopeless(ea, eb, el, need, k, mate) {
-        search::blank(row, at, ea.len());
-        return false;
-    }
-    let next = at + 1;
-    if search::choosable(ea, eb, el, need, k) {
-        search::mark(ea, eb, need, k, 0);
-        row[at] = 1;
-        let found = seek_from(ea, eb, el, need, row, BondId(next), mate);
-        search::mark(ea, eb, need, k, 1);
-        if found {
-            return true;
+    let mut at = k.0;
+    while at < ea.len() {
+        if hopeless(ea, eb, el, need, BondId(at), mate) {
+            search::blank(row, at, ea.len());
+            return false;
+        }
+        if search::choosable(ea, eb, el, need, BondId(at)) {
+            search::mark(ea, eb, need, BondId(at), 0);
+            row[at] = 1;
+            let found = seek_from(ea, eb, el, need, row, BondId(at + 1), mate);
+            search::mark(ea, eb, need, BondId(at), 1);
+            if found {
+                return true;
+            }
         }
         row[at] = 0;
-        return seek_from(ea, eb, el, need, row, BondId(next), mate);
+        at += 1;
     }
-    row[at] = 0;
-    seek_from(ea, eb, el, need, row, BondId(next), mate)
+    search::all_paired(need)
 }
 
 // internal: the same, with no mates known.
