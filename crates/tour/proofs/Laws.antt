@@ -1,7 +1,6 @@
 -- One law for each way through the walk's code. Assumes nothing.
 use Prim.Native.Nat.{ℕ, zero, suc, _+_, _*_, _-_, _<_, _≤_}
 use native.Mathlib.Omega.{arith}
-use native.Mathlib.Nat.{mul-le-mul-right, suc-mul}
 use native.Mathlib.Numerals.{add-one}
 use mathlib.Core.Path.{_≡_, refl, sym, ap, _∙_, subst}
 use mathlib.Core.Bool.{Bool, true, false}
@@ -15,7 +14,7 @@ use Rattle.walk.specs.Walk.{member}
 use Rattle.walk.specs.Flat.{kinds, ups}
 use Rattle.walk.proofs.Trip.{size-length}
 use Rattle.tour.specs.Tour.{touching, firstFrom, otherEnd, lay, grow, unseen, BondsFit, Room, Stands, Sheet, sheet, Laid, Grown, markOf}
-use Rattle.tour.proofs.Ways.{Next, next-is, other-below, grow-end, grow-skip, grow-visit}
+use Rattle.tour.proofs.Ways.{Next, next-is, other-below, grow-same, grow-end, grow-skip, grow-visit}
 use Rattle.tour.proofs.Seen.{unmarked, marked, room-left, stands-add, stands-cast, unseen-set}
 
 pub lay-append : (a b : List ℕ) (k : ℕ) (t : List ℕ) → lay k (a ++ b) t ≡ lay (k + length a) b (lay k a t)
@@ -56,92 +55,130 @@ laid-node n p w k f g s o v v1 u q c y z e a b =
       stands = stands-cast n (z .count) (((s ++ (w ∷ [])) ++ pre f) ++ pre g) (s ++ (w ∷ (pre f ++ pre g))) (z .number) (append-assoc (s ++ (w ∷ [])) (pre f) (pre g) ∙ append-assoc s (w ∷ []) (pre f ++ pre g)) (b .stands);
     }
 
-laid-cast : (n p : ℕ) (F G : Forest) (s : List ℕ) (x y : Sheet) → F ≡ G → Laid n p G s x y → Laid n p F s x y
-laid-cast n p F G s x y e l = subst (λ (H : Forest). Laid n p H s x y) (sym e) l
-
-module _ {bonds : List ℤ} {n m : ℕ} (fit : BondsFit bonds n m) (v from r : ℕ) (at : from ≤ m) (found : r ≡ firstFrom (touching bonds v) from (m - from)) where
-  next : Next bonds v m from r
-  next = next-is bonds v m from r at found
-
-  abbrev w : ℕ
-  w = otherEnd bonds r v
-
-  -- no bond is left
-  pub at-end : (hub : ℕ) (x : Sheet) → m ≤ r → Grown n (suc hub) (grow bonds n m v from) x x
-  at-end hub x h = record { fewer = omega arith; laid = λ s st. laid-cast n (suc hub) (grow bonds n m v from s) leaf s x x (grow-end fit v from r next s h) (laid-leaf n (suc hub) s x st) }
-
-  -- the other end was visited
-  pub at-seen : (hub : ℕ) (x y : Sheet) → r < m → (z : ℕ) → z ≡ otherEnd bonds r v → (getD (x .number) z 0 ≡ 0 → ⊥) → Grown n (suc hub) (grow bonds n m v (r + 1)) x y → Grown n (suc hub) (grow bonds n m v from) x y
-  at-seen hub x y h z e k g =
-      record {
-        fewer = g .fewer;
-        laid = λ s st.
-            let b = other-below fit v r h in
-            let q : markOf s w ≡ getD (x .number) z 0 = sym (ap (λ (i : ℕ). getD (x .number) i 0) e ∙ st .marks w b) in
-            laid-cast n (suc hub) (grow bonds n m v from s) (grow bonds n m v (r + 1) s) s x y (grow-skip fit v from r next s h (marked s w (λ i. k (sym q ∙ i)))) (g .laid s st);
-      }
-
-  module _ (hub : ℕ) (o v1 u q : List ℕ) (count a : ℕ) (h : r < m) (e : a ≡ otherEnd bonds r v) (fresh : getD v1 a 0 ≡ 0) where
-    below : a < n
-    below = rw e (other-below fit v r h)
-
-    apart : (s : List ℕ) → Stands n s count v1 → member a s ≡ false
-    apart s st = unmarked s a (sym (st .marks a below) ∙ fresh)
-
-    -- all n atoms were visited: this cannot be
-    pub at-full : n ≤ count → Grown n (suc hub) (grow bonds n m v from) (sheet o v1 u q count) (sheet o v1 u q count)
-    at-full l = record { fewer = omega arith; laid = λ s st. absurd (let g = room-left n a count s v1 st below (apart s st) in omega arith) }
-
-    -- the other end is visited, then the rest
-    pub at-new : (k : ℕ) (o2 v2 u2 q2 : List ℕ) (y z : Sheet) → k ≡ kind bonds r → n ≤ length v1
-        → o2 ≡ set o count a → v2 ≡ set v1 a (count + 1) → u2 ≡ set u count (hub + 1) → q2 ≡ set q count k
-        → Grown n (suc count) (grow bonds n m a 0) (sheet o2 v2 u2 q2 (count + 1)) y → Grown n (suc hub) (grow bonds n m v (r + 1)) y z
-        → Grown n (suc hub) (grow bonds n m v from) (sheet o v1 u q count) z
-    at-new k o2 v2 u2 q2 y z ek long eo ev eu eq one two =
-        let b = below in
-        let e1 : v2 ≡ set v1 a (suc count) = ev ∙ ap (set v1 a) (add-one count) in
-        let d = unseen-set v1 a count (omega arith) fresh in
-        let d1 : unseen v2 ≡ unseen (set v1 a (suc count)) = ap unseen e1 in
-        let f1 = one .fewer in
-        let f2 = two .fewer in
-        record { fewer = omega arith; laid = laid }
-      where
-        laid : (s : List ℕ) → Stands n s count v1 → Laid n (suc hub) (grow bonds n m v from s) s (sheet o v1 u q count) z
-        laid s st =
-            let m0 = apart s st in
-            let b = below in
-            let st1 : Stands n (s ++ (a ∷ [])) (count + 1) v2 = rw ev (stands-add n a count s v1 st b long m0) in
-            let f = grow bonds n m a 0 (s ++ (a ∷ [])) in
-            let l1 = one .laid (s ++ (a ∷ [])) st1 in
-            let l1′ : Laid n (suc count) f (s ++ (a ∷ [])) (sheet (set o count a) v2 (set u count (suc hub)) (set q count k) (count + 1)) y =
-            subst (λ (x : Sheet). Laid n (suc count) f (s ++ (a ∷ [])) x y) (λ i. sheet (eo i) v2 ((eu ∙ ap (set u count) (add-one hub)) i) (eq i) (count + 1)) l1 in
-            let l2 = two .laid ((s ++ (a ∷ [])) ++ pre f) (l1 .stands) in
-            let g = grow bonds n m v (r + 1) ((s ++ (a ∷ [])) ++ pre f) in
-            let m1 : member (otherEnd bonds r v) s ≡ false = subst (λ (x : ℕ). member x s ≡ false) e m0 in
-            let same : grow bonds n m v from s ≡ node a k f g =
-            grow-visit fit v from r next s h m1 f (λ i. grow bonds n m (e i) 0 (s ++ (e i ∷ [])))
-            ∙ (λ i. node (sym e i) (sym ek i) f (grow bonds n m v (r + 1) ((s ++ (sym e i ∷ [])) ++ pre f))) in
-            laid-cast n (suc hub) (grow bonds n m v from s) (node a k f g) s (sheet o v1 u q count) z same
-            (laid-node n (suc hub) a k f g s o v1 v2 u q count y z (st .long) l1′ l2)
-
--- the measure: the atoms left, and at each of them the bonds
-abbrev pub work : ℕ → ℕ → ℕ → ℕ
-work u m from = u * (m + 2) + (m + 1 - from)
-
-pub less-work : (u u′ m from from′ : ℕ) → u′ ≤ u → from < from′ → from ≤ m → work u′ m from′ < work u m from
-less-work u u′ m from from′ h g l = let q = mul-le-mul-right (m + 2) h in omega arith
-
-pub new-work : (u u′ m from from′ : ℕ) → u′ < u → from ≤ m → work u′ m from′ < work u m from
-new-work u u′ m from from′ h l =
-    let q : suc u′ * (m + 2) ≤ u * (m + 2) = mul-le-mul-right (m + 2) h in
-    let e : suc u′ * (m + 2) ≡ u′ * (m + 2) + (m + 2) = suc-mul u′ (m + 2) in
-    omega arith
-
 pub seen-less : (v1 v2 : List ℕ) (a count : ℕ) → a < length v1 → getD v1 a 0 ≡ 0 → v2 ≡ set v1 a (count + 1) → unseen v2 < unseen v1
 seen-less v1 v2 a count h e q =
     let d = unseen-set v1 a count h e in
     let x : unseen v2 ≡ unseen (set v1 a (suc count)) = ap unseen (q ∙ ap (set v1 a) (add-one count)) in
     omega arith
+
+laid-cast : (n p : ℕ) (F G : Forest) (s : List ℕ) (x y : Sheet) → F ≡ G → Laid n p G s x y → Laid n p F s x y
+laid-cast n p F G s x y e l = subst (λ (H : Forest). Laid n p H s x y) (sym e) l
+
+module _ {bonds : List ℤ} {n m : ℕ} (fit : BondsFit bonds n m) where
+  -- from the next bond at an atom, so from any number before it
+  pub grown-from : (p v from r : ℕ) (x y : Sheet) → from ≤ m → r ≡ firstFrom (touching bonds v) from (m - from) → Grown n p (grow bonds n m v r) x y → Grown n p (grow bonds n m v from) x y
+  grown-from p v from r x y h e g =
+      record {
+        fewer = g .fewer;
+        laid = λ s st. laid-cast n p (grow bonds n m v from s) (grow bonds n m v r s) s x y (grow-same fit v from r (next-is bonds v m from r h e) s) (g .laid s st);
+      }
+
+  -- no bond is left
+  pub at-end : (p v b : ℕ) (x : Sheet) → m ≤ b → Grown n p (grow bonds n m v b) x x
+  at-end p v b x h = record { fewer = omega arith; laid = λ s st. laid-cast n p (grow bonds n m v b s) leaf s x x (grow-end fit v b h s) (laid-leaf n p s x st) }
+
+  -- b is a bond at v, and r the next one
+  module _ (v b r : ℕ) (h : b < m) (here : touching bonds v b ≡ true) (found : r ≡ firstFrom (touching bonds v) (suc b) (m - suc b)) where
+    next : Next bonds v m (suc b) r
+    next = next-is bonds v m (suc b) r (omega arith) found
+
+    abbrev w : ℕ
+    w = otherEnd bonds b v
+
+    -- the other end was visited
+    pub at-seen : (p : ℕ) (x y : Sheet) (z : ℕ) → z ≡ otherEnd bonds b v → (getD (x .number) z 0 ≡ 0 → ⊥) → Grown n p (grow bonds n m v r) x y → Grown n p (grow bonds n m v b) x y
+    at-seen p x y z e k g =
+        record {
+          fewer = g .fewer;
+          laid = λ s st.
+              let i = other-below fit v b h in
+              let q : markOf s w ≡ getD (x .number) z 0 = sym (ap (λ (j : ℕ). getD (x .number) j 0) e ∙ st .marks w i) in
+              laid-cast n p (grow bonds n m v b s) (grow bonds n m v r s) s x y (grow-skip fit v b r h here next s (marked s w (λ j. k (sym q ∙ j)))) (g .laid s st);
+        }
+
+    module _ (hub : ℕ) (o v1 u q : List ℕ) (count a : ℕ) (e : a ≡ otherEnd bonds b v) (fresh : getD v1 a 0 ≡ 0) where
+      below : a < n
+      below = rw e (other-below fit v b h)
+
+      apart : (s : List ℕ) → Stands n s count v1 → member a s ≡ false
+      apart s st = unmarked s a (sym (st .marks a below) ∙ fresh)
+
+      -- all n atoms were visited: this cannot be
+      pub at-full : n ≤ count → Grown n (suc hub) (grow bonds n m v b) (sheet o v1 u q count) (sheet o v1 u q count)
+      at-full l = record { fewer = omega arith; laid = λ s st. absurd (let g = room-left n a count s v1 st below (apart s st) in omega arith) }
+
+      -- the other end is visited, then the rest
+      pub at-new : (k : ℕ) (o2 v2 u2 q2 : List ℕ) (y z : Sheet) → k ≡ kind bonds b → n ≤ length v1
+          → o2 ≡ set o count a → v2 ≡ set v1 a (count + 1) → u2 ≡ set u count (hub + 1) → q2 ≡ set q count k
+          → Grown n (suc count) (grow bonds n m a 0) (sheet o2 v2 u2 q2 (count + 1)) y → Grown n (suc hub) (grow bonds n m v r) y z
+          → Grown n (suc hub) (grow bonds n m v b) (sheet o v1 u q count) z
+      at-new k o2 v2 u2 q2 y z ek long eo ev eu eq one two =
+          let i = below in
+          let d = seen-less v1 v2 a count (omega arith) fresh ev in
+          let f1 = one .fewer in
+          let f2 = two .fewer in
+          record { fewer = omega arith; laid = laid }
+        where
+          laid : (s : List ℕ) → Stands n s count v1 → Laid n (suc hub) (grow bonds n m v b s) s (sheet o v1 u q count) z
+          laid s st =
+              let m0 = apart s st in
+              let i = below in
+              let st1 : Stands n (s ++ (a ∷ [])) (count + 1) v2 = rw ev (stands-add n a count s v1 st i long m0) in
+              let f = grow bonds n m a 0 (s ++ (a ∷ [])) in
+              let l1 = one .laid (s ++ (a ∷ [])) st1 in
+              let l1′ : Laid n (suc count) f (s ++ (a ∷ [])) (sheet (set o count a) v2 (set u count (suc hub)) (set q count k) (count + 1)) y =
+              subst (λ (x : Sheet). Laid n (suc count) f (s ++ (a ∷ [])) x y) (λ i. sheet (eo i) v2 ((eu ∙ ap (set u count) (add-one hub)) i) (eq i) (count + 1)) l1 in
+              let l2 = two .laid ((s ++ (a ∷ [])) ++ pre f) (l1 .stands) in
+              let g = grow bonds n m v r ((s ++ (a ∷ [])) ++ pre f) in
+              let m1 : member (otherEnd bonds b v) s ≡ false = subst (λ (x : ℕ). member x s ≡ false) e m0 in
+              let same : grow bonds n m v b s ≡ node a k f g =
+              grow-visit fit v b r h here next s m1 f (λ i. grow bonds n m (e i) 0 (s ++ (e i ∷ [])))
+              ∙ (λ i. node (sym e i) (sym ek i) f (grow bonds n m v r ((s ++ (sym e i ∷ [])) ++ pre f))) in
+              laid-cast n (suc hub) (grow bonds n m v b s) (node a k f g) s (sheet o v1 u q count) z same
+              (laid-node n (suc hub) a k f g s o v1 v2 u q count y z (st .long) l1′ l2)
+
+-- the walk at v stands at the bond b: what is left from there is what is left from the start
+pub record Left (bonds : List ℤ) (n m v hub from b : ℕ) (x y : Sheet) : Type 0 where
+  pub within : b ≤ m
+  pub here : b < m → touching bonds v b ≡ true
+  pub fewer : unseen (y .number) ≤ unseen (x .number)
+  pub rest : (z : Sheet) → Grown n (suc hub) (grow bonds n m v b) y z → Grown n (suc hub) (grow bonds n m v from) x z
+
+pub left-start : (bonds : List ℤ) (n m v hub from : ℕ) (x : Sheet) → from ≤ m → (from < m → touching bonds v from ≡ true) → Left bonds n m v hub from from x x
+left-start bonds n m v hub from x h here = record { within = h; here = here; fewer = omega arith; rest = λ z g. g }
+
+module _ {bonds : List ℤ} {n m : ℕ} (fit : BondsFit bonds n m) {v hub from b : ℕ} where
+  pub left-end : (x y : Sheet) → Left bonds n m v hub from b x y → m ≤ b → Grown n (suc hub) (grow bonds n m v from) x y
+  left-end x y l h = l .rest y (at-end fit (suc hub) v b y h)
+
+  module _ (r : ℕ) (h : b < m) (found : r ≡ firstFrom (touching bonds v) (suc b) (m - suc b)) where
+    pub left-seen : (x y : Sheet) → Left bonds n m v hub from b x y → (z : ℕ) → z ≡ otherEnd bonds b v → (getD (y .number) z 0 ≡ 0 → ⊥) → Left bonds n m v hub from r x y
+    left-seen x y l z e k =
+        let after = next-is bonds v m (suc b) r (omega arith) found in
+        record { within = after .high; here = after .here; fewer = l .fewer; rest = λ t g. l .rest t (at-seen fit v b r h (l .here h) found (suc hub) y t z e k g) }
+
+    pub left-new : (x : Sheet) (o v1 u q : List ℕ) (count : ℕ) → Left bonds n m v hub from b x (sheet o v1 u q count)
+        → (a k hd : ℕ) → a ≡ otherEnd bonds b v → getD v1 a 0 ≡ 0 → k ≡ kind bonds b → hd ≡ firstFrom (touching bonds a) 0 (m - 0) → n ≤ length v1
+        → (o2 v2 u2 q2 : List ℕ) → o2 ≡ set o count a → v2 ≡ set v1 a (count + 1) → u2 ≡ set u count (hub + 1) → q2 ≡ set q count k
+        → (y : Sheet) → Grown n (suc count) (grow bonds n m a hd) (sheet o2 v2 u2 q2 (count + 1)) y
+        → Left bonds n m v hub from r x y
+    left-new x o v1 u q count l a k hd e fresh ek ed long o2 v2 u2 q2 eo ev eu eq y one =
+        let i : a < n = rw e (other-below fit v b h) in
+        let d = seen-less v1 v2 a count (omega arith) fresh ev in
+        let f1 = one .fewer in
+        let f2 = l .fewer in
+        let after = next-is bonds v m (suc b) r (omega arith) found in
+        record {
+          within = after .high;
+          here = after .here;
+          fewer = omega arith;
+          rest = λ z g. l .rest z (at-new fit v b r h (l .here h) found hub o v1 u q count a e fresh k o2 v2 u2 q2 y z ek long eo ev eu eq (grown-from fit (suc count) a 0 hd (sheet o2 v2 u2 q2 (count + 1)) y (omega arith) ed one) g);
+        }
+
+  pub left-full : (x : Sheet) (o v1 u q : List ℕ) (count : ℕ) → Left bonds n m v hub from b x (sheet o v1 u q count) → b < m
+      → (a : ℕ) → a ≡ otherEnd bonds b v → getD v1 a 0 ≡ 0 → n ≤ count → Grown n (suc hub) (grow bonds n m v from) x (sheet o v1 u q count)
+  left-full x o v1 u q count l h a e fresh full =
+      l .rest (sheet o v1 u q count) (at-full fit v b (firstFrom (touching bonds v) (suc b) (m - suc b)) h (l .here h) refl hub o v1 u q count a e fresh full)
 
 pub room-kept : {o v u k o2 v2 u2 k2 : List ℕ} → Room o v u k → length o2 ≡ length o → length v2 ≡ length v → length u2 ≡ length u → length k2 ≡ length k → Room o2 v2 u2 k2
 room-kept r a b c d = let x = r .order in let y = r .number in let z = r .up in let w = r .kind in record { order = omega arith; number = omega arith; up = omega arith; kind = omega arith }

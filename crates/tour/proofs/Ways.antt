@@ -1,7 +1,6 @@
 -- The bonds at an atom from a number on, and the forest that the walk adds along them. Assumes nothing.
 use Prim.Native.Nat.{ℕ, zero, suc, _+_, _-_, _<_, _≤_}
 use native.Mathlib.Omega.{arith}
-use native.Mathlib.Numerals.{add-one}
 use mathlib.Core.Path.{_≡_, refl, sym, ap, _∙_, subst}
 use mathlib.Core.Bool.{Bool, true, false, _||_, cond}
 use mathlib.Core.List.{List, [], _∷_, _++_}
@@ -17,28 +16,6 @@ use Rattle.walk.proofs.Count.{All, none, more}
 use Rattle.walk.proofs.Walk.{Inside, same-fuel}
 use Rattle.writing.specs.Write.{bondAt, bondList}
 use Rattle.tour.specs.Tour.{touching, firstFrom, otherEnd, waysFrom, grow, BondsFit}
-
--- a search stands at b: what is left to look at decides
-pub record Seeks (p : ℕ → Bool) (from m b : ℕ) : Type 0 where
-  pub low : from ≤ b
-  pub within : b ≤ m
-  pub same : firstFrom p from (m - from) ≡ firstFrom p b (m - b)
-
-module _ {p : ℕ → Bool} {from m b : ℕ} (s : Seeks p from m b) where
-  pub seeks-hit : b < m → p b ≡ true → b ≡ firstFrom p from (m - from)
-  unfolding firstFrom
-  seeks-hit h e = let d : m - b ≡ suc (m - (b + 1)) = omega arith in sym (s .same ∙ simp (d, e))
-
-  pub seeks-pass : b < m → p b ≡ false → Seeks p from m (b + 1)
-  unfolding firstFrom
-  seeks-pass h e =
-      let d : m - b ≡ suc (m - (b + 1)) = omega arith in
-      let l = s .low in
-      record { low = omega arith; within = omega arith; same = s .same ∙ simp (d, e, add-one b) }
-
-  pub seeks-end : m ≤ b → b ≡ firstFrom p from (m - from)
-  unfolding firstFrom
-  seeks-end h = let d : m - b ≡ 0 = omega arith in sym (s .same ∙ simp d)
 
 module _ (bonds : List ℤ) (v : ℕ) where
   abbrev f : ℕ → Bond
@@ -86,9 +63,9 @@ module _ (bonds : List ℤ) (v : ℕ) where
   pub next-is : (m from r : ℕ) → from ≤ m → r ≡ firstFrom (touching bonds v) from (m - from) → Next m from r
   next-is m from r h e = subst (Next m from) (sym e) (next-from m (m - from) from (omega arith))
 
-  pub ways-here : (m r : ℕ) → r < m → touching bonds v r ≡ true → waysFrom bonds m v r ≡ way (otherEnd bonds r v) (kind bonds r) ∷ waysFrom bonds m v (r + 1)
+  pub ways-here : (m r : ℕ) → r < m → touching bonds v r ≡ true → waysFrom bonds m v r ≡ way (otherEnd bonds r v) (kind bonds r) ∷ waysFrom bonds m v (suc r)
   unfolding upTo
-  ways-here m r h e = let x : m - r ≡ suc (m - (r + 1)) = omega arith in simp (x, ← add-one r) (together r (upTo f (r + 1) (m - (r + 1))) e)
+  ways-here m r h e = let x : m - r ≡ suc (m - suc r) = omega arith in simp x (together r (upTo f (suc r) (m - suc r)) e)
 
   pub ways-end : (m r : ℕ) → m ≤ r → waysFrom bonds m v r ≡ []
   unfolding upTo
@@ -112,24 +89,31 @@ module _ {bonds : List ℤ} {n m : ℕ} (fit : BondsFit bonds n m) where
       go true = fit .ends b h .1
       go false = let q = fit .ends b h in omega arith
 
-  -- the forest at an atom from a bond number on
-  module _ (v from r : ℕ) (x : Next bonds v m from r) (s : List ℕ) where
+  -- the forest at an atom from a bond number on is that from the next bond at it
+  pub grow-same : (v from r : ℕ) → Next bonds v m from r → (s : List ℕ) → grow bonds n m v from s ≡ grow bonds n m v r s
+  unfolding grow
+  grow-same v from r x s = ap (λ cs. tour (walk (bondList bonds m) n) cs s) (x .same)
+
+  pub grow-end : (v b : ℕ) → m ≤ b → (s : List ℕ) → grow bonds n m v b s ≡ leaf
+  unfolding grow
+  grow-end v b h s = ap (λ cs. tour (walk (bondList bonds m) n) cs s) (ways-end bonds v m b h)
+
+  -- the forest at an atom from one of its bonds on, and from the next one
+  module _ (v b r : ℕ) (h : b < m) (here : touching bonds v b ≡ true) (x : Next bonds v m (suc b) r) (s : List ℕ) where
     abbrev w : ℕ
-    w = otherEnd bonds r v
+    w = otherEnd bonds b v
 
-    pub grow-end : m ≤ r → grow bonds n m v from s ≡ leaf
-    unfolding grow
-    grow-end h = ap (λ cs. tour (walk (bondList bonds m) n) cs s) (x .same ∙ ways-end bonds v m r h)
+    around : waysFrom bonds m v b ≡ way w (kind bonds b) ∷ waysFrom bonds m v r
+    around = ways-here bonds v m b h here ∙ ap (λ (cs : List Way). way w (kind bonds b) ∷ cs) (x .same)
 
-    pub grow-skip : r < m → member w s ≡ true → grow bonds n m v from s ≡ grow bonds n m v (r + 1) s
+    pub grow-skip : member w s ≡ true → grow bonds n m v b s ≡ grow bonds n m v r s
     unfolding grow
-    grow-skip h e =
-        ap (λ cs. tour (walk (bondList bonds m) n) cs s) (x .same ∙ ways-here bonds v m r h (x .here h)) ∙ rw e
+    grow-skip e = ap (λ cs. tour (walk (bondList bonds m) n) cs s) around ∙ rw e
 
-    pub grow-visit : r < m → member w s ≡ false → (f : Forest) → f ≡ grow bonds n m w 0 (s ++ (w ∷ []))
-        → grow bonds n m v from s ≡ node w (kind bonds r) f (grow bonds n m v (r + 1) ((s ++ (w ∷ [])) ++ pre f))
+    pub grow-visit : member w s ≡ false → (f : Forest) → f ≡ grow bonds n m w 0 (s ++ (w ∷ []))
+        → grow bonds n m v b s ≡ node w (kind bonds b) f (grow bonds n m v r ((s ++ (w ∷ [])) ++ pre f))
     unfolding grow
-    grow-visit h e f q =
+    grow-visit e f q =
         let z : m - 0 ≡ m = omega arith in
         let g : walk (bondList bonds m) n w (s ++ (w ∷ [])) ≡ f = same-fuel n (bondList bonds m) bonds-inside w (s ++ (w ∷ [])) ∙ sym (q ∙ simp z) in
-        ap (λ cs. tour (walk (bondList bonds m) n) cs s) (x .same ∙ ways-here bonds v m r h (x .here h)) ∙ rw (e, g)
+        ap (λ cs. tour (walk (bondList bonds m) n) cs s) around ∙ rw (e, g)

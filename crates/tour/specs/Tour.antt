@@ -29,6 +29,10 @@ firstFrom p k (suc d) = pick (p k) k (firstFrom p (suc k) d)
 unfoldable pub otherEnd : List ℤ → ℕ → ℕ → ℕ
 otherEnd bonds b v = pick (eqb (end1 bonds b) v) (end2 bonds b) (end1 bonds b)
 
+-- the next bond at v behind the bond b, told by two arrays: at the first end and at the second end of each bond
+unfoldable pub nextAfter : List ℤ → List ℕ → List ℕ → ℕ → ℕ → ℕ
+nextAfter bonds after behind b v = pick (eqb (end1 bonds b) v) (getD after b 0) (getD behind b 0)
+
 -- a list laid over an array from the place k on
 unfoldable pub lay : ℕ → List ℕ → List ℕ → List ℕ
 lay k [] t = t
@@ -57,6 +61,12 @@ pub record BondsFit (bonds : List ℤ) (n m : ℕ) : Type 0 where
   pub few-bonds : m ≤ maxBonds
   pub ends : (b : ℕ) → b < m → (end1 bonds b < end2 bonds b) × (end2 bonds b < n)
   pub kinds : (b : ℕ) → b < m → kind bonds b < 4
+
+-- the bonds from b on as lists: the first one at each atom, and behind each bond the next one at either end; m where there is none
+pub record Linked (bonds : List ℤ) (n m b : ℕ) (head after behind : List ℕ) : Type 0 where
+  pub heads : (v : ℕ) → v < n → getD head v 0 ≡ firstFrom (touching bonds v) b (m - b)
+  pub afters : (c : ℕ) → b ≤ c → c < m → getD after c 0 ≡ firstFrom (touching bonds (end1 bonds c)) (suc c) (m - suc c)
+  pub behinds : (c : ℕ) → b ≤ c → c < m → getD behind c 0 ≡ firstFrom (touching bonds (end2 bonds c)) (suc c) (m - suc c)
 
 -- the arrays have room
 pub record Room (o v u k : List ℕ) : Type 0 where

@@ -1,23 +1,18 @@
 // The walk of a molecule, depth first, into arrays by walk number.
 ghost use mathlib.Core.Path.{_≡_};
 ghost use Prim.Native.Nat.{suc, _+_, _-_, _<_, _≤_};
-ghost use lib.ListN.{length, replicate, set};
+ghost use mathlib.Core.Bool.{true};
+ghost use lib.ListN.{length, getD, replicate, set};
 ghost use Rattle.table.specs.Limits.{maxAtoms, maxBonds};
-ghost use Rattle.tour.specs.Tour.{touching, firstFrom, otherEnd, grow, rootForest, BondsFit, Room, sheet, Grown, Walked};
+ghost use Rattle.table.specs.Cells.{end1, end2};
+ghost use Rattle.tour.specs.Tour.{touching, nextAfter, otherEnd, grow, rootForest, BondsFit, Linked, Room, sheet, Grown, Walked};
 use ids::AtomId;
 use ids::BondId;
 use table::FIRST;
 use table::KIND;
+use table::MAX_ATOMS;
+use table::MAX_BONDS;
 use table::SECOND;
-
-// The bond has the atom as an end.
-fn touches(bonds: &[i32], b: BondId, v: AtomId) -> bool
-    requires { ⌜ b .0 < maxBonds ⌝ }
-    ensures { λ r. ⌜ r ≡ touching (now (bonds .entry)) (v .0) (b .0) ⌝ }
-{
-    let first = table::cell::bond_number(bonds, b, FIRST) == v.0;
-    first | (table::cell::bond_number(bonds, b, SECOND) == v.0)
-}
 
 // The other end of a bond, seen from an atom.
 fn other_end(bonds: &[i32], b: BondId, v: AtomId) -> usize
@@ -31,20 +26,67 @@ fn other_end(bonds: &[i32], b: BondId, v: AtomId) -> usize
     first
 }
 
-// The next bond at an atom, from a bond number on; m where there is none.
-fn next_at(bonds: &[i32], m: usize, v: AtomId, from: usize) -> usize
-    requires { ⌜ m ≤ maxBonds ⌝ }
-    requires { ⌜ from ≤ m ⌝ }
-    ensures { λ r. ⌜ r ≡ firstFrom (touching (now (bonds .entry)) (v .0)) from (m - from) ⌝ }
+// Puts a bond in front of the lists of its two ends.
+fn link_bond(
+    bonds: &[i32],
+    b: BondId,
+    head: &mut [u16; MAX_ATOMS],
+    after: &mut [u16; MAX_BONDS],
+    behind: &mut [u16; MAX_BONDS],
+)
+    requires { ⌜ b .0 < maxBonds ⌝ }
+    requires { ⌜ (end1 (now bonds) (b .0) < maxAtoms) × (end2 (now bonds) (b .0) < maxAtoms) ⌝ }
+    ensures { λ _. ⌜ now (head .exit) ≡ set (set (now (head .entry)) (end1 (now (bonds .entry)) (b .0)) (b .0)) (end2 (now (bonds .entry)) (b .0)) (b .0) ⌝ }
+    ensures { λ _. ⌜ now (after .exit) ≡ set (now (after .entry)) (b .0) (getD (now (head .entry)) (end1 (now (bonds .entry)) (b .0)) 0) ⌝ }
+    ensures { λ _. ⌜ now (behind .exit) ≡ set (now (behind .entry)) (b .0) (getD (now (head .entry)) (end2 (now (bonds .entry)) (b .0)) 0) ⌝ }
 {
-    let mut b = from;
-    while b < m {
-        if touches(bonds, BondId(b), v) {
-            return b;
-        }
-        b += 1;
+    let i = b.0;
+    let e = table::cell::bond_number(bonds, b, FIRST);
+    let f = table::cell::bond_number(bonds, b, SECOND);
+    after[i] = head[e];
+    behind[i] = head[f];
+    head[e] = i as u16;
+    head[f] = i as u16;
+}
+
+// The bonds at each atom as lists, from heads that are all m.
+fn link(
+    bonds: &[i32],
+    n: usize,
+    m: usize,
+    head: &mut [u16; MAX_ATOMS],
+    after: &mut [u16; MAX_BONDS],
+    behind: &mut [u16; MAX_BONDS],
+)
+    requires { ⌜ BondsFit (now bonds) n m ⌝ }
+    requires { ⌜ now head ≡ replicate maxAtoms m ⌝ }
+    requires { ⌜ (maxBonds ≤ length (now after)) × (maxBonds ≤ length (now behind)) ⌝ }
+    ensures { λ _. ⌜ Linked (now (bonds .entry)) n m 0 (now (head .exit)) (now (after .exit)) (now (behind .exit)) ⌝ }
+{
+    let mut b = m;
+    while 0 < b {
+        b -= 1;
+        link_bond(bonds, BondId(b), head, after, behind);
     }
-    b
+}
+
+// The next bond at an atom behind one of its bonds; m where there is none.
+fn next_after(
+    bonds: &[i32],
+    after: &[u16; MAX_BONDS],
+    behind: &[u16; MAX_BONDS],
+    b: BondId,
+    v: AtomId,
+) -> usize
+    requires { ⌜ b .0 < maxBonds ⌝ }
+    requires { ⌜ (getD (now after) (b .0) 0 ≤ maxBonds) × (getD (now behind) (b .0) 0 ≤ maxBonds) ⌝ }
+    ensures { λ r. ⌜ r ≡ nextAfter (now (bonds .entry)) (now (after .entry)) (now (behind .entry)) (b .0) (v .0) ⌝ }
+{
+    let i = b.0;
+    if table::cell::bond_number(bonds, b, FIRST) == v.0 {
+        return after[i] as usize;
+    }
+    behind[i] as usize
 }
 
 // One more atom is visited, with its parent's walk number plus 1 and the kind of the bond to it.
@@ -73,11 +115,14 @@ fn add(
     kind[count] = k as u8;
 }
 
-// The part of the walk at an atom, from a bond number on: each atom not yet visited, with all that is reached from it first. The number of atoms visited then.
+// The part of the walk at an atom, from one of its bonds on (m for none): each atom not yet visited, with all that is reached from it first. The number of atoms visited then.
 fn visit(
     bonds: &[i32],
     n: usize,
     m: usize,
+    head: &[u16; MAX_ATOMS],
+    after: &[u16; MAX_BONDS],
+    behind: &[u16; MAX_BONDS],
     order: &mut [u16],
     number: &mut [u16],
     up: &mut [u16],
@@ -88,37 +133,44 @@ fn visit(
     count: usize,
 ) -> usize
     requires { ⌜ BondsFit (now bonds) n m ⌝ }
+    requires { ⌜ Linked (now bonds) n m 0 (now head) (now after) (now behind) ⌝ }
     requires { ⌜ Room (now order) (now number) (now up) (now kind) ⌝ }
     requires { ⌜ (hub < maxAtoms) × (from ≤ m) ⌝ }
+    requires { ⌜ (from < m → touching (now bonds) (v .0) from ≡ true) ⌝ }
     ensures { λ r. ⌜ Grown n (suc hub) (grow (now (bonds .entry)) n m (v .0) from) (sheet (now (order .entry)) (now (number .entry)) (now (up .entry)) (now (kind .entry)) count) (sheet (now (order .exit)) (now (number .exit)) (now (up .exit)) (now (kind .exit)) r) ⌝ }
 {
-    let b = next_at(bonds, m, v, from);
-    if m <= b {
-        return count;
+    let mut b = from;
+    let mut next = count;
+    while b < m {
+        let at = BondId(b);
+        let w = other_end(bonds, at, v);
+        b = next_after(bonds, after, behind, at, v);
+        if number[w] != 0 {
+            continue;
+        }
+        if n <= next {
+            return next;
+        }
+        let k = table::cell::bond_number(bonds, at, KIND);
+        add(order, number, up, kind, AtomId(w), hub + 1, k, next);
+        next = visit(
+            bonds,
+            n,
+            m,
+            head,
+            after,
+            behind,
+            order,
+            number,
+            up,
+            kind,
+            AtomId(w),
+            next,
+            head[w] as usize,
+            next + 1,
+        );
     }
-    let w = other_end(bonds, BondId(b), v);
-    if number[w] != 0 {
-        return visit(bonds, n, m, order, number, up, kind, v, hub, b + 1, count);
-    }
-    if n <= count {
-        return count;
-    }
-    let k = table::cell::bond_number(bonds, BondId(b), KIND);
-    add(order, number, up, kind, AtomId(w), hub + 1, k, count);
-    let next = visit(
-        bonds,
-        n,
-        m,
-        order,
-        number,
-        up,
-        kind,
-        AtomId(w),
-        count,
-        0,
-        count + 1,
-    );
-    visit(bonds, n, m, order, number, up, kind, v, hub, b + 1, next)
+    next
 }
 
 // A root of the walk, if the atom was not visited, with all that is reached from it. The number of atoms visited then.
@@ -126,6 +178,9 @@ fn root(
     bonds: &[i32],
     n: usize,
     m: usize,
+    head: &[u16; MAX_ATOMS],
+    after: &[u16; MAX_BONDS],
+    behind: &[u16; MAX_BONDS],
     order: &mut [u16],
     number: &mut [u16],
     up: &mut [u16],
@@ -134,6 +189,7 @@ fn root(
     count: usize,
 ) -> usize
     requires { ⌜ BondsFit (now bonds) n m ⌝ }
+    requires { ⌜ Linked (now bonds) n m 0 (now head) (now after) (now behind) ⌝ }
     requires { ⌜ Room (now order) (now number) (now up) (now kind) ⌝ }
     requires { ⌜ a .0 < n ⌝ }
     ensures { λ r. ⌜ Grown n 0 (rootForest (now (bonds .entry)) n m (a .0)) (sheet (now (order .entry)) (now (number .entry)) (now (up .entry)) (now (kind .entry)) count) (sheet (now (order .exit)) (now (number .exit)) (now (up .exit)) (now (kind .exit)) r) ⌝ }
@@ -150,13 +206,16 @@ fn root(
         bonds,
         n,
         m,
+        head,
+        after,
+        behind,
         order,
         number,
         up,
         kind,
         AtomId(v),
         count,
-        0,
+        head[v] as usize,
         count + 1,
     )
 }
@@ -176,10 +235,27 @@ pub fn walk(
     requires { ⌜ now number ≡ replicate (length (now number)) 0 ⌝ }
     ensures { λ _. ⌜ Walked (now (bonds .entry)) n m (now (order .exit)) (now (number .exit)) (now (up .exit)) (now (kind .exit)) ⌝ }
 {
+    let mut head = [m as u16; MAX_ATOMS];
+    let mut after = [0u16; MAX_BONDS];
+    let mut behind = [0u16; MAX_BONDS];
+    link(bonds, n, m, &mut head, &mut after, &mut behind);
     let mut count = 0;
     let mut a = 0;
     while a < n {
-        count = root(bonds, n, m, order, number, up, kind, AtomId(a), count);
+        count = root(
+            bonds,
+            n,
+            m,
+            &head,
+            &after,
+            &behind,
+            order,
+            number,
+            up,
+            kind,
+            AtomId(a),
+            count,
+        );
         a += 1;
     }
 }

@@ -1,5 +1,8 @@
-use Rattle.tour.proofs.Laws.{room-kept}
+use Rattle.tour.proofs.Lists.{head-within, head-here}
+use Rattle.tour.proofs.Laws.{room-kept, grown-from}
 use Rattle.tour.proofs.Roots.{root-skip, root-full, root-new}
+use Prim.Native.Nat.{suc}
+use lib.ListN.{getD}
 use native.Mathlib.Omega.{arith}
 use borrow.Author.Needs.{needs}
 use Rattle.tour.proofs.root.Statement.{statement}
@@ -12,19 +15,49 @@ slice-read-if1 : tie.Need-slice-read-if1
 slice-read-if1 c = search needs
 
 returns : tie.Need-returns
-returns c = let s = c .before .before .before .before .before .before in let a = s .args in let fit = s .pre .0 in root-skip fit _ _ _ _ (a .count) (a .a .0) (s .pre .1 .1) (c .if1 .taken)
+returns c =
+    let s = c .before .before .before .before .before .before in
+    let a = s .args in
+    let fit = s .pre .0 in
+    root-skip fit _ _ _ _ (a .count) (a .a .0) (s .pre .1 .1 .1) (c .if1 .taken)
 
 returns-2 : tie.Need-returns-2
-returns-2 c = let s = c .before .before .before .before .before .before .before in let a = s .args in let fit = s .pre .0 in root-full fit _ _ _ _ (a .count) (a .a .0) (s .pre .1 .1) (c .before .if1 .left) (c .if2 .taken)
+returns-2 c =
+    let s = c .before .before .before .before .before .before .before in
+    let a = s .args in
+    let fit = s .pre .0 in
+    root-full fit _ _ _ _ (a .count) (a .a .0) (s .pre .1 .1 .1) (c .before .if1 .left) (c .if2 .taken)
 
 add-requires : tie.Need-add-requires
 add-requires c κs = search needs
+
+mul-visit : tie.Need-mul-visit
+mul-visit c = search needs
+
+element-copy-out-visit : tie.Need-element-copy-out-visit
+element-copy-out-visit c = search needs
+
+cast-visit : tie.Need-cast-visit
+cast-visit c =
+    let s = c .before .before .before .before .before .before .before .before .before .before .before .before .before .before .before .before .before .before .before .before .before .before .before .before .before in
+    let a = s .args in
+    let fit = s .pre .0 in
+    let z = head-within (s .pre .1 .0) (a .a .0) (s .pre .1 .1 .1) in
+    let y = fit .few-bonds in
+    omega arith
 
 add-visit : tie.Need-add-visit
 add-visit c = search needs
 
 visit-requires : tie.Need-visit-requires
-visit-requires c κs = let s = c .before .before .before .before .before .before .before .before .before .before .before .before .before .before .before .before .before .before .before .before .before .before .before .before in let a = s .args in let fit = s .pre .0 in (fit, (room-kept (s .pre .1 .0) (c .before .before .before .before .before .before .before .before .before .before .before .before .add .kept .0) (c .before .before .before .before .before .before .before .before .before .before .before .before .add .kept .1 .0) (c .before .before .before .before .before .before .before .before .before .before .before .before .add .kept .1 .1 .0) (c .before .before .before .before .before .before .before .before .before .before .before .before .add .kept .1 .1 .1 .0), (omega (arith, fit .few-atoms, c .before .before .before .before .before .before .before .before .before .before .before .before .before .before .before .before .before .if2 .left), omega arith)))
+visit-requires c κs =
+    let s = c .before .before .before .before .before .before .before .before .before .before .before .before .before .before .before .before .before .before .before .before .before .before .before .before .before in
+    let a = s .args in
+    let fit = s .pre .0 in
+    let lk = s .pre .1 .0 in
+    let z = fit .few-atoms in
+    let k = c .before .before .before .before .before .before .before .before .before .before .before .before .before .before .before .before .before .before .if2 .left in
+    (fit, (lk, (room-kept (s .pre .1 .1 .0) (c .before .before .before .before .before .before .before .before .before .before .before .before .before .add .kept .0) (c .before .before .before .before .before .before .before .before .before .before .before .before .before .add .kept .1 .0) (c .before .before .before .before .before .before .before .before .before .before .before .before .before .add .kept .1 .1 .0) (c .before .before .before .before .before .before .before .before .before .before .before .before .before .add .kept .1 .1 .1 .0), ((omega arith, head-within lk (a .a .0) (s .pre .1 .1 .1)), head-here lk (a .a .0) (s .pre .1 .1 .1)))))
 
 same-length : tie.Need-same-length
 same-length c = search needs
@@ -39,7 +72,14 @@ same-length-4 : tie.Need-same-length-4
 same-length-4 c = search needs
 
 returns-3 : tie.Need-returns-3
-returns-3 c = let s = c .before .before .before .before .before .before .before .before .before .before .before .before .before .before .before .before .before .before .before .before .before .before .before .before .before .before .before .before .before .before .before .before .before in let a = s .args in let fit = s .pre .0 in root-new fit _ _ _ _ (a .count) (a .a .0) (s .pre .1 .1) _ _ _ _ _ (c .before .before .before .before .before .before .before .before .before .before .before .before .before .before .before .before .before .before .before .before .before .before .before .before .before .before .before .if1 .left) (omega (arith, fit .few-atoms, s .pre .1 .0 .number)) (c .before .before .before .before .before .before .before .before .before .before .before .before .before .before .before .before .before .before .before .before .before .add .ensures .0) (c .before .before .before .before .before .before .before .before .before .before .before .before .before .before .before .before .before .before .before .before .before .add .ensures .1 .0) (c .before .before .before .before .before .before .before .before .before .before .before .before .before .before .before .before .before .before .before .before .before .add .ensures .1 .1 .0) (c .before .before .before .before .before .before .before .before .before .before .before .before .before .before .before .before .before .before .before .before .before .add .ensures .1 .1 .1) (c .before .before .before .before .before .before .before .before .visit .ensures)
+returns-3 c =
+    let s = c .before .before .before .before .before .before .before .before .before .before .before .before .before .before .before .before .before .before .before .before .before .before .before .before .before .before .before .before .before .before .before .before .before .before in
+    let a = s .args in
+    let fit = s .pre .0 in
+    let h = s .pre .1 .1 .1 in
+    let lk = s .pre .1 .0 in
+    let below = grown-from fit (suc (a .count)) (a .a .0) 0 (getD (a .head .now) (a .a .0) 0) _ _ (omega arith) (lk .heads (a .a .0) h) (c .before .before .before .before .before .before .before .before .visit .ensures) in
+    root-new fit _ _ _ _ (a .count) (a .a .0) h _ _ _ _ _ (c .before .before .before .before .before .before .before .before .before .before .before .before .before .before .before .before .before .before .before .before .before .before .before .before .before .before .before .before .if1 .left) (omega (arith, fit .few-atoms, s .pre .1 .1 .0 .number)) (c .before .before .before .before .before .before .before .before .before .before .before .before .before .before .before .before .before .before .before .before .before .before .add .ensures .0) (c .before .before .before .before .before .before .before .before .before .before .before .before .before .before .before .before .before .before .before .before .before .before .add .ensures .1 .0) (c .before .before .before .before .before .before .before .before .before .before .before .before .before .before .before .before .before .before .before .before .before .before .add .ensures .1 .1 .0) (c .before .before .before .before .before .before .before .before .before .before .before .before .before .before .before .before .before .before .before .before .before .before .add .ensures .1 .1 .1) below
 
 pub root-spec : {M : Type 1} → statement M
 root-spec =
@@ -50,6 +90,9 @@ root-spec =
     returns
     returns-2
     add-requires
+    mul-visit
+    element-copy-out-visit
+    cast-visit
     add-visit
     visit-requires
     same-length
