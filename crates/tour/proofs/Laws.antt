@@ -1,13 +1,12 @@
 -- One law for each way through the walk's code. Assumes nothing.
-use Prim.Native.Nat.{ℕ, zero, suc, _+_, _*_, _-_, _<_, _≤_}
+use Prim.Native.Nat.{ℕ, suc, _+_, _-_, _<_, _≤_}
 use native.Mathlib.Omega.{arith}
 use native.Mathlib.Numerals.{add-one}
 use mathlib.Core.Path.{_≡_, refl, sym, ap, _∙_, subst}
-use mathlib.Core.Bool.{Bool, true, false}
+use mathlib.Core.Bool.{true, false}
 use mathlib.Core.List.{List, [], _∷_, _++_, append-assoc, append-nil}
 use lib.ListN.{length, getD, set, length-append}
 use lib.IntN.{ℤ}
-use Rattle.table.specs.Limits.{maxAtoms}
 use Rattle.table.specs.Cells.{kind}
 use Rattle.walk.specs.Emit.{Forest, leaf, node, size, pre}
 use Rattle.walk.specs.Walk.{member}

@@ -1,15 +1,16 @@
 -- The bonds at each atom as lists, put in front one by one from the last bond on. Assumes nothing.
-use Prim.Native.Nat.{ℕ, zero, suc, _+_, _-_, _<_, _≤_}
+use Prim.Native.Nat.{ℕ, zero, suc, _-_, _<_, _≤_}
 use native.Mathlib.Omega.{arith}
 use mathlib.Core.Path.{_≡_, refl, sym, ap, _∙_, subst}
 use mathlib.Core.Bool.{Bool, true, false, _||_}
-use mathlib.Core.List.{List, [], _∷_}
+use mathlib.Core.List.{List}
 use lib.ListN.{length, getD, set, replicate, length-set}
 use lib.Seq.{getD-set-same, getD-set-other}
 use lib.IntN.{ℤ}
 use lib.Dec.{eqb}
 use borrow.Author.Tests.{eqb-true, eqb-false}
 use Rattle.loops.specs.Loop.{pick}
+use Rattle.table.specs.Limits.{maxAtoms}
 use Rattle.table.specs.Cells.{end1, end2}
 use Rattle.tour.specs.Tour.{touching, firstFrom, nextAfter, BondsFit, Linked}
 use Rattle.tour.proofs.Ways.{next-is}
@@ -19,23 +20,33 @@ all-same zero m v h = absurd (omega arith)
 all-same (suc k) m zero h = refl
 all-same (suc k) m (suc v) h = all-same k m v (omega arith)
 
+-- bonds that fit n atoms fit the most atoms that there may be
+pub fit-wide : {bonds : List ℤ} {n m : ℕ} → BondsFit bonds n m → BondsFit bonds maxAtoms m
+fit-wide fit =
+    record {
+      few-atoms = omega arith;
+      few-bonds = fit .few-bonds;
+      ends = λ b h. (fit .ends b h .0, omega (arith, fit .ends b h .1, fit .few-atoms));
+      kinds = fit .kinds;
+    }
+
 -- no bond is there yet
-pub linked-start : {bonds : List ℤ} {n m : ℕ} (k : ℕ) (head after behind : List ℕ) → n ≤ k → head ≡ replicate k m → Linked bonds n m m head after behind
+pub linked-start : {bonds : List ℤ} {m : ℕ} (head after behind : List ℕ) → head ≡ replicate maxAtoms m → Linked bonds m m head after behind
 unfolding firstFrom
-linked-start {bonds} {n} {m} k head after behind h e =
+linked-start {bonds} {m} head after behind e =
     let z : m - m ≡ 0 = omega arith in
     record {
-      heads = λ v i. ap (λ (l : List ℕ). getD l v 0) e ∙ all-same k m v (omega arith) ∙ simp z;
+      heads = λ v i. ap (λ (l : List ℕ). getD l v 0) e ∙ all-same maxAtoms m v i ∙ simp z;
       afters = λ c g i. absurd (omega arith);
       behinds = λ c g i. absurd (omega arith);
     }
 
-pub linked-cast : {bonds : List ℤ} {n m : ℕ} (b k : ℕ) (head after behind : List ℕ) → b ≡ k → Linked bonds n m b head after behind → Linked bonds n m k head after behind
-linked-cast {bonds} {n} {m} b k head after behind e l = subst (λ (j : ℕ). Linked bonds n m j head after behind) e l
+pub linked-cast : {bonds : List ℤ} {m : ℕ} (b k : ℕ) (head after behind : List ℕ) → b ≡ k → Linked bonds m b head after behind → Linked bonds m k head after behind
+linked-cast {bonds} {m} b k head after behind e l = subst (λ (j : ℕ). Linked bonds m j head after behind) e l
 
-module _ {bonds : List ℤ} {n m : ℕ} (fit : BondsFit bonds n m) (k : ℕ) (h : k < m) (head after behind : List ℕ) (l : Linked bonds n m (suc k) head after behind) where
+module _ {bonds : List ℤ} {m : ℕ} (fit : BondsFit bonds maxAtoms m) (k : ℕ) (h : k < m) (head after behind : List ℕ) (l : Linked bonds m (suc k) head after behind) where
   -- what was the head stands behind the new bond
-  behind-step : (end : ℕ → ℕ) (t : List ℕ) → end k < n → k < length t
+  behind-step : (end : ℕ → ℕ) (t : List ℕ) → end k < maxAtoms → k < length t
       → ((c : ℕ) → suc k ≤ c → c < m → getD t c 0 ≡ firstFrom (touching bonds (end c)) (suc c) (m - suc c))
       → (c : ℕ) → k ≤ c → c < m → getD (set t k (getD head (end k) 0)) c 0 ≡ firstFrom (touching bonds (end c)) (suc c) (m - suc c)
   behind-step end t g room old c i j = go (eqb c k) refl
@@ -45,7 +56,7 @@ module _ {bonds : List ℤ} {n m : ℕ} (fit : BondsFit bonds n m) (k : ℕ) (h 
       go false e = let q = eqb-false c k e in getD-set-other t k c (getD head (end k) 0) 0 q ∙ old c (omega arith) j
 
   head-step : (e f : ℕ) → e ≡ end1 bonds k → f ≡ end2 bonds k → e < length head → f < length head
-      → (v : ℕ) → v < n → getD (set (set head e k) f k) v 0 ≡ firstFrom (touching bonds v) k (m - k)
+      → (v : ℕ) → v < maxAtoms → getD (set (set head e k) f k) v 0 ≡ firstFrom (touching bonds v) k (m - k)
   unfolding firstFrom touching
   head-step e f ee ef he hf v i =
       let d : m - k ≡ suc (m - suc k) = omega arith in
@@ -61,9 +72,9 @@ module _ {bonds : List ℤ} {n m : ℕ} (fit : BondsFit bonds n m) (k : ℕ) (h 
       go false false p q = getD-set-other (set head e k) f v k 0 (λ x. eqb-false f v q (sym x)) ∙ getD-set-other head e v k 0 (λ x. eqb-false e v p (sym x)) ∙ l .heads v i
 
   -- the bond k is put in front
-  pub linked-step : n ≤ length head → m ≤ length after → m ≤ length behind → (head2 after2 behind2 : List ℕ)
+  pub linked-step : length head ≡ maxAtoms → m ≤ length after → m ≤ length behind → (head2 after2 behind2 : List ℕ)
       → head2 ≡ set (set head (end1 bonds k) k) (end2 bonds k) k → after2 ≡ set after k (getD head (end1 bonds k) 0) → behind2 ≡ set behind k (getD head (end2 bonds k) 0)
-      → Linked bonds n m k head2 after2 behind2
+      → Linked bonds m k head2 after2 behind2
   linked-step rh ra rb head2 after2 behind2 eh ea eb =
       let q = fit .ends k h in
       record {
@@ -72,14 +83,14 @@ module _ {bonds : List ℤ} {n m : ℕ} (fit : BondsFit bonds n m) (k : ℕ) (h 
         behinds = λ c i j. ap (λ (t : List ℕ). getD t c 0) eb ∙ behind-step (end2 bonds) behind (omega arith) (omega arith) (l .behinds) c i j;
       }
 
-module _ {bonds : List ℤ} {n m : ℕ} {head after behind : List ℕ} (l : Linked bonds n m 0 head after behind) where
+module _ {bonds : List ℤ} {m : ℕ} {head after behind : List ℕ} (l : Linked bonds m 0 head after behind) where
   first-within : (v from : ℕ) → from ≤ m → firstFrom (touching bonds v) from (m - from) ≤ m
   first-within v from h = next-is bonds v m from (firstFrom (touching bonds v) from (m - from)) h refl .high
 
-  pub head-within : (v : ℕ) → v < n → getD head v 0 ≤ m
+  pub head-within : (v : ℕ) → v < maxAtoms → getD head v 0 ≤ m
   head-within v h = rw (l .heads v h) (first-within v 0 (omega arith))
 
-  pub head-here : (v : ℕ) → v < n → getD head v 0 < m → touching bonds v (getD head v 0) ≡ true
+  pub head-here : (v : ℕ) → v < maxAtoms → getD head v 0 < m → touching bonds v (getD head v 0) ≡ true
   head-here v h = next-is bonds v m 0 (getD head v 0) (omega arith) (l .heads v h) .here
 
   pub after-within : (b : ℕ) → b < m → (getD after b 0 ≤ m) × (getD behind b 0 ≤ m)

@@ -6,7 +6,6 @@ use mathlib.Core.Bool.{Bool, true, false, _||_, cond}
 use mathlib.Core.List.{List, [], _∷_, _++_}
 use lib.IntN.{ℤ}
 use lib.Dec.{eqb}
-use borrow.Author.Tests.{eqb-true}
 use Rattle.loops.specs.Loop.{pick, upTo}
 use Rattle.table.specs.Cells.{end1, end2, kind}
 use Rattle.walk.specs.Token.{Bond}

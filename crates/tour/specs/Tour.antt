@@ -63,8 +63,8 @@ pub record BondsFit (bonds : List ℤ) (n m : ℕ) : Type 0 where
   pub kinds : (b : ℕ) → b < m → kind bonds b < 4
 
 -- the bonds from b on as lists: the first one at each atom, and behind each bond the next one at either end; m where there is none
-pub record Linked (bonds : List ℤ) (n m b : ℕ) (head after behind : List ℕ) : Type 0 where
-  pub heads : (v : ℕ) → v < n → getD head v 0 ≡ firstFrom (touching bonds v) b (m - b)
+pub record Linked (bonds : List ℤ) (m b : ℕ) (head after behind : List ℕ) : Type 0 where
+  pub heads : (v : ℕ) → v < maxAtoms → getD head v 0 ≡ firstFrom (touching bonds v) b (m - b)
   pub afters : (c : ℕ) → b ≤ c → c < m → getD after c 0 ≡ firstFrom (touching bonds (end1 bonds c)) (suc c) (m - suc c)
   pub behinds : (c : ℕ) → b ≤ c → c < m → getD behind c 0 ≡ firstFrom (touching bonds (end2 bonds c)) (suc c) (m - suc c)
 

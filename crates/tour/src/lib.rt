@@ -1,6 +1,6 @@
 // The walk of a molecule, depth first, into arrays by walk number.
 ghost use mathlib.Core.Path.{_≡_};
-ghost use Prim.Native.Nat.{suc, _+_, _-_, _<_, _≤_};
+ghost use Prim.Native.Nat.{suc, _+_, _<_, _≤_};
 ghost use mathlib.Core.Bool.{true};
 ghost use lib.ListN.{length, getD, replicate, set};
 ghost use Rattle.table.specs.Limits.{maxAtoms, maxBonds};
@@ -52,16 +52,15 @@ fn link_bond(
 // The bonds at each atom as lists, from heads that are all m.
 fn link(
     bonds: &[i32],
-    n: usize,
     m: usize,
     head: &mut [u16; MAX_ATOMS],
     after: &mut [u16; MAX_BONDS],
     behind: &mut [u16; MAX_BONDS],
 )
-    requires { ⌜ BondsFit (now bonds) n m ⌝ }
+    requires { ⌜ BondsFit (now bonds) maxAtoms m ⌝ }
     requires { ⌜ now head ≡ replicate maxAtoms m ⌝ }
     requires { ⌜ (maxBonds ≤ length (now after)) × (maxBonds ≤ length (now behind)) ⌝ }
-    ensures { λ _. ⌜ Linked (now (bonds .entry)) n m 0 (now (head .exit)) (now (after .exit)) (now (behind .exit)) ⌝ }
+    ensures { λ _. ⌜ Linked (now (bonds .entry)) m 0 (now (head .exit)) (now (after .exit)) (now (behind .exit)) ⌝ }
 {
     let mut b = m;
     while 0 < b {
@@ -133,7 +132,7 @@ fn visit(
     count: usize,
 ) -> usize
     requires { ⌜ BondsFit (now bonds) n m ⌝ }
-    requires { ⌜ Linked (now bonds) n m 0 (now head) (now after) (now behind) ⌝ }
+    requires { ⌜ Linked (now bonds) m 0 (now head) (now after) (now behind) ⌝ }
     requires { ⌜ Room (now order) (now number) (now up) (now kind) ⌝ }
     requires { ⌜ (hub < maxAtoms) × (from ≤ m) ⌝ }
     requires { ⌜ (from < m → touching (now bonds) (v .0) from ≡ true) ⌝ }
@@ -189,7 +188,7 @@ fn root(
     count: usize,
 ) -> usize
     requires { ⌜ BondsFit (now bonds) n m ⌝ }
-    requires { ⌜ Linked (now bonds) n m 0 (now head) (now after) (now behind) ⌝ }
+    requires { ⌜ Linked (now bonds) m 0 (now head) (now after) (now behind) ⌝ }
     requires { ⌜ Room (now order) (now number) (now up) (now kind) ⌝ }
     requires { ⌜ a .0 < n ⌝ }
     ensures { λ r. ⌜ Grown n 0 (rootForest (now (bonds .entry)) n m (a .0)) (sheet (now (order .entry)) (now (number .entry)) (now (up .entry)) (now (kind .entry)) count) (sheet (now (order .exit)) (now (number .exit)) (now (up .exit)) (now (kind .exit)) r) ⌝ }
@@ -238,7 +237,7 @@ pub fn walk(
     let mut head = [m as u16; MAX_ATOMS];
     let mut after = [0u16; MAX_BONDS];
     let mut behind = [0u16; MAX_BONDS];
-    link(bonds, n, m, &mut head, &mut after, &mut behind);
+    link(bonds, m, &mut head, &mut after, &mut behind);
     let mut count = 0;
     let mut a = 0;
     while a < n {

@@ -1,10 +1,11 @@
 -- The walk at an atom. The measure: the atoms not yet visited. Assumes nothing.
-use Prim.Native.Nat.{ℕ, suc, _+_, _-_, _<_}
+use Prim.Native.Nat.{ℕ, _-_, _<_}
 use mathlib.Core.Path.{_≡_, refl, _∙_}
 use native.Mathlib.Omega.{arith}
 use borrow.Fn.Kinds.{In}
 use borrow.Fn.PlainCycle.{Measures, is, falls, and}
 use lib.ListN.{length, getD}
+use Rattle.table.specs.Limits.{maxAtoms}
 use Rattle.tour.specs.Tour.{unseen, sheet}
 use Rattle.tour.proofs.Ways.{other-below}
 use Rattle.tour.proofs.Lists.{head-within, head-here, after-within, next-after-is, next-after-later}
@@ -91,7 +92,7 @@ visit-mul-if1 t c =
     let w : ℕ = c .before .other-end .result in
     let e = c .before .other-end .ensures in
     let q = other-below fit (a .v .0) (at .b) h in
-    let wn : w < a .n = omega (arith, q, e) in
+    let wn : w < maxAtoms = omega (arith, q, e, fit .few-atoms) in
     omega arith
 
 visit-slice-read-if1 : (t : ℕ) → visit-lts.Need-slice-read-if1 (visit-claims t) (visit-at t) visit.Post visit-Inv-loop visit-μ-loop
@@ -109,7 +110,7 @@ visit-slice-read-if1 t c =
     let w : ℕ = c .before .before .other-end .result in
     let e = c .before .before .other-end .ensures in
     let q = other-below fit (a .v .0) (at .b) h in
-    let wn : w < a .n = omega (arith, q, e) in
+    let wn : w < maxAtoms = omega (arith, q, e, fit .few-atoms) in
     let g = i .2 in
     omega arith
 
@@ -193,7 +194,7 @@ visit-add-requires t c κs =
     let w : ℕ = c .before .before .before .before .before .before .before .before .before .other-end .result in
     let e = c .before .before .before .before .before .before .before .before .before .other-end .ensures in
     let q = other-below fit (a .v .0) (at .b) h in
-    let wn : w < a .n = omega (arith, q, e) in
+    let wn : w < maxAtoms = omega (arith, q, e, fit .few-atoms) in
     let k = c .before .before .before .before .before .if2 .left in
     (room-kept room (i .1) (i .2) (i .3) (i .4), ((omega arith, omega arith), (omega (arith, s .pre .1 .1 .1 .1 .0 .0), rw (c .before .before .before .before .bond-number .ensures) (fit .kinds (at .b) h))))
 
@@ -210,7 +211,7 @@ visit-mul-visit t c =
     let w : ℕ = c .before .before .before .before .before .before .before .before .before .before .before .before .before .before .before .before .before .before .before .before .before .before .other-end .result in
     let e = c .before .before .before .before .before .before .before .before .before .before .before .before .before .before .before .before .before .before .before .before .before .before .other-end .ensures in
     let q = other-below fit (a .v .0) (at .b) h in
-    let wn : w < a .n = omega (arith, q, e) in
+    let wn : w < maxAtoms = omega (arith, q, e, fit .few-atoms) in
     omega arith
 
 visit-element-copy-out-visit : (t : ℕ) → visit-lts.Need-element-copy-out-visit (visit-claims t) (visit-at t) visit.Post visit-Inv-loop visit-μ-loop
@@ -226,7 +227,7 @@ visit-element-copy-out-visit t c =
     let w : ℕ = c .before .before .before .before .before .before .before .before .before .before .before .before .before .before .before .before .before .before .before .before .before .before .other-end .result in
     let e = c .before .before .before .before .before .before .before .before .before .before .before .before .before .before .before .before .before .before .before .before .before .before .other-end .ensures in
     let q = other-below fit (a .v .0) (at .b) h in
-    let wn : w < a .n = omega (arith, q, e) in
+    let wn : w < maxAtoms = omega (arith, q, e, fit .few-atoms) in
     omega arith
 
 visit-cast-visit : (t : ℕ) → visit-lts.Need-cast-visit (visit-claims t) (visit-at t) visit.Post visit-Inv-loop visit-μ-loop
@@ -243,7 +244,7 @@ visit-cast-visit t c =
     let w : ℕ = c .before .before .before .before .before .before .before .before .before .before .before .before .before .before .before .before .before .before .before .before .before .before .before .other-end .result in
     let e = c .before .before .before .before .before .before .before .before .before .before .before .before .before .before .before .before .before .before .before .before .before .before .before .other-end .ensures in
     let q = other-below fit (a .v .0) (at .b) h in
-    let wn : w < a .n = omega (arith, q, e) in
+    let wn : w < maxAtoms = omega (arith, q, e, fit .few-atoms) in
     let z = head-within lk w wn in
     omega arith
 
@@ -272,7 +273,7 @@ visit-visit-requires t c κs =
     let w : ℕ = c .before .before .before .before .before .before .before .before .before .before .before .before .before .before .before .before .before .before .before .before .before .before .before .other-end .result in
     let e = c .before .before .before .before .before .before .before .before .before .before .before .before .before .before .before .before .before .before .before .before .before .before .before .other-end .ensures in
     let q = other-below fit (a .v .0) (at .b) h in
-    let wn : w < a .n = omega (arith, q, e) in
+    let wn : w < maxAtoms = omega (arith, q, e, fit .few-atoms) in
     let g = i .2 in
     let k = c .before .before .before .before .before .before .before .before .before .before .before .before .before .before .before .before .before .before .before .if2 .left in
     let z = seen-less (at .number) (c .before .before .before .before .before .before .before .before .before .before .before .before .before .add .last .1 .0) w (at .next) (omega arith) (c .before .before .before .before .before .before .before .before .before .before .before .before .before .before .before .before .before .before .before .before .if1 .left) (c .before .before .before .before .before .before .before .before .before .before .before .before .before .add .ensures .1 .0) in
@@ -306,7 +307,7 @@ visit-loop-again-2 t c =
     let w : ℕ = c .before .before .before .before .before .before .before .before .before .before .before .before .before .before .before .before .before .before .before .before .before .before .before .before .before .before .before .before .before .before .before .before .other-end .result in
     let e = c .before .before .before .before .before .before .before .before .before .before .before .before .before .before .before .before .before .before .before .before .before .before .before .before .before .before .before .before .before .before .before .before .other-end .ensures in
     let q = other-below fit (a .v .0) (at .b) h in
-    let wn : w < a .n = omega (arith, q, e) in
+    let wn : w < maxAtoms = omega (arith, q, e, fit .few-atoms) in
     let r = next-after-is lk (at .b) (a .v .0) (c .before .before .before .before .before .before .before .before .before .before .before .before .before .before .before .before .before .before .before .before .before .before .before .before .before .before .before .before .before .before .before .next-after .result) h (i .0 .here h) (c .before .before .before .before .before .before .before .before .before .before .before .before .before .before .before .before .before .before .before .before .before .before .before .before .before .before .before .before .before .before .before .next-after .ensures) in
     let g = i .2 in
     (left-new fit (c .before .before .before .before .before .before .before .before .before .before .before .before .before .before .before .before .before .before .before .before .before .before .before .before .before .before .before .before .before .before .before .next-after .result) h r _ _ _ _ _ _ (i .0) w (c .before .before .before .before .before .before .before .before .before .before .before .before .before .before .before .before .before .before .before .before .before .before .before .before .before .before .before .bond-number .result) (getD (a .head .now) w 0) e (c .before .before .before .before .before .before .before .before .before .before .before .before .before .before .before .before .before .before .before .before .before .before .before .before .before .before .before .before .before .if1 .left) (c .before .before .before .before .before .before .before .before .before .before .before .before .before .before .before .before .before .before .before .before .before .before .before .before .before .before .before .bond-number .ensures) (lk .heads w wn) (omega arith) _ _ _ _ (c .before .before .before .before .before .before .before .before .before .before .before .before .before .before .before .before .before .before .before .before .before .before .add .ensures .0) (c .before .before .before .before .before .before .before .before .before .before .before .before .before .before .before .before .before .before .before .before .before .before .add .ensures .1 .0) (c .before .before .before .before .before .before .before .before .before .before .before .before .before .before .before .before .before .before .before .before .before .before .add .ensures .1 .1 .0) (c .before .before .before .before .before .before .before .before .before .before .before .before .before .before .before .before .before .before .before .before .before .before .add .ensures .1 .1 .1) _ (c .before .before .before .before .before .before .before .before .visit .ensures), c .before .before .before .before .before .before .before .before .visit .kept .1 .1 .1 .1 .1 .1 .0 ∙ c .before .before .before .before .before .before .before .before .before .before .before .before .before .before .before .before .before .before .before .before .before .before .add .kept .0 ∙ i .1, c .before .before .before .before .before .before .before .before .visit .kept .1 .1 .1 .1 .1 .1 .1 .0 ∙ c .before .before .before .before .before .before .before .before .before .before .before .before .before .before .before .before .before .before .before .before .before .before .add .kept .1 .0 ∙ i .2, c .before .before .before .before .before .before .before .before .visit .kept .1 .1 .1 .1 .1 .1 .1 .1 .0 ∙ c .before .before .before .before .before .before .before .before .before .before .before .before .before .before .before .before .before .before .before .before .before .before .add .kept .1 .1 .0 ∙ i .3, c .before .before .before .before .before .before .before .before .visit .kept .1 .1 .1 .1 .1 .1 .1 .1 .1 .0 ∙ c .before .before .before .before .before .before .before .before .before .before .before .before .before .before .before .before .before .before .before .before .before .before .add .kept .1 .1 .1 .0 ∙ i .4)

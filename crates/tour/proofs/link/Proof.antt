@@ -9,16 +9,15 @@ use Rattle.tour.proofs.link.Statement.{statement}
 use Rattle.tour.proofs.link.Tie as tie
 
 abbrev Inv-loop : tie.InvT-loop
-Inv-loop bonds n m head₀ after₀ behind₀ b₀ head after behind b = Linked bonds n m b head after behind × (b ≤ m) × (length head ≡ maxAtoms) × (maxBonds ≤ length after) × (maxBonds ≤ length behind)
+Inv-loop bonds m head₀ after₀ behind₀ b₀ head after behind b = Linked bonds m b head after behind × (b ≤ m) × (length head ≡ maxAtoms) × (maxBonds ≤ length after) × (maxBonds ≤ length behind)
 
 abbrev μ-loop : tie.MeasureT-loop
-μ-loop bonds n m head₀ after₀ behind₀ b₀ head after behind b = b
+μ-loop bonds m head₀ after₀ behind₀ b₀ head after behind b = b
 
 loop-holds : tie.Need-loop-holds Inv-loop μ-loop
 loop-holds c =
-    let fit = c .pre .0 in
     let e = c .pre .1 .0 in
-    (linked-start maxAtoms _ _ _ (fit .few-atoms) e, omega arith, ap length e ∙ length-replicate maxAtoms (c .args .m), c .pre .1 .1 .0, c .pre .1 .1 .1)
+    (linked-start _ _ _ e, omega arith, ap length e ∙ length-replicate maxAtoms (c .args .m), c .pre .1 .1 .0, c .pre .1 .1 .1)
 
 sub-b : tie.Need-sub-b Inv-loop μ-loop
 sub-b c = omega arith
@@ -30,7 +29,6 @@ link-bond-requires c κs =
     let i = c .before .before .before .before .loop .inv .1 in
     let k = c .before .before .before .loop-test .taken in
     let q = fit .ends (c .before .before .before .before .loop .b - 1) (omega arith) in
-    let f = fit .few-atoms in
     let g = fit .few-bonds in
     (omega arith, (omega arith, omega arith))
 
@@ -47,13 +45,12 @@ loop-again c =
     let e : b ≡ suc (b - 1) = omega arith in
     let l = linked-cast b (suc (b - 1)) _ _ _ e (i .0) in
     let x = c .link-bond .ensures in
-    let f = fit .few-atoms in
     let g = fit .few-bonds in
     let w = i .1 in
     let rh = i .2 in
     let ra = i .3 in
     let rb = i .4 in
-    (linked-step fit (b - 1) (omega arith) _ _ _ l (omega arith) (omega arith) (omega arith) _ _ _ (x .0) (x .1 .0) (x .1 .1), omega arith, rw (x .0, length-set, length-set) rh, rw (x .1 .0, length-set) ra, rw (x .1 .1, length-set) rb)
+    (linked-step fit (b - 1) (omega arith) _ _ _ l rh (omega arith) (omega arith) _ _ _ (x .0) (x .1 .0) (x .1 .1), omega arith, rw (x .0, length-set, length-set) rh, rw (x .1 .0, length-set) ra, rw (x .1 .1, length-set) rb)
 
 returns : tie.Need-returns Inv-loop μ-loop
 returns c =

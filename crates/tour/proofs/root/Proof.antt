@@ -1,7 +1,8 @@
 use Rattle.tour.proofs.Lists.{head-within, head-here}
 use Rattle.tour.proofs.Laws.{room-kept, grown-from}
 use Rattle.tour.proofs.Roots.{root-skip, root-full, root-new}
-use Prim.Native.Nat.{suc}
+use Prim.Native.Nat.{suc, _<_}
+use Rattle.table.specs.Limits.{maxAtoms}
 use lib.ListN.{getD}
 use native.Mathlib.Omega.{arith}
 use borrow.Author.Needs.{needs}
@@ -42,7 +43,8 @@ cast-visit c =
     let s = c .before .before .before .before .before .before .before .before .before .before .before .before .before .before .before .before .before .before .before .before .before .before .before .before .before in
     let a = s .args in
     let fit = s .pre .0 in
-    let z = head-within (s .pre .1 .0) (a .a .0) (s .pre .1 .1 .1) in
+    let h : a .a .0 < maxAtoms = omega (arith, fit .few-atoms, s .pre .1 .1 .1) in
+    let z = head-within (s .pre .1 .0) (a .a .0) h in
     let y = fit .few-bonds in
     omega arith
 
@@ -56,8 +58,9 @@ visit-requires c κs =
     let fit = s .pre .0 in
     let lk = s .pre .1 .0 in
     let z = fit .few-atoms in
+    let h : a .a .0 < maxAtoms = omega (arith, z, s .pre .1 .1 .1) in
     let k = c .before .before .before .before .before .before .before .before .before .before .before .before .before .before .before .before .before .before .if2 .left in
-    (fit, (lk, (room-kept (s .pre .1 .1 .0) (c .before .before .before .before .before .before .before .before .before .before .before .before .before .add .kept .0) (c .before .before .before .before .before .before .before .before .before .before .before .before .before .add .kept .1 .0) (c .before .before .before .before .before .before .before .before .before .before .before .before .before .add .kept .1 .1 .0) (c .before .before .before .before .before .before .before .before .before .before .before .before .before .add .kept .1 .1 .1 .0), ((omega arith, head-within lk (a .a .0) (s .pre .1 .1 .1)), head-here lk (a .a .0) (s .pre .1 .1 .1)))))
+    (fit, (lk, (room-kept (s .pre .1 .1 .0) (c .before .before .before .before .before .before .before .before .before .before .before .before .before .add .kept .0) (c .before .before .before .before .before .before .before .before .before .before .before .before .before .add .kept .1 .0) (c .before .before .before .before .before .before .before .before .before .before .before .before .before .add .kept .1 .1 .0) (c .before .before .before .before .before .before .before .before .before .before .before .before .before .add .kept .1 .1 .1 .0), ((omega arith, head-within lk (a .a .0) h), head-here lk (a .a .0) h))))
 
 same-length : tie.Need-same-length
 same-length c = search needs
@@ -78,7 +81,7 @@ returns-3 c =
     let fit = s .pre .0 in
     let h = s .pre .1 .1 .1 in
     let lk = s .pre .1 .0 in
-    let below = grown-from fit (suc (a .count)) (a .a .0) 0 (getD (a .head .now) (a .a .0) 0) _ _ (omega arith) (lk .heads (a .a .0) h) (c .before .before .before .before .before .before .before .before .visit .ensures) in
+    let below = grown-from fit (suc (a .count)) (a .a .0) 0 (getD (a .head .now) (a .a .0) 0) _ _ (omega arith) (lk .heads (a .a .0) (omega (arith, h, fit .few-atoms))) (c .before .before .before .before .before .before .before .before .visit .ensures) in
     root-new fit _ _ _ _ (a .count) (a .a .0) h _ _ _ _ _ (c .before .before .before .before .before .before .before .before .before .before .before .before .before .before .before .before .before .before .before .before .before .before .before .before .before .before .before .before .if1 .left) (omega (arith, fit .few-atoms, s .pre .1 .1 .0 .number)) (c .before .before .before .before .before .before .before .before .before .before .before .before .before .before .before .before .before .before .before .before .before .before .add .ensures .0) (c .before .before .before .before .before .before .before .before .before .before .before .before .before .before .before .before .before .before .before .before .before .before .add .ensures .1 .0) (c .before .before .before .before .before .before .before .before .before .before .before .before .before .before .before .before .before .before .before .before .before .before .add .ensures .1 .1 .0) (c .before .before .before .before .before .before .before .before .before .before .before .before .before .before .before .before .before .before .before .before .before .before .add .ensures .1 .1 .1) below
 
 pub root-spec : {M : Type 1} → statement M

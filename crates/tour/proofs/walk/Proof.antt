@@ -1,3 +1,4 @@
+use Rattle.tour.proofs.Lists.{fit-wide}
 use Rattle.tour.proofs.Laws.{room-kept}
 use Rattle.tour.proofs.Roots.{Sofar, sofar-start, sofar-step, sofar-end}
 use Rattle.tour.specs.Tour.{sheet}
@@ -25,7 +26,7 @@ link-requires : tie.Need-link-requires Inv-loop μ-loop
 link-requires c κs =
     let s = c .before .before .before .before .before .before .before in
     let fit = s .pre .0 in
-    (fit, (refl, (omega arith, omega arith)))
+    (fit-wide fit, (refl, (omega arith, omega arith)))
 
 loop-holds : tie.Need-loop-holds Inv-loop μ-loop
 loop-holds c =
