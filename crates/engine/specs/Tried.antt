@@ -36,3 +36,8 @@ pub record Stranded (need last : List ℕ) (v from : ℕ) : Type 0 where
   pub there : v < length last
   pub wants : flagged need v ≡ true
   pub late : getD last v 0 ≤ from
+
+-- the bond k was taken if it was free: its digit is x, and the flags are need′ after it
+pub record Taken (ea eb el need : List ℕ) (k x : ℕ) (need′ : List ℕ) : Type 0 where
+  pub digit : x ≡ pick (freeAt ea eb el need k) 1 0
+  pub flags : need′ ≡ pick (freeAt ea eb el need k) (markAt ea eb need k 0) need

@@ -1,5 +1,6 @@
-// The search that the calls on molecules use: a plain one under a budget, which leaves a branch at once when an atom without a
-// partner has no bond left; where it gives up, the certified one. Its contracts are those of `search`.
+// The search that the calls on molecules use: first each bond in turn, with no way back; then a plain search under a budget,
+// which leaves a branch at once when an atom without a partner has no bond left; where it gives up, the certified one. Its
+// contracts are those of `search`.
 use ids::AtomId;
 use ids::BondId;
 use matching::Answer;
@@ -12,7 +13,7 @@ ghost use lib.ListN.{length, take, set};
 ghost use Rattle.matching.specs.Enumeration.{rowFirst, rowNext};
 ghost use Rattle.matching.specs.Graph.{isMatching};
 ghost use Rattle.matching.specs.Model.{Shape, Tables, Searched, Ends, allFrom, laterFrom, matchingFrom, part, bondsOf, reply};
-ghost use Rattle.engine.specs.Tried.{Tried, withBond, Lasts, noted, Stranded};
+ghost use Rattle.engine.specs.Tried.{Tried, withBond, Lasts, noted, Stranded, Taken};
 
 // How many bonds the plain search may choose before it gives up.
 const BUDGET: usize = 400;
@@ -216,12 +217,69 @@ fn later(
     later(ea, eb, el, need, row, last, BondId(next))
 }
 
+// Takes the bond k if it can be chosen: its digit in the row.
+fn take_bond(ea: &[u16], eb: &[u16], el: &[u8], need: &mut [u8], k: BondId) -> u8
+    requires { ⌜ Ends (now ea) (now eb) (now need) (k .0) ⌝ }
+    requires { ⌜ k .0 < length (now el) ⌝ }
+    ensures { λ r. ⌜ Taken (now (ea .entry)) (now (eb .entry)) (now (el .entry)) (now (need .entry)) (k .0) r (now (need .exit)) ⌝ }
+{
+    if !search::choosable(ea, eb, el, need, k) {
+        return 0;
+    }
+    search::mark(ea, eb, need, k, 0);
+    1
+}
+
+// Takes each bond that can be chosen, in order: true if every atom has its partner then. The flags are used up.
+fn greedy(ea: &[u16], eb: &[u16], el: &[u8], need: &mut [u8], row: &mut [u8]) -> bool
+    requires { ⌜ Shape (now ea) (now eb) (now el) (now need) (now row) 0 ⌝ }
+    ensures { λ r. ⌜ (r ≡ true → Searched (now (need .entry)) (now (row .entry)) 0 (length (now (ea .entry))) (allFrom (now (ea .entry)) (now (eb .entry)) (now (el .entry)) (now (need .entry)) 0) true (now (need .entry)) (now (row .exit))) ⌝ }
+{
+    let mut at = 0;
+    while at < ea.len() {
+        row[at] = take_bond(ea, eb, el, need, BondId(at));
+        at += 1;
+    }
+    search::all_paired(need)
+}
+
+// The flags of all atoms, copied.
+fn copy(from: &[u8], to: &mut [u8])
+    requires { ⌜ length (now to) ≡ length (now from) ⌝ }
+    ensures { λ _. ⌜ now (to .exit) ≡ now (from .entry) ⌝ }
+{
+    let mut i = 0;
+    while i < from.len() {
+        to[i] = from[i];
+        i += 1;
+    }
+}
+
+// The same on a copy of the flags: true if the row is the first matching, false says nothing.
+fn try_greedy(ea: &[u16], eb: &[u16], el: &[u8], need: &[u8], row: &mut [u8]) -> bool
+    requires { ⌜ Shape (now ea) (now eb) (now el) (now need) (now row) 0 ⌝ }
+    ensures { λ r. ⌜ (r ≡ true → Searched (now (need .entry)) (now (row .entry)) 0 (length (now (ea .entry))) (allFrom (now (ea .entry)) (now (eb .entry)) (now (el .entry)) (now (need .entry)) 0) true (now (need .entry)) (now (row .exit))) ⌝ }
+{
+    let n = need.len();
+    if MAX_ATOMS < n {
+        return false;
+    }
+    let mut flags = [0u8; MAX_ATOMS];
+    let used = &mut flags[..n];
+    copy(need, used);
+    greedy(ea, eb, el, used, row)
+}
+
 // internal: the first matching.
 pub fn first(ea: &[u16], eb: &[u16], el: &[u8], need: &mut [u8], row: &mut [u8]) -> Answer
     requires { ⌜ Shape (now ea) (now eb) (now el) (now need) (now row) 0 ⌝ }
     ensures { λ r. ⌜ now (need .exit) ≡ now (need .entry) ⌝ }
     ensures { λ r. ⌜ reply r (now (row .exit)) ≡ rowFirst (isMatching (now (need .entry)) (bondsOf (now (ea .entry)) (now (eb .entry)) (now (el .entry)))) (length (now (ea .entry))) (length (now (row .entry))) ⌝ }
 {
+    if try_greedy(ea, eb, el, need, row) {
+        search::clear(row, ea.len());
+        return Answer::Given;
+    }
     let mut last = [0usize; MAX_ATOMS];
     fill_lasts(ea, eb, el, need, &mut last);
     let found = seek_any(ea, eb, el, need, row, &last, BondId(0));
