@@ -1,7 +1,9 @@
-use borrow.Author.Tests.{le-ltb}
+use mathlib.Core.Path.{_∙_}
+use borrow.Author.Tests.{le-ltb, lt-ltb}
+use mir.Val.{SFits}
+use mir.Syntax.{w32}
 use mir.Facts.{toZ-ofZ}
 use Rattle.table.specs.Rows.{putBond}
-use Rattle.table.proofs.Rows.{put-bond-law}
 use borrow.Author.Needs.{needs}
 use Rattle.table.proofs.row.put_bond.Statement.{statement}
 use Rattle.table.proofs.row.put_bond.Tie as tie
@@ -10,36 +12,49 @@ returns : tie.Need-returns
 unfolding putBond
 returns c = simp (le-ltb _ _ (c .if1 .taken))
 
-put-bond-cell-requires : tie.Need-put-bond-cell-requires
-put-bond-cell-requires c κs = search needs
+mul-if2 : tie.Need-mul-if2
+mul-if2 c = search needs
 
-put-bond-cell-requires-2 : tie.Need-put-bond-cell-requires-2
-put-bond-cell-requires-2 c κs = search needs
+add-if2 : tie.Need-add-if2
+add-if2 c = search needs
 
-put-bond-cell-requires-3 : tie.Need-put-bond-cell-requires-3
-put-bond-cell-requires-3 c κs = search needs
+put-bond-beyond-requires : tie.Need-put-bond-beyond-requires
+put-bond-beyond-requires c κs = search needs
 
 same-length : tie.Need-same-length
 same-length c = search needs
 
 returns-2 : tie.Need-returns-2
-returns-2 c =
-    let c2 = c .before .before .before .before in
-    let c1 = c2 .before .before .before .before in
-    let c0 = c1 .before .before .before .before in
+unfolding putBond
+returns-2 c = simp (lt-ltb _ _ (c .before .before .before .before .before .if1 .left)) (c .before .put-bond-beyond .ensures)
+
+lay-bond-requires : tie.Need-lay-bond-requires
+lay-bond-requires c κs = search needs
+
+same-length-2 : tie.Need-same-length-2
+same-length-2 c = search needs
+
+returns-3 : tie.Need-returns-3
+unfolding putBond
+returns-3 c =
+    let c0 = c .before .before .before .before .before .before .before .before in
+    let x = c0 .before .before .args .x in
     let w = c .before .before .struct-told3 .given in
-    put-bond-law (c0 .before .before .args .t .now) (c0 .before .before .args .b .0) (c0 .before .before .args .x) (c0 .if1 .left)
-    (c1 .before .put-bond-cell .ensures) (toZ-ofZ (record { sfits = w .0 .1 }))
-    (c2 .before .put-bond-cell2 .ensures) (toZ-ofZ (record { sfits = w .1 .0 .1 }))
-    (c .before .put-bond-cell3 .ensures) (toZ-ofZ (record { sfits = w .1 .1 .0 .1 }))
+    let e1 : SFits w32 (x .first) = record { sfits = w .0 .1 } in
+    let e2 : SFits w32 (x .second) = record { sfits = w .1 .0 .1 } in
+    let e3 : SFits w32 (x .kind) = record { sfits = w .1 .1 .0 .1 } in
+    simp (lt-ltb _ _ (c0 .if1 .left)) (c .before .lay-bond .ensures ∙ simp (toZ-ofZ e1, toZ-ofZ e2, toZ-ofZ e3))
 
 pub put-bond-spec : {M : Type 1} → statement M
 put-bond-spec =
     tie.close
     (tie.spec
     returns
-    put-bond-cell-requires
-    put-bond-cell-requires-2
-    put-bond-cell-requires-3
+    mul-if2
+    add-if2
+    put-bond-beyond-requires
     same-length
-    returns-2)
+    returns-2
+    lay-bond-requires
+    same-length-2
+    returns-3)
