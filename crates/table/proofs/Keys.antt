@@ -5,14 +5,15 @@ use mathlib.Core.Path.{_≡_, refl, sym, ap, _∙_}
 use mathlib.Core.Bool.{Bool, true, false, _&&_, not}
 use mathlib.Core.List.{List, _++_}
 use lib.ListN.{getD}
-use lib.IntN.{ℤ}
-use lib.Dec.{eqb}
+use lib.IntN.{ℤ, pos}
+use lib.Signed.{leZ}
+use lib.Dec.{eqb, ltb}
 use borrow.Author.Count.{below-more}
-use borrow.Author.Tests.{eq-eqb, ne-eqb, eqb-true, eqb-false, not-true, not-false}
+use borrow.Author.Tests.{eq-eqb, ne-eqb, eqb-true, eqb-false, ltb-true, not-true, not-false}
 use Rattle.loops.specs.Loop.{each, upTo}
-use Rattle.loops.proofs.Loops.{each-all, each-same, filled-at}
-use Rattle.table.specs.Cells.{end1, end2}
-use Rattle.table.specs.Valid.{sameEnds, fresh, distinct, bondOk}
+use Rattle.loops.proofs.Loops.{and-left, and-right, each-all, each-same, filled-at}
+use Rattle.table.specs.Cells.{number, inRange, end1, end2}
+use Rattle.table.specs.Valid.{sameEnds, fresh, distinct, bondOk, bondRowOk}
 use Rattle.table.specs.Keys.{ShortEnds, endsKey, freshKey}
 use Rattle.table.proofs.Valid.{bond-fine}
 
@@ -54,31 +55,47 @@ key-apart t k j l = split (eqb (end1 t k) (end1 t j)) refl (eqb (end2 t k) (end2
     split true e false f = refl
     split false e q f = refl
 
--- the keys of the first i bonds of m ascend, up to the last
-pub record Ascends (t : List ℤ) (m i last : ℕ) : Type 0 where
+-- the first i bonds of m are valid with n atoms, and their keys ascend, up to the last
+pub record Sorted (t : List ℤ) (n m i last : ℕ) : Type 0 where
   pub within : i ≤ m
+  pub fine : (j : ℕ) → j < i → bondOk t n j ≡ true
   pub below : (j : ℕ) → j < i → endsKey t j ≤ last
   pub apart : (k : ℕ) → k < i → (j : ℕ) → j < k → endsKey t j < endsKey t k
 
-pub ascends-start : {t : List ℤ} {m : ℕ} → Ascends t m 0 0
-ascends-start = record { within = omega arith; below = λ j l. absurd (omega arith); apart = λ k l. absurd (omega arith) }
+pub sorted-start : {t : List ℤ} {n m : ℕ} → Sorted t n m 0 0
+sorted-start = record { within = omega arith; fine = λ j l. absurd (omega arith); below = λ j l. absurd (omega arith); apart = λ k l. absurd (omega arith) }
 
-module _ {t : List ℤ} {m i last : ℕ} (a : Ascends t m i last) where
-  pub ascends-step : (key : ℕ) → i < m → last < key → key ≡ endsKey t i → Ascends t m (i + 1) key
-  ascends-step key h l e =
+module _ {t : List ℤ} {n m i last : ℕ} (a : Sorted t n m i last) where
+  pub sorted-step : (key : ℕ) → i < m → last < key → bondOk t n i ≡ true → key ≡ endsKey t i → Sorted t n m (i + 1) key
+  sorted-step key h l o e =
       record {
         within = omega arith;
+        fine = below-more (λ j. bondOk t n j ≡ true) i (a .fine) o;
         below = below-more (λ j. endsKey t j ≤ key) i (λ j r. omega (arith, a .below j r)) (omega arith);
         apart = below-more (λ k. (j : ℕ) → j < k → endsKey t j < endsKey t k) i (a .apart) (λ j r. omega (arith, a .below j r));
       }
 
-  pub ascends-end : m ≤ i → distinct t m ≡ true
+  pub sorted-rows : m ≤ i → each (bondOk t n) 0 m ≡ true
+  sorted-rows h = each-all (bondOk t n) m λ k l. a .fine k (omega arith)
+
+  pub sorted-apart : m ≤ i → distinct t m ≡ true
   unfolding distinct fresh
-  ascends-end h = each-all (fresh t) m λ k l. each-all (λ j. not (sameEnds t k j)) k λ j r. key-apart t k j (a .apart k (omega arith) j r)
+  sorted-apart h = each-all (fresh t) m λ k l. each-all (λ j. not (sameEnds t k j)) k λ j r. key-apart t k j (a .apart k (omega arith) j r)
 
 -- the ends of a valid bond are small
 pub short-ends : (t : List ℤ) (n b : ℕ) → n < 65536 → bondOk t n b ≡ true → ShortEnds t b
 short-ends t n b h e = let f = bond-fine t n b e in record { first = omega (arith, f .order, f .second); second = omega (arith, f .second) }
+
+-- so are those of valid cells
+pub short-row : (e f k : ℤ) (n : ℕ) → n < 65536 → bondRowOk e f k n ≡ true → (number e < 65536) × (number f < 65536)
+unfolding bondRowOk
+short-row e f k n h ok =
+    let a = inRange k (pos 0) (pos 3) in
+    let s = leZ (pos 0) e in
+    let o = ltb (number e) (number f) in
+    let q = ltb-true (number f) n (and-right (a && (s && o)) (ltb (number f) n) ok) in
+    let p = ltb-true (number e) (number f) (and-right s o (and-right a (s && o) (and-left (a && (s && o)) (ltb (number f) n) ok))) in
+    (omega arith, omega arith)
 
 -- a call told a test, and it was gone by
 pub held : {r b : Bool} → r ≡ b → not r ≡ false → b ≡ true

@@ -14,8 +14,11 @@ pub record ShortEnds (t : List ℤ) (b : ℕ) : Type 0 where
   pub second : end2 t b < 65536
 
 -- the keys of bonds in their usual order ascend: by the second end, and from the highest first end down
+abbrev pub keyOf : ℕ → ℕ → ℕ
+keyOf first second = second * 65536 + (65535 - first)
+
 abbrev pub endsKey : List ℤ → ℕ → ℕ
-endsKey t b = end2 t b * 65536 + (65535 - end1 t b)
+endsKey t b = keyOf (end1 t b) (end2 t b)
 
 -- the number at i differs from each before it
 abbrev pub freshKey : List ℕ → ℕ → Bool

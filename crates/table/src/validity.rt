@@ -6,8 +6,9 @@ ghost use mathlib.Core.List.{_++_};
 ghost use lib.ListN.{length, drop};
 ghost use Rattle.loops.specs.Loop.{each, upTo};
 ghost use Rattle.table.specs.Limits.{maxAtoms, maxBonds};
+ghost use Rattle.table.specs.Cells.{number};
 ghost use Rattle.table.specs.Valid.{selectable, selectionOk, atomRowOk, bondRowOk, atomOk, bondOk, distinct, valid, enough};
-ghost use Rattle.table.specs.Keys.{ShortEnds, endsKey, freshKey};
+ghost use Rattle.table.specs.Keys.{ShortEnds, keyOf, endsKey, freshKey};
 use crate::ATOM_CELLS;
 use crate::BOND_CELLS;
 use crate::CHARGE;
@@ -160,6 +161,14 @@ fn bonds_ok(t: &[i32], n: usize, m: usize) -> bool
     true
 }
 
+// Two ends as one number.
+fn key_of(first: usize, second: usize) -> u32
+    requires { ⌜ (first < 65536) × (second < 65536) ⌝ }
+    ensures { λ r. ⌜ r ≡ keyOf first second ⌝ }
+{
+    (second * 65536 + (65535 - first)) as u32
+}
+
 // The two ends of a bond as one number.
 fn ends_key(t: &[i32], b: BondId) -> u32
     requires { ⌜ b .0 < maxBonds ⌝ }
@@ -168,7 +177,7 @@ fn ends_key(t: &[i32], b: BondId) -> u32
 {
     let first = cell::bond_number(t, b, FIRST);
     let second = cell::bond_number(t, b, SECOND);
-    (second * 65536 + (65535 - first)) as u32
+    key_of(first, second)
 }
 
 // The ends of the first m bonds, each as one number.
@@ -207,16 +216,49 @@ fn all_different(keys: &[u32], m: usize) -> bool
     fine
 }
 
-// The ends of the first m bonds, each as one number, ascend: then no two are the same.
-fn ascending(t: &[i32], m: usize) -> bool
+// No two of the first m bonds join the same two atoms.
+fn distinct(t: &[i32], m: usize) -> bool
     requires { ⌜ m ≤ maxBonds ⌝ }
     requires { ⌜ ((b : ℕ) → b < m → ShortEnds (now t) b) ⌝ }
-    ensures { λ r. ⌜ (r ≡ true → distinct (now (t .entry)) m ≡ true) ⌝ }
+    ensures { λ r. ⌜ r ≡ distinct (now (t .entry)) m ⌝ }
+{
+    let mut keys = [0u32; MAX_BONDS];
+    fill_keys(t, m, &mut keys);
+    all_different(&keys, m)
+}
+
+// The ends of a bond's row as one number, 0 if its three cells are not valid with n atoms.
+fn row_key(first: i32, second: i32, kind: i32, n: usize) -> u32
+    requires { ⌜ n ≤ maxAtoms ⌝ }
+    ensures { λ r. ⌜ (0 < r → (bondRowOk first second kind n ≡ true) × (r ≡ keyOf (number first) (number second))) ⌝ }
+{
+    if !bond_row_ok(first, second, kind, n) {
+        return 0;
+    }
+    key_of(cell::number(first), cell::number(second))
+}
+
+// The ends of a bond as one number, 0 if its row is not valid with n atoms or the table ends before it does.
+fn valid_key(t: &[i32], n: usize, b: BondId) -> u32
+    requires { ⌜ (n ≤ maxAtoms) × (b .0 < maxBonds) ⌝ }
+    ensures { λ r. ⌜ (0 < r → (bondOk (now (t .entry)) n (b .0) ≡ true) × (r ≡ endsKey (now (t .entry)) (b .0))) ⌝ }
+{
+    let p = BOND_CELLS * b.0;
+    if t.len() <= p + KIND {
+        return 0;
+    }
+    row_key(t[p + FIRST], t[p + SECOND], t[p + KIND], n)
+}
+
+// The rows of m bonds lie in the table and are valid with n atoms, and their ends, each as one number, ascend: then no two are the same.
+fn sorted(t: &[i32], n: usize, m: usize) -> bool
+    requires { ⌜ (n ≤ maxAtoms) × (m ≤ maxBonds) ⌝ }
+    ensures { λ r. ⌜ (r ≡ true → (each (bondOk (now (t .entry)) n) 0 m ≡ true) × (distinct (now (t .entry)) m ≡ true)) ⌝ }
 {
     let mut last = 0;
     let mut i = 0;
     while i < m {
-        let key = ends_key(t, BondId(i));
+        let key = valid_key(t, n, BondId(i));
         if key <= last {
             return false;
         }
@@ -224,20 +266,6 @@ fn ascending(t: &[i32], m: usize) -> bool
         i += 1;
     }
     true
-}
-
-// No two of the first m bonds join the same two atoms.
-fn distinct(t: &[i32], m: usize) -> bool
-    requires { ⌜ m ≤ maxBonds ⌝ }
-    requires { ⌜ ((b : ℕ) → b < m → ShortEnds (now t) b) ⌝ }
-    ensures { λ r. ⌜ r ≡ distinct (now (t .entry)) m ⌝ }
-{
-    if ascending(t, m) {
-        return true;
-    }
-    let mut keys = [0u32; MAX_BONDS];
-    fill_keys(t, m, &mut keys);
-    all_different(&keys, m)
 }
 
 // internal: the tables with their counts are valid; a cell past the end counts as 0.
@@ -252,6 +280,9 @@ pub fn valid(atoms: &[i32], bonds: &[i32], n: usize, m: usize) -> bool
     }
     if !atoms_ok(atoms, n) {
         return false;
+    }
+    if sorted(bonds, n, m) {
+        return true;
     }
     if !bonds_ok(bonds, n, m) {
         return false;

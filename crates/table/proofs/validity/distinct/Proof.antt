@@ -1,14 +1,8 @@
-use mathlib.Core.Path.{sym, _∙_}
+use mathlib.Core.Path.{_∙_}
 use Rattle.table.proofs.Keys.{keys-distinct}
 use borrow.Author.Needs.{needs}
 use Rattle.table.proofs.validity.distinct.Statement.{statement}
 use Rattle.table.proofs.validity.distinct.Tie as tie
-
-ascending-requires : tie.Need-ascending-requires
-ascending-requires c κs = search needs
-
-returns : tie.Need-returns
-returns c = sym (c .before .ascending .ensures (c .if1 .taken))
 
 slice-aggregate-fill-keys : tie.Need-slice-aggregate-fill-keys
 slice-aggregate-fill-keys c = search needs
@@ -22,17 +16,15 @@ slice-aggregate-all-different c = search needs
 all-different-requires : tie.Need-all-different-requires
 all-different-requires c κs = search needs
 
-returns-2 : tie.Need-returns-2
-returns-2 c = c .all-different .ensures ∙ keys-distinct _ _ _ _ (c .before .before .before .fill-keys .ensures) (c .before .before .before .before .before .before .before .pre .1)
+returns : tie.Need-returns
+returns c = c .all-different .ensures ∙ keys-distinct _ _ _ _ (c .before .before .before .fill-keys .ensures) (c .before .before .before .before .before .pre .1)
 
 pub distinct-spec : {M : Type 1} → statement M
 distinct-spec =
     tie.close
     (tie.spec
-    ascending-requires
-    returns
     slice-aggregate-fill-keys
     fill-keys-requires
     slice-aggregate-all-different
     all-different-requires
-    returns-2)
+    returns)

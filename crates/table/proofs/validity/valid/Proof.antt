@@ -22,19 +22,28 @@ returns-3 : tie.Need-returns-3
 unfolding valid
 returns-3 c = simp (le-leb _ _ (c .before .before .before .if1 .left), le-leb _ _ (c .before .before .if2 .left), failed (c .before .atoms-ok .ensures) (c .if3 .taken))
 
-bonds-ok-requires : tie.Need-bonds-ok-requires
-bonds-ok-requires c κs = search needs
+sorted-requires : tie.Need-sorted-requires
+sorted-requires c κs = search needs
 
 returns-4 : tie.Need-returns-4
 unfolding valid
-returns-4 c = simp (le-leb _ _ (c .before .before .before .before .before .if1 .left), le-leb _ _ (c .before .before .before .before .if2 .left), held (c .before .before .before .atoms-ok .ensures) (c .before .before .if3 .left), failed (c .before .bonds-ok .ensures) (c .if4 .taken))
+returns-4 c =
+    let s = c .before .sorted .ensures (c .if4 .taken) in
+    simp (le-leb _ _ (c .before .before .before .before .before .if1 .left), le-leb _ _ (c .before .before .before .before .if2 .left), held (c .before .before .before .atoms-ok .ensures) (c .before .before .if3 .left), s .0, s .1)
 
-distinct-requires : tie.Need-distinct-requires
-distinct-requires c κs = (omega arith, λ b h. short-ends _ _ b (omega arith) (each-at _ _ b (held (c .before .bonds-ok .ensures) (c .if4 .left)) h))
+bonds-ok-requires : tie.Need-bonds-ok-requires
+bonds-ok-requires c κs = search needs
 
 returns-5 : tie.Need-returns-5
 unfolding valid
-returns-5 c = simp (le-leb _ _ (c .before .before .before .before .before .before .if1 .left), le-leb _ _ (c .before .before .before .before .before .if2 .left), held (c .before .before .before .before .atoms-ok .ensures) (c .before .before .before .if3 .left), held (c .before .before .bonds-ok .ensures) (c .before .if4 .left), c .distinct .ensures)
+returns-5 c = simp (le-leb _ _ (c .before .before .before .before .before .before .before .if1 .left), le-leb _ _ (c .before .before .before .before .before .before .if2 .left), held (c .before .before .before .before .before .atoms-ok .ensures) (c .before .before .before .before .if3 .left), failed (c .before .bonds-ok .ensures) (c .if5 .taken))
+
+distinct-requires : tie.Need-distinct-requires
+distinct-requires c κs = (omega arith, λ b h. short-ends _ _ b (omega arith) (each-at _ _ b (held (c .before .bonds-ok .ensures) (c .if5 .left)) h))
+
+returns-6 : tie.Need-returns-6
+unfolding valid
+returns-6 c = simp (le-leb _ _ (c .before .before .before .before .before .before .before .before .if1 .left), le-leb _ _ (c .before .before .before .before .before .before .before .if2 .left), held (c .before .before .before .before .before .before .atoms-ok .ensures) (c .before .before .before .before .before .if3 .left), held (c .before .before .bonds-ok .ensures) (c .before .if5 .left), c .distinct .ensures)
 
 pub valid-spec : {M : Type 1} → statement M
 valid-spec =
@@ -44,7 +53,9 @@ valid-spec =
     returns-2
     atoms-ok-requires
     returns-3
-    bonds-ok-requires
+    sorted-requires
     returns-4
+    bonds-ok-requires
+    returns-5
     distinct-requires
-    returns-5)
+    returns-6)
