@@ -66,11 +66,13 @@ pub sorted-start : {t : List ℤ} {n m : ℕ} → Sorted t n m 0 0
 sorted-start = record { within = omega arith; fine = λ j l. absurd (omega arith); below = λ j l. absurd (omega arith); apart = λ k l. absurd (omega arith) }
 
 module _ {t : List ℤ} {n m i last : ℕ} (a : Sorted t n m i last) where
-  pub sorted-step : (key : ℕ) → i < m → last < key → bondOk t n i ≡ true → key ≡ endsKey t i → Sorted t n m (i + 1) key
-  sorted-step key h l o e =
+  pub sorted-step : (key : ℕ) → i < m → last < key → (0 < key → (bondOk t n i ≡ true) × (key ≡ endsKey t i)) → Sorted t n m (i + 1) key
+  sorted-step key h l f =
+      let k = f (omega arith) in
+      let e = k .1 in
       record {
         within = omega arith;
-        fine = below-more (λ j. bondOk t n j ≡ true) i (a .fine) o;
+        fine = below-more (λ j. bondOk t n j ≡ true) i (a .fine) (k .0);
         below = below-more (λ j. endsKey t j ≤ key) i (λ j r. omega (arith, a .below j r)) (omega arith);
         apart = below-more (λ k. (j : ℕ) → j < k → endsKey t j < endsKey t k) i (a .apart) (λ j r. omega (arith, a .below j r));
       }

@@ -61,7 +61,7 @@ mul-extension : tie.Need-mul-extension
 mul-extension c = search needs
 
 slice-set-from-extension : tie.Need-slice-set-from-extension
-slice-set-from-extension c = search needs
+slice-set-from-extension c = simp length-set (omega arith)
 
 same-length : tie.Need-same-length
 same-length c = simp length-set

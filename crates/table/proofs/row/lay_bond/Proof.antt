@@ -34,7 +34,7 @@ mul-kind : tie.Need-mul-kind
 mul-kind c = search needs
 
 slice-set-from-kind : tie.Need-slice-set-from-kind
-slice-set-from-kind c = search needs
+slice-set-from-kind c = simp length-set (omega arith)
 
 same-length : tie.Need-same-length
 same-length c = search needs

@@ -26,9 +26,7 @@ loop-less : tie.Need-loop-less Inv-loop μ-loop
 loop-less c = omega arith
 
 loop-again : tie.Need-loop-again Inv-loop μ-loop
-loop-again c =
-    let k = c .before .valid-key .ensures (omega arith) in
-    sorted-step (c .before .before .before .loop .inv) _ (c .before .before .loop-test .taken) (c .if1 .left) (k .0) (k .1)
+loop-again c = sorted-step (c .before .before .before .loop .inv) _ (c .before .before .loop-test .taken) (c .if1 .left) (c .before .valid-key .ensures)
 
 returns-2 : tie.Need-returns-2 Inv-loop μ-loop
 returns-2 c =
