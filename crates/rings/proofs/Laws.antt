@@ -14,8 +14,8 @@ use Rattle.walk.specs.Token.{Bond, eqBond}
 use Rattle.walk.specs.Emit.{Slot, find, release, lowest, insert, closeAll, openAll}
 use Rattle.walk.proofs.Count.{count}
 use Rattle.walk.proofs.Read.{openOf, Within, first-in, close-within}
-use Rattle.spell.specs.Pen.{Pen, pen, Wrote}
-use Rattle.spell.proofs.Laws.{also, as-is, nothing}
+use Rattle.pen.specs.Pen.{Pen, pen, Wrote}
+use Rattle.pen.proofs.Laws.{also, as-is, nothing}
 use Rattle.writing.specs.Spell.{kindBytes, bridgeBytes}
 use Rattle.rings.specs.Slots.{indexOf, Near, offBond, isEnd, Bridged, Slots, closesFrom, opensFrom, closeBytes, openBytes, fits, Closed, Opened}
 use Rattle.rings.proofs.Slots.{same-number, lowest-index, slots-insert, find-index, slots-release}

@@ -10,7 +10,7 @@ use Rattle.walk.specs.Token.{Bond}
 use Rattle.walk.specs.Emit.{Slot, free, held, find, release, lowest, insert, closeAll, openAll}
 use Rattle.walk.specs.Walk.{keep, sweep}
 use Rattle.walk.proofs.Read.{openOf, Within}
-use Rattle.spell.specs.Pen.{Pen, Wrote}
+use Rattle.pen.specs.Pen.{Pen, Wrote}
 use Rattle.writing.specs.Spell.{kindBytes, bridgeBytes}
 
 -- the first place of a number in an array; its length where it is not there

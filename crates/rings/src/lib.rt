@@ -4,7 +4,7 @@ ghost use mathlib.Core.List.{[], _∷_, _++_};
 ghost use Prim.Native.Nat.{_+_, _<_, _≤_};
 ghost use lib.ListN.{length, set};
 ghost use Rattle.table.specs.Limits.{maxAtoms, maxBonds};
-ghost use Rattle.spell.specs.Pen.{pen, Wrote};
+ghost use Rattle.pen.specs.Pen.{pen, Wrote};
 ghost use Rattle.writing.specs.Spell.{kindBytes, bridgeBytes};
 ghost use Rattle.rings.specs.Slots.{indexOf, Near, isEnd, Closed, Opened};
 

@@ -1,17 +1,16 @@
--- Laws of the pen and of the spellings. Assumes nothing.
+-- Laws of the spellings. Assumes nothing.
 use Prim.Native.Nat.{ℕ, zero, suc, _+_, _/_, _%_, _<_, _≤_}
 use native.Mathlib.Omega.{arith}
-use native.Mathlib.Numerals.{add-one}
 use mathlib.Core.Path.{_≡_, refl, sym, ap, _∙_}
 use mathlib.Core.Bool.{Bool, true, false, _&&_, not}
 use mathlib.Core.List.{List, [], _∷_, _++_}
-use lib.ListN.{length, set, getD, List·getD-eq-default}
+use lib.ListN.{getD}
 use lib.IntN.{ℤ, pos, negsuc, natAbs, _-ℤ_}
 use lib.Signed.{ltZ, leZ, nonNeg}
 use mir.Val.{SFits}
 use mir.Syntax.{w32}
-use lib.Dec.{T, eqb, ltb, leb}
-use borrow.Author.Tests.{eq-eqb, ne-eqb, lt-ltb, le-ltb, not-true, ltb-true, leb-true, eqb-true, eqb-false, le-leb, lt-leb}
+use lib.Dec.{T, eqb, leb}
+use borrow.Author.Tests.{ne-eqb, lt-ltb, le-ltb, not-true, ltb-true, leb-true, eqb-true, eqb-false, le-leb, lt-leb}
 use Rattle.loops.specs.Loop.{pick}
 use Rattle.loops.proofs.Loops.{and-left, and-right}
 use Rattle.element.specs.Symbols.{symbols}
@@ -20,32 +19,7 @@ use Rattle.element.specs.declared.Spelling.{Spelling}
 use Rattle.table.specs.Limits.{ISOTOPE, CHARGE, EXTENSION}
 use Rattle.table.specs.Cells.{number, inRange, atomCell, element, selected, hydrogens}
 use Rattle.writing.specs.Spell.{digitByte, decimal, kindBytes, bridgeBytes, isotopeBytes, symbolBytes, sizeBytes, hydrogenBytes, chargeBytes, extensionBytes, bracketBytes, neutral}
-use Rattle.spell.specs.Pen.{Pen, pen, putByte, writes, Wrote}
 use Rattle.spell.specs.Fields.{letters, outside, spelledAtom}
-
-pub writes-append : (a b : List ℕ) (p : Pen) → writes (a ++ b) p ≡ writes b (writes a p)
-unfolding writes
-writes-append [] b p = refl
-writes-append (x ∷ a) b p = writes-append a b (putByte x p)
-
-pub room : (out : List ℕ) (at b : ℕ) → at < length out → Wrote (b ∷ []) (pen out at) (pen (set out at b) (at + 1))
-unfolding putByte writes
-room out at b h = record { same = simp (lt-ltb at (length out) h, add-one at) }
-
-pub full : (out : List ℕ) (at b : ℕ) → length out ≤ at → Wrote (b ∷ []) (pen out at) (pen out (length out + 1))
-unfolding putByte writes
-full out at b h = record { same = simp (le-ltb at (length out) h, add-one (length out)) }
-
--- nothing; one after the other; the same bytes
-pub nothing : {p : Pen} → Wrote [] p p
-unfolding writes
-nothing = record { same = refl }
-
-pub also : {a b : List ℕ} {p q r : Pen} → Wrote a p q → Wrote b q r → Wrote (a ++ b) p r
-also {a} {b} {p} w v = record { same = v .same ∙ ap (writes b) (w .same) ∙ sym (writes-append a b p) }
-
-pub as-is : {a b : List ℕ} {p q : Pen} → a ≡ b → Wrote b p q → Wrote a p q
-as-is {p = p} e w = record { same = w .same ∙ ap (λ l. writes l p) (sym e) }
 
 -- the digits of a number
 pub digits1 : (x : ℕ) → x < 10 → decimal x ≡ digitByte x ∷ []

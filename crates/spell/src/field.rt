@@ -5,11 +5,10 @@ ghost use Prim.Native.Nat.{_<_};
 ghost use lib.IntN.{pos, negsuc};
 ghost use Rattle.table.specs.Limits.{maxAtoms};
 ghost use Rattle.table.specs.Cells.{inRange};
-ghost use Rattle.spell.specs.Pen.{pen, Wrote};
+ghost use Rattle.pen.specs.Pen.{pen, Wrote};
 ghost use Rattle.spell.specs.Fields.{letters, AtomFits, outside, spelledAtom};
 ghost use Rattle.writing.specs.Spell.{isotopeBytes, symbolBytes, hydrogenBytes, sizeBytes, chargeBytes, extensionBytes, bracketBytes};
 use crate::decimal;
-use crate::put;
 use element::Spelling;
 use ids::AtomId;
 use table::CHARGE;
@@ -37,11 +36,11 @@ fn spelled(out: &mut [u8], at: usize, s: Spelling) -> usize
     if s.first == 0 {
         return at;
     }
-    let at = put(out, at, s.first);
+    let at = pen::put(out, at, s.first);
     if s.second == 0 {
         return at;
     }
-    put(out, at, s.second)
+    pen::put(out, at, s.second)
 }
 
 // The symbol of an element, or its selected letter.
@@ -71,7 +70,7 @@ fn sized(out: &mut [u8], at: usize, sign: u8, h: usize) -> usize
     if h == 0 {
         return at;
     }
-    let at = put(out, at, sign);
+    let at = pen::put(out, at, sign);
     if h == 1 {
         return at;
     }
@@ -97,7 +96,7 @@ fn extension(out: &mut [u8], at: usize, x: usize) -> usize
     if x == 0 {
         return at;
     }
-    let at = put(out, at, b':');
+    let at = pen::put(out, at, b':');
     decimal(out, at, x)
 }
 
@@ -107,14 +106,14 @@ fn bracket(atoms: &[i32], a: AtomId, out: &mut [u8], at: usize) -> usize
     requires { ⌜ AtomFits (now atoms) (a .0) ⌝ }
     ensures { λ r. ⌜ Wrote (bracketBytes (now (atoms .entry)) (a .0)) (pen (now (out .entry)) at) (pen (now (out .exit)) r) ⌝ }
 {
-    let at = put(out, at, b'[');
+    let at = pen::put(out, at, b'[');
     let at = isotope(out, at, table::cell::atom_number(atoms, a, ISOTOPE));
     let e = table::cell::atom_number(atoms, a, ELEMENT);
     let at = symbol(out, at, e, table::cell::atom_number(atoms, a, SELECTED));
     let at = hydrogens(out, at, table::cell::atom_number(atoms, a, HYDROGENS));
     let at = charge(out, at, table::cell::atom_cell(atoms, a, CHARGE));
     let at = extension(out, at, table::cell::atom_number(atoms, a, EXTENSION));
-    put(out, at, b']')
+    pen::put(out, at, b']')
 }
 
 // Whether an atom with this bond sum stands without brackets.

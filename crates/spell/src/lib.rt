@@ -1,28 +1,17 @@
 // The bytes of bond symbols, bridges and atoms, laid into a buffer.
 ghost use mathlib.Core.List.{[], _∷_};
 ghost use Prim.Native.Nat.{_<_};
-ghost use Rattle.spell.specs.Pen.{pen, Wrote};
+ghost use Rattle.pen.specs.Pen.{pen, Wrote};
 ghost use Rattle.writing.specs.Spell.{digitByte, decimal, kindBytes, bridgeBytes};
 
 pub mod field;
-
-// The next byte: laid where there is room, else counted as one too many. The place after it.
-pub fn put(out: &mut [u8], at: usize, b: u8) -> usize
-    ensures { λ r. ⌜ Wrote (b ∷ []) (pen (now (out .entry)) at) (pen (now (out .exit)) r) ⌝ }
-{
-    if at < out.len() {
-        out[at] = b;
-        return at + 1;
-    }
-    out.len() + 1
-}
 
 // A digit.
 fn digit(out: &mut [u8], at: usize, d: usize) -> usize
     requires { ⌜ d < 10 ⌝ }
     ensures { λ r. ⌜ Wrote (digitByte d ∷ []) (pen (now (out .entry)) at) (pen (now (out .exit)) r) ⌝ }
 {
-    put(out, at, 48 + d as u8)
+    pen::put(out, at, 48 + d as u8)
 }
 
 // internal: a number in decimal.
@@ -53,13 +42,13 @@ pub fn bond_symbol(out: &mut [u8], at: usize, k: usize) -> usize
     ensures { λ r. ⌜ Wrote (kindBytes k) (pen (now (out .entry)) at) (pen (now (out .exit)) r) ⌝ }
 {
     if k == 1 {
-        return put(out, at, b'-');
+        return pen::put(out, at, b'-');
     }
     if k == 2 {
-        return put(out, at, b'=');
+        return pen::put(out, at, b'=');
     }
     if k == 3 {
-        return put(out, at, b'#');
+        return pen::put(out, at, b'#');
     }
     at
 }
@@ -72,6 +61,6 @@ pub fn bridge(out: &mut [u8], at: usize, r: usize) -> usize
     if r < 9 {
         return digit(out, at, r + 1);
     }
-    let at = put(out, at, b'%');
+    let at = pen::put(out, at, b'%');
     decimal(out, at, r + 1)
 }

@@ -18,7 +18,7 @@ use Rattle.state.specs.Limits.{maxText}
 use Rattle.walk.specs.Emit.{pre}
 use Rattle.walk.specs.Walk.{forestOf, place}
 use Rattle.writing.specs.Write.{Told, bondList, tokens, textOf, renumbering, fewBridges, shallow, refused, short, filled, accepted, writeValid, lent, writeOf}
-use Rattle.spell.specs.Pen.{Pen, pen, putByte, writes, Wrote}
+use Rattle.pen.specs.Pen.{Pen, pen, putByte, writes, Wrote}
 use Rattle.writer.specs.Told.{Said}
 
 -- ---- clearing

@@ -29,9 +29,9 @@ use Rattle.walk.proofs.Twice.{Distinct}
 use Rattle.walk.proofs.Rows.{rows-text}
 use Rattle.writing.specs.Spell.{atomBytes, unbracketed, tokensBytes}
 use Rattle.writing.specs.Write.{bondAt, bondList, tokens, textOf, fewBridges, shallow}
-use Rattle.spell.specs.Pen.{Pen, Wrote}
+use Rattle.pen.specs.Pen.{Pen, Wrote}
+use Rattle.pen.proofs.Laws.{as-is}
 use Rattle.spell.specs.Fields.{AtomFits, outside, spelledAtom}
-use Rattle.spell.proofs.Laws.{as-is}
 use Rattle.tour.specs.Tour.{BondsFit, Room, Walked}
 use Rattle.tour.proofs.Ways.{bonds-inside}
 use Rattle.tour.proofs.Laws.{length-kinds, length-ups}

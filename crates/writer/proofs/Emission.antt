@@ -18,9 +18,9 @@ use Rattle.walk.proofs.Read.{openOf, Within, pending, Back, closes-within, inv-
 use Rattle.walk.proofs.Walk.{Inside}
 use Rattle.walk.proofs.Trip.{back-of}
 use Rattle.writing.specs.Spell.{kindBytes}
-use Rattle.spell.specs.Pen.{Pen, pen, Wrote}
+use Rattle.pen.specs.Pen.{Pen, pen, Wrote}
+use Rattle.pen.proofs.Laws.{also, as-is, nothing}
 use Rattle.spell.specs.Fields.{spelledAtom}
-use Rattle.spell.proofs.Laws.{also, as-is, nothing}
 use Rattle.rings.specs.Slots.{Bridged, Slots, closesFrom, opensFrom, closeBytes, openBytes, fits, Closed, Opened}
 use Rattle.writer.specs.Emit.{leaveBytes, enterBytes, leadBytes, headBytes, moreAt, Emitted, Texted, Pending, nextSlots, bytesFrom, fewFrom}
 

@@ -13,7 +13,7 @@ use Rattle.walk.specs.Emit.{Slot, closeAll, openAll}
 use Rattle.walk.proofs.Count.{count}
 use Rattle.walk.proofs.Read.{openOf, Within, pending}
 use Rattle.writing.specs.Spell.{kindBytes}
-use Rattle.spell.specs.Pen.{Pen, Wrote}
+use Rattle.pen.specs.Pen.{Pen, Wrote}
 use Rattle.spell.specs.Fields.{AtomFits, spelledAtom}
 use Rattle.rings.specs.Slots.{Bridged, Slots, closesFrom, opensFrom, closeBytes, openBytes, fits}
 

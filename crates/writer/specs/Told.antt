@@ -5,7 +5,7 @@ use mathlib.Core.Bool.{Bool, true}
 use mathlib.Core.List.{List}
 use lib.IntN.{ℤ}
 use Rattle.refusal.specs.Code.{codeOf}
-use Rattle.spell.specs.Pen.{Pen, Wrote}
+use Rattle.pen.specs.Pen.{Pen, Wrote}
 use Rattle.writing.specs.Write.{Told, tokens, textOf, fewBridges, shallow}
 use Rattle.writer.specs.declared.Written.{Written}
 use Rattle.writer.specs.declared.Written.the-variants.{Text, Refused}

@@ -3,7 +3,7 @@ ghost use mathlib.Core.Path.{_≡_};
 ghost use mathlib.Core.Bool.{true};
 ghost use Prim.Native.Nat.{ℕ, _<_, _≤_};
 ghost use lib.ListN.{length};
-ghost use Rattle.spell.specs.Pen.{pen, Wrote};
+ghost use Rattle.pen.specs.Pen.{pen, Wrote};
 ghost use Rattle.writer.specs.Emit.{leaveBytes, enterBytes, leadBytes, headBytes, Ready, Emitted, Texted};
 use ids::AtomId;
 use rings::Spot;
@@ -15,7 +15,7 @@ fn leave(out: &mut [u8], at: usize, up: usize, x: usize) -> usize
     if up == x {
         return at;
     }
-    spell::put(out, at, b')')
+    pen::put(out, at, b')')
 }
 
 // A child that is not the last stands in a branch.
@@ -23,7 +23,7 @@ fn enter(out: &mut [u8], at: usize, more: bool) -> usize
     ensures { λ r. ⌜ Wrote (enterBytes more) (pen (now (out .entry)) at) (pen (now (out .exit)) r) ⌝ }
 {
     if more {
-        return spell::put(out, at, b'(');
+        return pen::put(out, at, b'(');
     }
     at
 }
@@ -40,7 +40,7 @@ fn lead(out: &mut [u8], at: usize, x: usize, up: usize, more: bool, kind: usize)
     if x == 0 {
         return at;
     }
-    spell::put(out, at, b'.')
+    pen::put(out, at, b'.')
 }
 
 // The atom x of the walk: what stands before it, its bytes, what closes there and what opens there.

@@ -9,7 +9,7 @@ ghost use Rattle.state.specs.Limits.{maxText};
 ghost use Rattle.writing.specs.Write.{writeValid, writeOf};
 ghost use Rattle.table.specs.Valid.{Valid};
 ghost use Rattle.tour.specs.Tour.{Walked, Room};
-ghost use Rattle.spell.specs.Pen.{pen};
+ghost use Rattle.pen.specs.Pen.{pen};
 ghost use Rattle.writer.specs.Told.{Said, told};
 use refusal::Refusal;
 use table::MAX_ATOMS;

@@ -1,4 +1,4 @@
-use Rattle.spell.proofs.Laws.{also}
+use Rattle.pen.proofs.Laws.{also}
 use mathlib.Core.Path.{refl}
 use borrow.Author.Needs.{needs}
 use Rattle.rings.proofs.write_slot.Statement.{statement}

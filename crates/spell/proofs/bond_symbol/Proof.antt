@@ -1,4 +1,5 @@
-use Rattle.spell.proofs.Laws.{as-is, nothing, symbol1, symbol2, symbol3, no-symbol}
+use Rattle.pen.proofs.Laws.{as-is, nothing}
+use Rattle.spell.proofs.Laws.{symbol1, symbol2, symbol3, no-symbol}
 use borrow.Author.Needs.{needs}
 use Rattle.spell.proofs.bond_symbol.Statement.{statement}
 use Rattle.spell.proofs.bond_symbol.Tie as tie

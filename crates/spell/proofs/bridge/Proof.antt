@@ -1,4 +1,5 @@
-use Rattle.spell.proofs.Laws.{also, as-is, low-bridge, high-bridge}
+use Rattle.pen.proofs.Laws.{also, as-is}
+use Rattle.spell.proofs.Laws.{low-bridge, high-bridge}
 use borrow.Author.Needs.{needs}
 use Rattle.spell.proofs.bridge.Statement.{statement}
 use Rattle.spell.proofs.bridge.Tie as tie

@@ -1,4 +1,5 @@
-use Rattle.spell.proofs.Laws.{also, as-is, digits1, digits2, digits3, digits4}
+use Rattle.pen.proofs.Laws.{also, as-is}
+use Rattle.spell.proofs.Laws.{digits1, digits2, digits3, digits4}
 use borrow.Author.Needs.{needs}
 use Rattle.spell.proofs.decimal.Statement.{statement}
 use Rattle.spell.proofs.decimal.Tie as tie

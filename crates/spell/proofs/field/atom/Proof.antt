@@ -1,5 +1,6 @@
 use mathlib.Core.Path.{sym, _∙_}
-use Rattle.spell.proofs.Laws.{as-is, bare-atom, bracket-atom}
+use Rattle.pen.proofs.Laws.{as-is}
+use Rattle.spell.proofs.Laws.{bare-atom, bracket-atom}
 use borrow.Author.Needs.{needs}
 use Rattle.spell.proofs.field.atom.Statement.{statement}
 use Rattle.spell.proofs.field.atom.Tie as tie

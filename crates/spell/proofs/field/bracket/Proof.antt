@@ -1,7 +1,8 @@
 use native.Mathlib.Omega.{arith}
 use mathlib.Core.Path.{_∙_}
 use mir.Facts.{toZ-ofZ}
-use Rattle.spell.proofs.Laws.{also, as-is, bracket-is}
+use Rattle.pen.proofs.Laws.{also, as-is}
+use Rattle.spell.proofs.Laws.{bracket-is}
 use borrow.Author.Needs.{needs}
 use Rattle.spell.proofs.field.bracket.Statement.{statement}
 use Rattle.spell.proofs.field.bracket.Tie as tie

@@ -1,5 +1,6 @@
 use mir.Facts.{toZ-ofZ, fits-natAbs}
-use Rattle.spell.proofs.Laws.{as-is, below, above}
+use Rattle.pen.proofs.Laws.{as-is}
+use Rattle.spell.proofs.Laws.{below, above}
 use borrow.Author.Needs.{needs}
 use Rattle.spell.proofs.field.charge.Statement.{statement}
 use Rattle.spell.proofs.field.charge.Tie as tie

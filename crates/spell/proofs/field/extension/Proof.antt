@@ -1,4 +1,5 @@
-use Rattle.spell.proofs.Laws.{also, as-is, nothing, extension0, extension1}
+use Rattle.pen.proofs.Laws.{also, as-is, nothing}
+use Rattle.spell.proofs.Laws.{extension0, extension1}
 use borrow.Author.Needs.{needs}
 use Rattle.spell.proofs.field.extension.Statement.{statement}
 use Rattle.spell.proofs.field.extension.Tie as tie

@@ -1,4 +1,5 @@
-use Rattle.spell.proofs.Laws.{as-is, hydrogens-size}
+use Rattle.pen.proofs.Laws.{as-is}
+use Rattle.spell.proofs.Laws.{hydrogens-size}
 use borrow.Author.Needs.{needs}
 use Rattle.spell.proofs.field.hydrogens.Statement.{statement}
 use Rattle.spell.proofs.field.hydrogens.Tie as tie

@@ -1,4 +1,5 @@
-use Rattle.spell.proofs.Laws.{as-is, nothing, isotope0, isotope1}
+use Rattle.pen.proofs.Laws.{as-is, nothing}
+use Rattle.spell.proofs.Laws.{isotope0, isotope1}
 use borrow.Author.Needs.{needs}
 use Rattle.spell.proofs.field.isotope.Statement.{statement}
 use Rattle.spell.proofs.field.isotope.Tie as tie

@@ -1,4 +1,5 @@
-use Rattle.spell.proofs.Laws.{also, as-is, nothing, size0, size1, size2}
+use Rattle.pen.proofs.Laws.{also, as-is, nothing}
+use Rattle.spell.proofs.Laws.{size0, size1, size2}
 use borrow.Author.Needs.{needs}
 use Rattle.spell.proofs.field.sized.Statement.{statement}
 use Rattle.spell.proofs.field.sized.Tie as tie

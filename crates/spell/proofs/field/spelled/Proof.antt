@@ -1,4 +1,5 @@
-use Rattle.spell.proofs.Laws.{also, as-is, nothing, letters0, letters1, letters2}
+use Rattle.pen.proofs.Laws.{also, as-is, nothing}
+use Rattle.spell.proofs.Laws.{letters0, letters1, letters2}
 use borrow.Author.Needs.{needs}
 use Rattle.spell.proofs.field.spelled.Statement.{statement}
 use Rattle.spell.proofs.field.spelled.Tie as tie

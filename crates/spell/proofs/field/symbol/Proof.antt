@@ -1,4 +1,5 @@
-use Rattle.spell.proofs.Laws.{as-is, chosen, plain}
+use Rattle.pen.proofs.Laws.{as-is}
+use Rattle.spell.proofs.Laws.{chosen, plain}
 use borrow.Author.Needs.{needs}
 use Rattle.spell.proofs.field.symbol.Statement.{statement}
 use Rattle.spell.proofs.field.symbol.Tie as tie

@@ -1,4 +1,4 @@
-use Rattle.spell.proofs.Laws.{as-is, nothing}
+use Rattle.pen.proofs.Laws.{as-is, nothing}
 use Rattle.writer.proofs.Emission.{enters, passes}
 use borrow.Author.Needs.{needs}
 use Rattle.writer.proofs.emit.enter.Statement.{statement}
