@@ -1,8 +1,9 @@
 -- The end of a text, and what the public call tells of it. Assumes nothing.
 use Prim.Native.Nat.{ℕ, zero, suc, _+_, _≤_, _<_}
 use native.Mathlib.Omega.{arith}
+use native.Mathlib.Decide.{ℕ-discrete}
 use mathlib.Core.Path.{_≡_, refl, sym, ap, _∙_, subst, subst⁻¹}
-use mathlib.Core.Bool.{Bool, true, false}
+use mathlib.Core.Bool.{Bool, true, false, _&&_}
 use mathlib.Core.List.{List, [], _∷_}
 use lib.ListN.{length, getD, set, replicate, length-replicate}
 use lib.IntN.{ℤ, pos}
@@ -11,8 +12,8 @@ use borrow.Author.Tests.{eqb-true, eqb-false, eq-eqb, le-leb, lt-leb, lt-ltb, le
 use mir.Val.{toZ}
 use mir.Syntax.{w32}
 use mir.Facts.{toZ-pos}
-use Rattle.loops.specs.Loop.{pick, upTo}
-use Rattle.loops.proofs.Loops.{upTo-at}
+use Rattle.loops.specs.Loop.{pick, upTo, run}
+use Rattle.loops.proofs.Loops.{and-left, and-right, upTo-at}
 use Rattle.refusal.specs.declared.Refusal.{Refusal}
 use Rattle.refusal.specs.declared.Refusal.the-variants.{Short, LongText, Grammar, OpenBridge, NoMatching}
 use Rattle.valence.specs.Valence.{implied}
@@ -32,7 +33,7 @@ use Rattle.state.specs.State.{Steering, steering, started}
 use Rattle.state.specs.declared.State.{State}
 use Rattle.reading.specs.Memory.{Memory, nothing, blank}
 use Rattle.reading.specs.Act.{act, modeAct}
-use Rattle.reading.specs.Read.{Told, zeros, refused, short, beginning, hydrogenate, hydrogenated, leftmost, ended, finished, readFrom, readOf}
+use Rattle.reading.specs.Read.{Told, zeros, refused, short, beginning, hydrogenate, hydrogenated, earlier, leftmost, ended, finished, readFrom, readOf}
 use Rattle.reading.proofs.Hydrogens.{implied-small}
 use Rattle.reading.proofs.Valid.{sane-valid}
 use Rattle.reading.proofs.Claims.{read-sane}
@@ -128,6 +129,32 @@ hydrogens-step outside bonds m a t e l = rw (e, upTo-at (bondSum bonds m) maxAto
 
 pub implied-cell : (e s sum : ℕ) → toZ w32 (implied e s sum) ≡ pos (implied e s sum)
 implied-cell e s sum = toZ-pos w32 {n = implied e s sum} (omega (arith, implied-small e s sum))
+
+-- ---- open bridges
+-- the openers below i are 0 where all of them passed
+pub record Closed (opener : List ℕ) (i : ℕ) (c : Bool) : Type 0 where
+  pub all : c ≡ true → (r : ℕ) → r < i → getD opener r 0 ≡ 0
+
+pub closed-start : {opener : List ℕ} {c : Bool} → Closed opener 0 c
+closed-start = record { all = λ e r l. absurd (omega arith) }
+
+pub closed-step : {opener : List ℕ} {i : ℕ} {c : Bool} → Closed opener i c → Closed opener (i + 1) (c && eqb (getD opener i 0) 0)
+closed-step {opener} {i} {c} v = record { all = λ e r l. split e r l (ℕ-discrete r i) }
+  where
+    split : (c && eqb (getD opener i 0) 0) ≡ true → (r : ℕ) → r < i + 1 → Dec (r ≡ i) → getD opener r 0 ≡ 0
+    split e r l (yes d) = rw d (eqb-true (getD opener i 0) 0 (and-right c (eqb (getD opener i 0) 0) e))
+    split e r l (no n) = v .all (and-left c (eqb (getD opener i 0) 0) e) r (omega arith)
+
+-- where none is open there is no leftmost opening
+module _ (opener offset : List ℕ) where
+  closed-run : (c k p : ℕ) → ((r : ℕ) → r < k + c → getD opener r 0 ≡ 0) → run (λ r q. earlier q (getD opener r 0) (getD offset r 0)) k c p ≡ p
+  unfolding run
+  closed-run zero k p f = refl
+  closed-run (suc c) k p f = ap (λ (o : ℕ). run (λ r q. earlier q (getD opener r 0) (getD offset r 0)) (suc k) c (earlier p o (getD offset k 0))) (f k (omega arith)) ∙ closed-run c (suc k) p (λ r l. f r (omega arith))
+
+  pub closed-leftmost : ((r : ℕ) → r < bridges → getD opener r 0 ≡ 0) → maxText ≡ leftmost opener offset
+  unfolding leftmost
+  closed-leftmost f = sym (closed-run bridges 0 maxText f)
 
 -- ---- after the last byte
 module _ (t : Steering) (a b : List ℤ) {p : ℕ} (e : p ≡ leftmost (t .opener) (t .offset)) where

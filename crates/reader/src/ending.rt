@@ -1,6 +1,9 @@
 // After the last byte: open bridges, hydrogens, and whether a matching exists.
 ghost use mathlib.Core.Path.{_≡_};
 ghost use mathlib.Core.List.{List};
+ghost use mathlib.Core.Bool.{true};
+ghost use lib.ListN.{getD};
+ghost use Rattle.state.specs.Limits.{bridges};
 ghost use Prim.Native.Nat.{ℕ, _≤_, _<_};
 ghost use Rattle.table.specs.Limits.{maxAtoms, maxBonds};
 ghost use Rattle.table.specs.Valid.{Valid};
@@ -42,10 +45,26 @@ fn earlier(p: usize, opener: u16, offset: u16) -> usize
     p
 }
 
+// Whether no bridge is open.
+fn all_closed(openers: &[u16; BRIDGES]) -> bool
+    ensures { λ r. ⌜ (r ≡ true → (i : ℕ) → i < bridges → getD (now (openers .entry)) i 0 ≡ 0) ⌝ }
+{
+    let mut closed = true;
+    let mut i = 0;
+    while i < BRIDGES {
+        closed = closed & (openers[i] == 0);
+        i += 1;
+    }
+    closed
+}
+
 // The offset of the leftmost opening; MAX_TEXT where no bridge is open.
 fn leftmost(openers: &[u16; BRIDGES], offsets: &[u16; BRIDGES]) -> usize
     ensures { λ r. ⌜ r ≡ leftmost (now (openers .entry)) (now (offsets .entry)) ⌝ }
 {
+    if all_closed(openers) {
+        return MAX_TEXT;
+    }
     let mut p = MAX_TEXT;
     let mut i = 0;
     while i < BRIDGES {

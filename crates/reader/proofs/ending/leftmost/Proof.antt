@@ -5,6 +5,7 @@ use lib.ListN.{getD}
 use Rattle.loops.proofs.Loops.{Ran, ran-start, ran-step, ran-end}
 use Rattle.state.specs.Limits.{bridges, maxText}
 use Rattle.reading.specs.Read.{earlier, leftmost}
+use Rattle.reader.proofs.Ends.{closed-leftmost}
 use Rattle.reader.proofs.ending.leftmost.Statement.{statement}
 use Rattle.reader.proofs.ending.leftmost.Tie as tie
 
@@ -13,6 +14,12 @@ Inv-loop openers offsets p₀ i₀ p i = Ran (λ r q. earlier q (getD openers r 
 
 abbrev μ-loop : tie.MeasureT-loop
 μ-loop openers offsets p₀ i₀ p i = bridges - i
+
+all-closed-requires : tie.Need-all-closed-requires Inv-loop μ-loop
+all-closed-requires c κs = search needs
+
+returns : tie.Need-returns Inv-loop μ-loop
+returns c = closed-leftmost _ _ (c .before .all-closed .ensures (c .if1 .taken))
 
 loop-holds : tie.Need-loop-holds Inv-loop μ-loop
 loop-holds c = ran-start
@@ -41,9 +48,9 @@ loop-less c = omega arith
 loop-again : tie.Need-loop-again Inv-loop μ-loop
 loop-again c = ran-step (c .before .before .before .before .loop .inv) _ (c .before .before .before .loop-test .taken) (c .earlier .ensures)
 
-returns : tie.Need-returns Inv-loop μ-loop
+returns-2 : tie.Need-returns-2 Inv-loop μ-loop
 unfolding leftmost
-returns c = ran-end (c .before .loop .inv) (c .loop-test .left)
+returns-2 c = ran-end (c .before .loop .inv) (c .loop-test .left)
 
 pub leftmost-spec : {M : Type 1} → statement M
 leftmost-spec =
@@ -51,6 +58,8 @@ leftmost-spec =
     (tie.spec
     Inv-loop
     μ-loop
+    all-closed-requires
+    returns
     loop-holds
     mul-earlier
     element-copy-out-earlier
@@ -60,4 +69,4 @@ leftmost-spec =
     add-i
     loop-less
     loop-again
-    returns)
+    returns-2)
