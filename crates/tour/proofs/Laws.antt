@@ -5,14 +5,14 @@ use native.Mathlib.Numerals.{add-one}
 use mathlib.Core.Path.{_≡_, refl, sym, ap, _∙_, subst}
 use mathlib.Core.Bool.{true, false}
 use mathlib.Core.List.{List, [], _∷_, _++_, append-assoc, append-nil}
-use lib.ListN.{length, getD, set, length-append}
+use lib.ListN.{length, getD, set, length-append, length-set}
 use lib.IntN.{ℤ}
 use Rattle.table.specs.Cells.{kind}
 use Rattle.walk.specs.Emit.{Forest, leaf, node, size, pre}
 use Rattle.walk.specs.Walk.{member}
 use Rattle.walk.specs.Flat.{kinds, ups}
 use Rattle.walk.proofs.Trip.{size-length}
-use Rattle.tour.specs.Tour.{touching, firstFrom, otherEnd, lay, grow, unseen, BondsFit, Room, Stands, Sheet, sheet, Laid, Grown, markOf}
+use Rattle.tour.specs.Tour.{touching, firstFrom, otherEnd, lay, grow, unseen, BondsFit, Room, Kept, Stands, Sheet, sheet, Laid, Grown, markOf}
 use Rattle.tour.proofs.Ways.{Next, next-is, other-below, grow-same, grow-end, grow-skip, grow-visit}
 use Rattle.tour.proofs.Seen.{unmarked, marked, room-left, stands-add, stands-cast, unseen-set}
 
@@ -179,5 +179,28 @@ module _ {bonds : List ℤ} {n m : ℕ} (fit : BondsFit bonds n m) {v hub from b
   left-full x o v1 u q count l h a e fresh full =
       l .rest (sheet o v1 u q count) (at-full fit v b (firstFrom (touching bonds v) (suc b) (m - suc b)) h (l .here h) refl hub o v1 u q count a e fresh full)
 
-pub room-kept : {o v u k o2 v2 u2 k2 : List ℕ} → Room o v u k → length o2 ≡ length o → length v2 ≡ length v → length u2 ≡ length u → length k2 ≡ length k → Room o2 v2 u2 k2
-room-kept r a b c d = let x = r .order in let y = r .number in let z = r .up in let w = r .kind in record { order = omega arith; number = omega arith; up = omega arith; kind = omega arith }
+-- the arrays stay as long as they were
+pub kept-same : {o v u k : List ℕ} → Kept o v u k o v u k
+kept-same = record { order = refl; number = refl; up = refl; kind = refl }
+
+module _ {o v u k o2 v2 u2 k2 o3 v3 u3 k3 : List ℕ} (a : Kept o v u k o2 v2 u2 k2) where
+  pub kept-then : Kept o2 v2 u2 k2 o3 v3 u3 k3 → Kept o v u k o3 v3 u3 k3
+  kept-then b = record { order = b .order ∙ a .order; number = b .number ∙ a .number; up = b .up ∙ a .up; kind = b .kind ∙ a .kind }
+
+  pub kept-set : (count w p q : ℕ) → o3 ≡ set o2 count w → v3 ≡ set v2 w (count + 1) → u3 ≡ set u2 count p → k3 ≡ set k2 count q → Kept o v u k o3 v3 u3 k3
+  kept-set count w p q eo ev eu ek =
+      record {
+        order = ap length eo ∙ length-set o2 count w ∙ a .order;
+        number = ap length ev ∙ length-set v2 w (count + 1) ∙ a .number;
+        up = ap length eu ∙ length-set u2 count p ∙ a .up;
+        kind = ap length ek ∙ length-set k2 count q ∙ a .kind;
+      }
+
+pub room-kept : {o v u k o2 v2 u2 k2 : List ℕ} → Room o v u k → Kept o v u k o2 v2 u2 k2 → Room o2 v2 u2 k2
+room-kept r e =
+    record {
+      order = omega (arith, r .order, e .order);
+      number = omega (arith, r .number, e .number);
+      up = omega (arith, r .up, e .up);
+      kind = omega (arith, r .kind, e .kind);
+    }

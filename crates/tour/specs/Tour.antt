@@ -75,6 +75,13 @@ pub record Room (o v u k : List ℕ) : Type 0 where
   pub up : maxAtoms ≤ length u
   pub kind : maxAtoms ≤ length k
 
+-- the arrays are as long as they were
+pub record Kept (o v u k o2 v2 u2 k2 : List ℕ) : Type 0 where
+  pub order : length o2 ≡ length o
+  pub number : length v2 ≡ length v
+  pub up : length u2 ≡ length u
+  pub kind : length k2 ≡ length k
+
 -- s was visited, in this order
 pub record Stands (n : ℕ) (s : List ℕ) (count : ℕ) (number : List ℕ) : Type 0 where
   pub once : Once s

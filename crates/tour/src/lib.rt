@@ -5,7 +5,7 @@ ghost use mathlib.Core.Bool.{true};
 ghost use lib.ListN.{length, getD, replicate, set};
 ghost use Rattle.table.specs.Limits.{maxAtoms, maxBonds};
 ghost use Rattle.table.specs.Cells.{end1, end2};
-ghost use Rattle.tour.specs.Tour.{touching, nextAfter, otherEnd, grow, rootForest, BondsFit, Linked, Room, sheet, Grown, Walked};
+ghost use Rattle.tour.specs.Tour.{touching, nextAfter, otherEnd, grow, rootForest, BondsFit, Linked, Room, Kept, sheet, Grown, Walked};
 use ids::AtomId;
 use ids::BondId;
 use table::FIRST;
@@ -13,18 +13,6 @@ use table::KIND;
 use table::MAX_ATOMS;
 use table::MAX_BONDS;
 use table::SECOND;
-
-// The other end of a bond, seen from an atom.
-fn other_end(bonds: &[i32], b: BondId, v: AtomId) -> usize
-    requires { ⌜ b .0 < maxBonds ⌝ }
-    ensures { λ r. ⌜ r ≡ otherEnd (now (bonds .entry)) (b .0) (v .0) ⌝ }
-{
-    let first = table::cell::bond_number(bonds, b, FIRST);
-    if first == v.0 {
-        return table::cell::bond_number(bonds, b, SECOND);
-    }
-    first
-}
 
 // Puts a bond in front of the lists of its two ends.
 fn link_bond(
@@ -69,37 +57,50 @@ fn link(
     }
 }
 
-// The next bond at an atom behind one of its bonds; m where there is none.
-fn next_after(
+// A bond as the walk sees it from an atom: the other end, and the next bond at the atom.
+struct Step {
+    other: usize,
+    next: usize,
+}
+
+// The other end of a bond at an atom, and the next bond at the atom behind it; m where there is none.
+fn follow(
     bonds: &[i32],
     after: &[u16; MAX_BONDS],
     behind: &[u16; MAX_BONDS],
     b: BondId,
     v: AtomId,
-) -> usize
+) -> Step
     requires { ⌜ b .0 < maxBonds ⌝ }
     requires { ⌜ (getD (now after) (b .0) 0 ≤ maxBonds) × (getD (now behind) (b .0) 0 ≤ maxBonds) ⌝ }
-    ensures { λ r. ⌜ r ≡ nextAfter (now (bonds .entry)) (now (after .entry)) (now (behind .entry)) (b .0) (v .0) ⌝ }
+    ensures { λ r. ⌜ r .other ≡ otherEnd (now (bonds .entry)) (b .0) (v .0) ⌝ }
+    ensures { λ r. ⌜ r .next ≡ nextAfter (now (bonds .entry)) (now (after .entry)) (now (behind .entry)) (b .0) (v .0) ⌝ }
 {
     let i = b.0;
-    if table::cell::bond_number(bonds, b, FIRST) == v.0 {
-        return after[i] as usize;
+    let first = table::cell::bond_number(bonds, b, FIRST);
+    if first == v.0 {
+        return Step {
+            other: table::cell::bond_number(bonds, b, SECOND),
+            next: after[i] as usize,
+        };
     }
-    behind[i] as usize
+    Step {
+        other: first,
+        next: behind[i] as usize,
+    }
 }
 
 // One more atom is visited, with its parent's walk number plus 1 and the kind of the bond to it.
 fn add(
-    order: &mut [u16],
-    number: &mut [u16],
-    up: &mut [u16],
-    kind: &mut [u8],
+    order: &mut [u16; MAX_ATOMS],
+    number: &mut [u16; MAX_ATOMS],
+    up: &mut [u16; MAX_ATOMS],
+    kind: &mut [u8; MAX_ATOMS],
     v: AtomId,
     parent: usize,
     k: usize,
     count: usize,
 )
-    requires { ⌜ Room (now order) (now number) (now up) (now kind) ⌝ }
     requires { ⌜ (v .0 < maxAtoms) × (count < maxAtoms) ⌝ }
     requires { ⌜ (parent ≤ maxAtoms) × (k < 4) ⌝ }
     ensures { λ _. ⌜ now (order .exit) ≡ set (now (order .entry)) count (v .0) ⌝ }
@@ -122,10 +123,10 @@ fn visit(
     head: &[u16; MAX_ATOMS],
     after: &[u16; MAX_BONDS],
     behind: &[u16; MAX_BONDS],
-    order: &mut [u16],
-    number: &mut [u16],
-    up: &mut [u16],
-    kind: &mut [u8],
+    order: &mut [u16; MAX_ATOMS],
+    number: &mut [u16; MAX_ATOMS],
+    up: &mut [u16; MAX_ATOMS],
+    kind: &mut [u8; MAX_ATOMS],
     v: AtomId,
     hub: usize,
     from: usize,
@@ -137,13 +138,15 @@ fn visit(
     requires { ⌜ (hub < maxAtoms) × (from ≤ m) ⌝ }
     requires { ⌜ (from < m → touching (now bonds) (v .0) from ≡ true) ⌝ }
     ensures { λ r. ⌜ Grown n (suc hub) (grow (now (bonds .entry)) n m (v .0) from) (sheet (now (order .entry)) (now (number .entry)) (now (up .entry)) (now (kind .entry)) count) (sheet (now (order .exit)) (now (number .exit)) (now (up .exit)) (now (kind .exit)) r) ⌝ }
+    ensures { λ _. ⌜ Kept (now (order .entry)) (now (number .entry)) (now (up .entry)) (now (kind .entry)) (now (order .exit)) (now (number .exit)) (now (up .exit)) (now (kind .exit)) ⌝ }
 {
     let mut b = from;
     let mut next = count;
     while b < m {
         let at = BondId(b);
-        let w = other_end(bonds, at, v);
-        b = next_after(bonds, after, behind, at, v);
+        let seen = follow(bonds, after, behind, at, v);
+        let w = seen.other;
+        b = seen.next;
         if number[w] != 0 {
             continue;
         }
@@ -180,10 +183,10 @@ fn root(
     head: &[u16; MAX_ATOMS],
     after: &[u16; MAX_BONDS],
     behind: &[u16; MAX_BONDS],
-    order: &mut [u16],
-    number: &mut [u16],
-    up: &mut [u16],
-    kind: &mut [u8],
+    order: &mut [u16; MAX_ATOMS],
+    number: &mut [u16; MAX_ATOMS],
+    up: &mut [u16; MAX_ATOMS],
+    kind: &mut [u8; MAX_ATOMS],
     a: AtomId,
     count: usize,
 ) -> usize
@@ -192,6 +195,7 @@ fn root(
     requires { ⌜ Room (now order) (now number) (now up) (now kind) ⌝ }
     requires { ⌜ a .0 < n ⌝ }
     ensures { λ r. ⌜ Grown n 0 (rootForest (now (bonds .entry)) n m (a .0)) (sheet (now (order .entry)) (now (number .entry)) (now (up .entry)) (now (kind .entry)) count) (sheet (now (order .exit)) (now (number .exit)) (now (up .exit)) (now (kind .exit)) r) ⌝ }
+    ensures { λ _. ⌜ Kept (now (order .entry)) (now (number .entry)) (now (up .entry)) (now (kind .entry)) (now (order .exit)) (now (number .exit)) (now (up .exit)) (now (kind .exit)) ⌝ }
 {
     let v = a.0;
     if number[v] != 0 {
@@ -224,15 +228,16 @@ pub fn walk(
     bonds: &[i32],
     n: usize,
     m: usize,
-    order: &mut [u16],
-    number: &mut [u16],
-    up: &mut [u16],
-    kind: &mut [u8],
+    order: &mut [u16; MAX_ATOMS],
+    number: &mut [u16; MAX_ATOMS],
+    up: &mut [u16; MAX_ATOMS],
+    kind: &mut [u8; MAX_ATOMS],
 )
     requires { ⌜ BondsFit (now bonds) n m ⌝ }
     requires { ⌜ Room (now order) (now number) (now up) (now kind) ⌝ }
     requires { ⌜ now number ≡ replicate (length (now number)) 0 ⌝ }
     ensures { λ _. ⌜ Walked (now (bonds .entry)) n m (now (order .exit)) (now (number .exit)) (now (up .exit)) (now (kind .exit)) ⌝ }
+    ensures { λ _. ⌜ Kept (now (order .entry)) (now (number .entry)) (now (up .entry)) (now (kind .entry)) (now (order .exit)) (now (number .exit)) (now (up .exit)) (now (kind .exit)) ⌝ }
 {
     let mut head = [m as u16; MAX_ATOMS];
     let mut after = [0u16; MAX_BONDS];

@@ -1,22 +1,20 @@
 -- The walk at an atom. The measure: the atoms not yet visited. Assumes nothing.
-use Prim.Native.Nat.{ℕ, _-_, _<_}
-use mathlib.Core.Path.{_≡_, refl, _∙_}
+use Prim.Native.Nat.{ℕ, _+_, _-_, _<_}
 use native.Mathlib.Omega.{arith}
 use borrow.Fn.Kinds.{In}
 use borrow.Fn.PlainCycle.{Measures, is, falls, and}
-use lib.ListN.{length, getD}
+use lib.ListN.{getD}
 use Rattle.table.specs.Limits.{maxAtoms}
-use Rattle.tour.specs.Tour.{unseen, sheet}
+use Rattle.tour.specs.Tour.{unseen, Kept, sheet}
 use Rattle.tour.proofs.Ways.{other-below}
 use Rattle.tour.proofs.Lists.{head-within, head-here, after-within, next-after-is, next-after-later}
-use Rattle.tour.proofs.Laws.{Left, left-start, left-end, left-seen, left-new, left-full, seen-less, room-kept}
+use Rattle.tour.proofs.Laws.{Left, left-start, left-end, left-seen, left-new, left-full, seen-less, kept-same, kept-then, kept-set, room-kept}
 use Rattle.tour.proofs.visit.Reads as visit
 use Rattle.tour.proofs.visit.Kinds as visit-kinds
 use Rattle.tour.proofs.+visit.Lts-visit as visit-lts
 use Rattle.table.proofs.cell.bond_number.Reads as bond-number-reads
 use Rattle.tour.proofs.add.Reads as add-reads
-use Rattle.tour.proofs.next_after.Reads as next-after-reads
-use Rattle.tour.proofs.other_end.Reads as other-end-reads
+use Rattle.tour.proofs.follow.Reads as follow-reads
 use Rattle.tour.proofs.+visit.{statement}
 use Rattle.tour.proofs.+visit.Tie.{close}
 
@@ -31,10 +29,8 @@ visit-below t = and 8 visit-kinds.ps (falls 8 visit-kinds.ps _<_ μ-visit t) vis
 
 abbrev visit-claims : ℕ → visit-lts.Claims
 visit-claims t = (
-  other-end-reads.Asked,
-  other-end-reads.Learnt,
-  next-after-reads.Asked,
-  next-after-reads.Learnt,
+  follow-reads.Asked,
+  follow-reads.Learnt,
   bond-number-reads.Asked,
   bond-number-reads.Learnt,
   add-reads.Asked,
@@ -45,292 +41,250 @@ visit-claims t = (
 
 abbrev visit-Inv-loop : visit-lts.InvT-loop
 visit-Inv-loop bonds n m head after behind order₀ number₀ up₀ kind₀ v hub from count b₀ next₀ order number up kind b next =
-    Left bonds n m (v .0) hub from b (sheet order₀ number₀ up₀ kind₀ count) (sheet order number up kind next) × (length order ≡ length order₀) × (length number ≡ length number₀) × (length up ≡ length up₀) × (length kind ≡ length kind₀)
+    Left bonds n m (v .0) hub from b (sheet order₀ number₀ up₀ kind₀ count) (sheet order number up kind next) × Kept order₀ number₀ up₀ kind₀ order number up kind
 
 abbrev visit-μ-loop : visit-lts.MeasureT-loop
 visit-μ-loop bonds n m head after behind order₀ number₀ up₀ kind₀ v hub from count b₀ next₀ order number up kind b next = m - b
 
 visit-loop-holds : (t : ℕ) → visit-lts.Need-loop-holds (visit-claims t) (visit-at t) visit.Post visit-Inv-loop visit-μ-loop
 visit-loop-holds t c =
-    let s = c .before .before .before .before in
-    (left-start _ _ _ _ _ _ _ (s .pre .1 .1 .1 .1 .0 .1) (s .pre .1 .1 .1 .1 .1), refl, refl, refl, refl)
+    let s = c in
+    (left-start _ _ _ _ _ _ _ (s .pre .1 .1 .1 .1 .0 .1) (s .pre .1 .1 .1 .1 .1), kept-same)
 
-visit-other-end-requires : (t : ℕ) → visit-lts.Need-other-end-requires (visit-claims t) (visit-at t) visit.Post visit-Inv-loop visit-μ-loop
-visit-other-end-requires t c κs =
-    let s = c .before .before .before .before .before .before in
+visit-follow-requires : (t : ℕ) → visit-lts.Need-follow-requires (visit-claims t) (visit-at t) visit.Post visit-Inv-loop visit-μ-loop
+visit-follow-requires t c κs =
+    let s = c .before .before in
     let fit = s .pre .1 .0 in
-    let x = fit .few-atoms in
-    let y = fit .few-bonds in
-    let at = c .before .loop in
-    let i = at .inv in
-    let h = c .loop-test .taken in
-    omega arith
-
-visit-next-after-requires : (t : ℕ) → visit-lts.Need-next-after-requires (visit-claims t) (visit-at t) visit.Post visit-Inv-loop visit-μ-loop
-visit-next-after-requires t c κs =
-    let s = c .before .before .before .before .before .before .before in
-    let fit = s .pre .1 .0 in
-    let x = fit .few-atoms in
     let y = fit .few-bonds in
     let lk = s .pre .1 .1 .0 in
-    let at = c .before .before .loop in
-    let i = at .inv in
-    let h = c .before .loop-test .taken in
+    let at = c .before .loop in
+    let h = c .loop-test .taken in
     let z = after-within lk (at .b) h in
     (omega arith, (omega (arith, z .0), omega (arith, z .1)))
 
 visit-mul-if1 : (t : ℕ) → visit-lts.Need-mul-if1 (visit-claims t) (visit-at t) visit.Post visit-Inv-loop visit-μ-loop
 visit-mul-if1 t c =
-    let s = c .before .before .before .before .before .before .before .before in
+    let s = c .before .before .before in
     let a = s .args in
     let fit = s .pre .1 .0 in
     let x = fit .few-atoms in
     let y = fit .few-bonds in
-    let at = c .before .before .before .loop in
+    let at = c .before .before .loop in
     let i = at .inv in
-    let h = c .before .before .loop-test .taken in
-    let w : ℕ = c .before .other-end .result in
-    let e = c .before .other-end .ensures in
+    let h = c .before .loop-test .taken in
+    let f = c .follow in
+    let w : ℕ = f .result .other in
     let q = other-below fit (a .v .0) (at .b) h in
-    let wn : w < maxAtoms = omega (arith, q, e, fit .few-atoms) in
+    let wn : w < maxAtoms = omega (arith, q, f .ensures .0, x) in
     omega arith
 
-visit-slice-read-if1 : (t : ℕ) → visit-lts.Need-slice-read-if1 (visit-claims t) (visit-at t) visit.Post visit-Inv-loop visit-μ-loop
-visit-slice-read-if1 t c =
-    let s = c .before .before .before .before .before .before .before .before .before in
+visit-element-copy-out-if1 : (t : ℕ) → visit-lts.Need-element-copy-out-if1 (visit-claims t) (visit-at t) visit.Post visit-Inv-loop visit-μ-loop
+visit-element-copy-out-if1 t c =
+    let s = c .before .before .before in
     let a = s .args in
     let fit = s .pre .1 .0 in
     let x = fit .few-atoms in
     let y = fit .few-bonds in
-    let room = s .pre .1 .1 .1 .0 in
-    let l = room .number in
-    let at = c .before .before .before .before .loop in
+    let at = c .before .before .loop in
     let i = at .inv in
-    let h = c .before .before .before .loop-test .taken in
-    let w : ℕ = c .before .before .other-end .result in
-    let e = c .before .before .other-end .ensures in
+    let h = c .before .loop-test .taken in
+    let f = c .follow in
+    let w : ℕ = f .result .other in
     let q = other-below fit (a .v .0) (at .b) h in
-    let wn : w < maxAtoms = omega (arith, q, e, fit .few-atoms) in
-    let g = i .2 in
+    let wn : w < maxAtoms = omega (arith, q, f .ensures .0, x) in
     omega arith
 
 visit-loop-less : (t : ℕ) → visit-lts.Need-loop-less (visit-claims t) (visit-at t) visit.Post visit-Inv-loop visit-μ-loop
 visit-loop-less t c =
-    let s = c .before .before .before .before .before .before .before .before .before .before in
+    let s = c .before .before .before .before .before in
     let a = s .args in
     let lk = s .pre .1 .1 .0 in
-    let at = c .before .before .before .before .before .loop in
+    let at = c .before .before .before .before .loop in
     let i = at .inv in
-    let h = c .before .before .before .before .loop-test .taken in
-    let r = next-after-is lk (at .b) (a .v .0) (c .before .before .next-after .result) h (i .0 .here h) (c .before .before .next-after .ensures) in
-    let z = next-after-later lk (at .b) (a .v .0) _ h r in
+    let h = c .before .before .before .loop-test .taken in
+    let f = c .before .before .follow in
+    let r = next-after-is lk (at .b) (a .v .0) (f .result .next) h (i .0 .here h) (f .ensures .1) in
+    let z = next-after-later lk (at .b) (a .v .0) (f .result .next) h r in
     omega arith
 
 visit-loop-again : (t : ℕ) → visit-lts.Need-loop-again (visit-claims t) (visit-at t) visit.Post visit-Inv-loop visit-μ-loop
 visit-loop-again t c =
-    let s = c .before .before .before .before .before .before .before .before .before .before in
+    let s = c .before .before .before .before .before in
     let a = s .args in
     let fit = s .pre .1 .0 in
     let lk = s .pre .1 .1 .0 in
-    let at = c .before .before .before .before .before .loop in
+    let at = c .before .before .before .before .loop in
     let i = at .inv in
-    let h = c .before .before .before .before .loop-test .taken in
-    let w : ℕ = c .before .before .before .other-end .result in
-    let e = c .before .before .before .other-end .ensures in
-    let r = next-after-is lk (at .b) (a .v .0) (c .before .before .next-after .result) h (i .0 .here h) (c .before .before .next-after .ensures) in
-    (left-seen fit (c .before .before .next-after .result) h r _ _ (i .0) w e (c .if1 .taken), i .1, i .2, i .3, i .4)
-
-visit-same-length : (t : ℕ) → visit-lts.Need-same-length (visit-claims t) (visit-at t) visit.Post visit-Inv-loop visit-μ-loop
-visit-same-length t c = c .before .before .before .before .before .before .loop .inv .1
-
-visit-same-length-2 : (t : ℕ) → visit-lts.Need-same-length-2 (visit-claims t) (visit-at t) visit.Post visit-Inv-loop visit-μ-loop
-visit-same-length-2 t c = c .before .before .before .before .before .before .loop .inv .2
-
-visit-same-length-3 : (t : ℕ) → visit-lts.Need-same-length-3 (visit-claims t) (visit-at t) visit.Post visit-Inv-loop visit-μ-loop
-visit-same-length-3 t c = c .before .before .before .before .before .before .loop .inv .3
-
-visit-same-length-4 : (t : ℕ) → visit-lts.Need-same-length-4 (visit-claims t) (visit-at t) visit.Post visit-Inv-loop visit-μ-loop
-visit-same-length-4 t c = c .before .before .before .before .before .before .loop .inv .4
+    let h = c .before .before .before .loop-test .taken in
+    let f = c .before .before .follow in
+    let r = next-after-is lk (at .b) (a .v .0) (f .result .next) h (i .0 .here h) (f .ensures .1) in
+    (left-seen fit (f .result .next) h r _ _ (i .0) (f .result .other) (f .ensures .0) (c .if1 .taken), i .1)
 
 visit-returns : (t : ℕ) → visit-lts.Need-returns (visit-claims t) (visit-at t) visit.Post visit-Inv-loop visit-μ-loop
 visit-returns t c =
-    let s = c .before .before .before .before .before .before .before .before .before .before .before in
+    let s = c .before .before .before .before .before .before in
     let fit = s .pre .1 .0 in
-    let at = c .before .before .before .before .before .before .loop in
+    let at = c .before .before .before .before .before .loop in
     let i = at .inv in
-    let h = c .before .before .before .before .before .loop-test .taken in
-    let w : ℕ = c .before .before .before .before .other-end .result in
-    let e = c .before .before .before .before .other-end .ensures in
-    left-full fit _ _ _ _ _ _ (i .0) h w e (c .before .if1 .left) (c .if2 .taken)
+    let h = c .before .before .before .before .loop-test .taken in
+    let f = c .before .before .before .follow in
+    (left-full fit _ _ _ _ _ _ (i .0) h (f .result .other) (f .ensures .0) (c .before .if1 .left) (c .if2 .taken), i .1)
 
 visit-bond-number-requires : (t : ℕ) → visit-lts.Need-bond-number-requires (visit-claims t) (visit-at t) visit.Post visit-Inv-loop visit-μ-loop
 visit-bond-number-requires t c κs =
-    let s = c .before .before .before .before .before .before .before .before .before .before .before in
+    let s = c .before .before .before .before .before .before in
     let fit = s .pre .1 .0 in
-    let x = fit .few-atoms in
     let y = fit .few-bonds in
-    let at = c .before .before .before .before .before .before .loop in
-    let i = at .inv in
-    let h = c .before .before .before .before .before .loop-test .taken in
+    let h = c .before .before .before .before .loop-test .taken in
     omega arith
 
 visit-add-add : (t : ℕ) → visit-lts.Need-add-add (visit-claims t) (visit-at t) visit.Post visit-Inv-loop visit-μ-loop
 visit-add-add t c =
-    let s = c .before .before .before .before .before .before .before .before .before .before .before .before .before .before .before .before in
+    let s = c .before .before .before .before .before .before .before .before .before .before .before in
     omega (arith, s .pre .1 .1 .1 .1 .0 .0)
 
 visit-add-requires : (t : ℕ) → visit-lts.Need-add-requires (visit-claims t) (visit-at t) visit.Post visit-Inv-loop visit-μ-loop
 visit-add-requires t c κs =
+    let s = c .before .before .before .before .before .before .before .before .before .before .before in
+    let a = s .args in
+    let fit = s .pre .1 .0 in
+    let x = fit .few-atoms in
+    let y = fit .few-bonds in
+    let at = c .before .before .before .before .before .before .before .before .before .before .loop in
+    let i = at .inv in
+    let h = c .before .before .before .before .before .before .before .before .before .loop-test .taken in
+    let f = c .before .before .before .before .before .before .before .before .follow in
+    let w : ℕ = f .result .other in
+    let q = other-below fit (a .v .0) (at .b) h in
+    let wn : w < maxAtoms = omega (arith, q, f .ensures .0, x) in
+    let k = c .before .before .before .before .before .if2 .left in
+    ((omega arith, omega arith), (omega (arith, s .pre .1 .1 .1 .1 .0 .0), rw (c .before .before .before .before .bond-number .ensures) (fit .kinds (at .b) h)))
+
+visit-mul-visit : (t : ℕ) → visit-lts.Need-mul-visit (visit-claims t) (visit-at t) visit.Post visit-Inv-loop visit-μ-loop
+visit-mul-visit t c =
     let s = c .before .before .before .before .before .before .before .before .before .before .before .before .before .before .before .before in
     let a = s .args in
     let fit = s .pre .1 .0 in
     let x = fit .few-atoms in
     let y = fit .few-bonds in
-    let room = s .pre .1 .1 .1 .0 in
-    let l = room .number in
-    let at = c .before .before .before .before .before .before .before .before .before .before .before .loop in
+    let at = c .before .before .before .before .before .before .before .before .before .before .before .before .before .before .before .loop in
     let i = at .inv in
-    let h = c .before .before .before .before .before .before .before .before .before .before .loop-test .taken in
-    let w : ℕ = c .before .before .before .before .before .before .before .before .before .other-end .result in
-    let e = c .before .before .before .before .before .before .before .before .before .other-end .ensures in
+    let h = c .before .before .before .before .before .before .before .before .before .before .before .before .before .before .loop-test .taken in
+    let f = c .before .before .before .before .before .before .before .before .before .before .before .before .before .follow in
+    let w : ℕ = f .result .other in
     let q = other-below fit (a .v .0) (at .b) h in
-    let wn : w < maxAtoms = omega (arith, q, e, fit .few-atoms) in
-    let k = c .before .before .before .before .before .if2 .left in
-    (room-kept room (i .1) (i .2) (i .3) (i .4), ((omega arith, omega arith), (omega (arith, s .pre .1 .1 .1 .1 .0 .0), rw (c .before .before .before .before .bond-number .ensures) (fit .kinds (at .b) h))))
-
-visit-mul-visit : (t : ℕ) → visit-lts.Need-mul-visit (visit-claims t) (visit-at t) visit.Post visit-Inv-loop visit-μ-loop
-visit-mul-visit t c =
-    let s = c .before .before .before .before .before .before .before .before .before .before .before .before .before .before .before .before .before .before .before .before .before .before .before .before .before .before .before .before .before in
-    let a = s .args in
-    let fit = s .pre .1 .0 in
-    let x = fit .few-atoms in
-    let y = fit .few-bonds in
-    let at = c .before .before .before .before .before .before .before .before .before .before .before .before .before .before .before .before .before .before .before .before .before .before .before .before .loop in
-    let i = at .inv in
-    let h = c .before .before .before .before .before .before .before .before .before .before .before .before .before .before .before .before .before .before .before .before .before .before .before .loop-test .taken in
-    let w : ℕ = c .before .before .before .before .before .before .before .before .before .before .before .before .before .before .before .before .before .before .before .before .before .before .other-end .result in
-    let e = c .before .before .before .before .before .before .before .before .before .before .before .before .before .before .before .before .before .before .before .before .before .before .other-end .ensures in
-    let q = other-below fit (a .v .0) (at .b) h in
-    let wn : w < maxAtoms = omega (arith, q, e, fit .few-atoms) in
+    let wn : w < maxAtoms = omega (arith, q, f .ensures .0, x) in
     omega arith
 
 visit-element-copy-out-visit : (t : ℕ) → visit-lts.Need-element-copy-out-visit (visit-claims t) (visit-at t) visit.Post visit-Inv-loop visit-μ-loop
 visit-element-copy-out-visit t c =
-    let s = c .before .before .before .before .before .before .before .before .before .before .before .before .before .before .before .before .before .before .before .before .before .before .before .before .before .before .before .before .before in
+    let s = c .before .before .before .before .before .before .before .before .before .before .before .before .before .before .before .before in
     let a = s .args in
     let fit = s .pre .1 .0 in
     let x = fit .few-atoms in
     let y = fit .few-bonds in
-    let at = c .before .before .before .before .before .before .before .before .before .before .before .before .before .before .before .before .before .before .before .before .before .before .before .before .loop in
+    let at = c .before .before .before .before .before .before .before .before .before .before .before .before .before .before .before .loop in
     let i = at .inv in
-    let h = c .before .before .before .before .before .before .before .before .before .before .before .before .before .before .before .before .before .before .before .before .before .before .before .loop-test .taken in
-    let w : ℕ = c .before .before .before .before .before .before .before .before .before .before .before .before .before .before .before .before .before .before .before .before .before .before .other-end .result in
-    let e = c .before .before .before .before .before .before .before .before .before .before .before .before .before .before .before .before .before .before .before .before .before .before .other-end .ensures in
+    let h = c .before .before .before .before .before .before .before .before .before .before .before .before .before .before .loop-test .taken in
+    let f = c .before .before .before .before .before .before .before .before .before .before .before .before .before .follow in
+    let w : ℕ = f .result .other in
     let q = other-below fit (a .v .0) (at .b) h in
-    let wn : w < maxAtoms = omega (arith, q, e, fit .few-atoms) in
+    let wn : w < maxAtoms = omega (arith, q, f .ensures .0, x) in
     omega arith
 
 visit-cast-visit : (t : ℕ) → visit-lts.Need-cast-visit (visit-claims t) (visit-at t) visit.Post visit-Inv-loop visit-μ-loop
 visit-cast-visit t c =
-    let s = c .before .before .before .before .before .before .before .before .before .before .before .before .before .before .before .before .before .before .before .before .before .before .before .before .before .before .before .before .before .before in
+    let s = c .before .before .before .before .before .before .before .before .before .before .before .before .before .before .before .before .before in
     let a = s .args in
     let fit = s .pre .1 .0 in
     let x = fit .few-atoms in
     let y = fit .few-bonds in
     let lk = s .pre .1 .1 .0 in
-    let at = c .before .before .before .before .before .before .before .before .before .before .before .before .before .before .before .before .before .before .before .before .before .before .before .before .before .loop in
+    let at = c .before .before .before .before .before .before .before .before .before .before .before .before .before .before .before .before .loop in
     let i = at .inv in
-    let h = c .before .before .before .before .before .before .before .before .before .before .before .before .before .before .before .before .before .before .before .before .before .before .before .before .loop-test .taken in
-    let w : ℕ = c .before .before .before .before .before .before .before .before .before .before .before .before .before .before .before .before .before .before .before .before .before .before .before .other-end .result in
-    let e = c .before .before .before .before .before .before .before .before .before .before .before .before .before .before .before .before .before .before .before .before .before .before .before .other-end .ensures in
+    let h = c .before .before .before .before .before .before .before .before .before .before .before .before .before .before .before .loop-test .taken in
+    let f = c .before .before .before .before .before .before .before .before .before .before .before .before .before .before .follow in
+    let w : ℕ = f .result .other in
     let q = other-below fit (a .v .0) (at .b) h in
-    let wn : w < maxAtoms = omega (arith, q, e, fit .few-atoms) in
-    let z = head-within lk w wn in
+    let wn : w < maxAtoms = omega (arith, q, f .ensures .0, x) in
+    let g = head-within lk w wn in
     omega arith
 
 visit-add-visit : (t : ℕ) → visit-lts.Need-add-visit (visit-claims t) (visit-at t) visit.Post visit-Inv-loop visit-μ-loop
 visit-add-visit t c =
-    let s = c .before .before .before .before .before .before .before .before .before .before .before .before .before .before .before .before .before .before .before .before .before .before .before .before .before .before .before .before .before .before in
+    let s = c .before .before .before .before .before .before .before .before .before .before .before .before .before .before .before .before .before in
     let fit = s .pre .1 .0 in
     let x = fit .few-atoms in
-    let y = fit .few-bonds in
-    let k = c .before .before .before .before .before .before .before .before .before .before .before .before .before .before .before .before .before .before .before .if2 .left in
+    let k = c .before .before .before .before .before .before .before .before .before .before .before .if2 .left in
     omega arith
 
 visit-visit-requires : (t : ℕ) → visit-lts.Need-visit-requires (visit-claims t) (visit-at t) visit.Post visit-Inv-loop visit-μ-loop
 visit-visit-requires t c κs =
-    let s = c .before .before .before .before .before .before .before .before .before .before .before .before .before .before .before .before .before .before .before .before .before .before .before .before .before .before .before .before .before .before in
+    let s = c .before .before .before .before .before .before .before .before .before .before .before .before .before .before .before .before .before in
     let a = s .args in
     let fit = s .pre .1 .0 in
     let x = fit .few-atoms in
     let y = fit .few-bonds in
     let lk = s .pre .1 .1 .0 in
-    let room = s .pre .1 .1 .1 .0 in
-    let l = room .number in
-    let at = c .before .before .before .before .before .before .before .before .before .before .before .before .before .before .before .before .before .before .before .before .before .before .before .before .before .loop in
+    let at = c .before .before .before .before .before .before .before .before .before .before .before .before .before .before .before .before .loop in
     let i = at .inv in
-    let h = c .before .before .before .before .before .before .before .before .before .before .before .before .before .before .before .before .before .before .before .before .before .before .before .before .loop-test .taken in
-    let w : ℕ = c .before .before .before .before .before .before .before .before .before .before .before .before .before .before .before .before .before .before .before .before .before .before .before .other-end .result in
-    let e = c .before .before .before .before .before .before .before .before .before .before .before .before .before .before .before .before .before .before .before .before .before .before .before .other-end .ensures in
+    let h = c .before .before .before .before .before .before .before .before .before .before .before .before .before .before .before .loop-test .taken in
+    let f = c .before .before .before .before .before .before .before .before .before .before .before .before .before .before .follow in
+    let w : ℕ = f .result .other in
     let q = other-below fit (a .v .0) (at .b) h in
-    let wn : w < maxAtoms = omega (arith, q, e, fit .few-atoms) in
-    let g = i .2 in
-    let k = c .before .before .before .before .before .before .before .before .before .before .before .before .before .before .before .before .before .before .before .if2 .left in
-    let z = seen-less (at .number) (c .before .before .before .before .before .before .before .before .before .before .before .before .before .add .last .1 .0) w (at .next) (omega arith) (c .before .before .before .before .before .before .before .before .before .before .before .before .before .before .before .before .before .before .before .before .if1 .left) (c .before .before .before .before .before .before .before .before .before .before .before .before .before .add .ensures .1 .0) in
-    (omega (arith, z, i .0 .fewer, s .pre .0), (fit, (lk, (room-kept room (c .before .before .before .before .before .before .before .before .before .before .before .before .before .add .kept .0 ∙ i .1) (c .before .before .before .before .before .before .before .before .before .before .before .before .before .add .kept .1 .0 ∙ i .2) (c .before .before .before .before .before .before .before .before .before .before .before .before .before .add .kept .1 .1 .0 ∙ i .3) (c .before .before .before .before .before .before .before .before .before .before .before .before .before .add .kept .1 .1 .1 .0 ∙ i .4), ((omega arith, head-within lk w wn), head-here lk w wn)))))
+    let wn : w < maxAtoms = omega (arith, q, f .ensures .0, x) in
+    let room = room-kept (s .pre .1 .1 .1 .0) (i .1) in
+    let l = room .number in
+    let k = c .before .before .before .before .before .before .before .before .before .before .before .if2 .left in
+    let d = c .before .before .before .before .before .add in
+    let z = seen-less (at .number) (d .last .1 .0) w (at .next) (omega arith) (c .before .before .before .before .before .before .before .before .before .before .before .before .if1 .left) (d .ensures .1 .0) in
+    let kept = kept-set (i .1) (at .next) w (a .hub + 1) (c .before .before .before .before .before .before .before .before .before .before .bond-number .result) (d .ensures .0) (d .ensures .1 .0) (d .ensures .1 .1 .0) (d .ensures .1 .1 .1) in
+    (omega (arith, z, i .0 .fewer, s .pre .0), (fit, (lk, (room-kept (s .pre .1 .1 .1 .0) kept, ((omega arith, head-within lk w wn), head-here lk w wn)))))
 
 visit-loop-less-2 : (t : ℕ) → visit-lts.Need-loop-less-2 (visit-claims t) (visit-at t) visit.Post visit-Inv-loop visit-μ-loop
 visit-loop-less-2 t c =
-    let s = c .before .before .before .before .before .before .before .before .before .before .before .before .before .before .before .before .before .before .before .before .before .before .before .before .before .before .before .before .before .before .before .before .before .before .before .before .before .before .before in
+    let s = c .before .before .before .before .before .before .before .before .before .before .before .before .before .before .before .before .before .before in
     let a = s .args in
     let lk = s .pre .1 .1 .0 in
-    let at = c .before .before .before .before .before .before .before .before .before .before .before .before .before .before .before .before .before .before .before .before .before .before .before .before .before .before .before .before .before .before .before .before .before .before .loop in
+    let at = c .before .before .before .before .before .before .before .before .before .before .before .before .before .before .before .before .before .loop in
     let i = at .inv in
-    let h = c .before .before .before .before .before .before .before .before .before .before .before .before .before .before .before .before .before .before .before .before .before .before .before .before .before .before .before .before .before .before .before .before .before .loop-test .taken in
-    let r = next-after-is lk (at .b) (a .v .0) (c .before .before .before .before .before .before .before .before .before .before .before .before .before .before .before .before .before .before .before .before .before .before .before .before .before .before .before .before .before .before .before .next-after .result) h (i .0 .here h) (c .before .before .before .before .before .before .before .before .before .before .before .before .before .before .before .before .before .before .before .before .before .before .before .before .before .before .before .before .before .before .before .next-after .ensures) in
-    let z = next-after-later lk (at .b) (a .v .0) _ h r in
+    let h = c .before .before .before .before .before .before .before .before .before .before .before .before .before .before .before .before .loop-test .taken in
+    let f = c .before .before .before .before .before .before .before .before .before .before .before .before .before .before .before .follow in
+    let r = next-after-is lk (at .b) (a .v .0) (f .result .next) h (i .0 .here h) (f .ensures .1) in
+    let z = next-after-later lk (at .b) (a .v .0) (f .result .next) h r in
     omega arith
 
 visit-loop-again-2 : (t : ℕ) → visit-lts.Need-loop-again-2 (visit-claims t) (visit-at t) visit.Post visit-Inv-loop visit-μ-loop
 visit-loop-again-2 t c =
-    let s = c .before .before .before .before .before .before .before .before .before .before .before .before .before .before .before .before .before .before .before .before .before .before .before .before .before .before .before .before .before .before .before .before .before .before .before .before .before .before .before in
+    let s = c .before .before .before .before .before .before .before .before .before .before .before .before .before .before .before .before .before .before in
     let a = s .args in
     let fit = s .pre .1 .0 in
     let x = fit .few-atoms in
     let y = fit .few-bonds in
     let lk = s .pre .1 .1 .0 in
-    let room = s .pre .1 .1 .1 .0 in
-    let l = room .number in
-    let at = c .before .before .before .before .before .before .before .before .before .before .before .before .before .before .before .before .before .before .before .before .before .before .before .before .before .before .before .before .before .before .before .before .before .before .loop in
+    let at = c .before .before .before .before .before .before .before .before .before .before .before .before .before .before .before .before .before .loop in
     let i = at .inv in
-    let h = c .before .before .before .before .before .before .before .before .before .before .before .before .before .before .before .before .before .before .before .before .before .before .before .before .before .before .before .before .before .before .before .before .before .loop-test .taken in
-    let w : ℕ = c .before .before .before .before .before .before .before .before .before .before .before .before .before .before .before .before .before .before .before .before .before .before .before .before .before .before .before .before .before .before .before .before .other-end .result in
-    let e = c .before .before .before .before .before .before .before .before .before .before .before .before .before .before .before .before .before .before .before .before .before .before .before .before .before .before .before .before .before .before .before .before .other-end .ensures in
+    let h = c .before .before .before .before .before .before .before .before .before .before .before .before .before .before .before .before .loop-test .taken in
+    let f = c .before .before .before .before .before .before .before .before .before .before .before .before .before .before .before .follow in
+    let w : ℕ = f .result .other in
     let q = other-below fit (a .v .0) (at .b) h in
-    let wn : w < maxAtoms = omega (arith, q, e, fit .few-atoms) in
-    let r = next-after-is lk (at .b) (a .v .0) (c .before .before .before .before .before .before .before .before .before .before .before .before .before .before .before .before .before .before .before .before .before .before .before .before .before .before .before .before .before .before .before .next-after .result) h (i .0 .here h) (c .before .before .before .before .before .before .before .before .before .before .before .before .before .before .before .before .before .before .before .before .before .before .before .before .before .before .before .before .before .before .before .next-after .ensures) in
-    let g = i .2 in
-    (left-new fit (c .before .before .before .before .before .before .before .before .before .before .before .before .before .before .before .before .before .before .before .before .before .before .before .before .before .before .before .before .before .before .before .next-after .result) h r _ _ _ _ _ _ (i .0) w (c .before .before .before .before .before .before .before .before .before .before .before .before .before .before .before .before .before .before .before .before .before .before .before .before .before .before .before .bond-number .result) (getD (a .head .now) w 0) e (c .before .before .before .before .before .before .before .before .before .before .before .before .before .before .before .before .before .before .before .before .before .before .before .before .before .before .before .before .before .if1 .left) (c .before .before .before .before .before .before .before .before .before .before .before .before .before .before .before .before .before .before .before .before .before .before .before .before .before .before .before .bond-number .ensures) (lk .heads w wn) (omega arith) _ _ _ _ (c .before .before .before .before .before .before .before .before .before .before .before .before .before .before .before .before .before .before .before .before .before .before .add .ensures .0) (c .before .before .before .before .before .before .before .before .before .before .before .before .before .before .before .before .before .before .before .before .before .before .add .ensures .1 .0) (c .before .before .before .before .before .before .before .before .before .before .before .before .before .before .before .before .before .before .before .before .before .before .add .ensures .1 .1 .0) (c .before .before .before .before .before .before .before .before .before .before .before .before .before .before .before .before .before .before .before .before .before .before .add .ensures .1 .1 .1) _ (c .before .before .before .before .before .before .before .before .visit .ensures), c .before .before .before .before .before .before .before .before .visit .kept .1 .1 .1 .1 .1 .1 .0 ∙ c .before .before .before .before .before .before .before .before .before .before .before .before .before .before .before .before .before .before .before .before .before .before .add .kept .0 ∙ i .1, c .before .before .before .before .before .before .before .before .visit .kept .1 .1 .1 .1 .1 .1 .1 .0 ∙ c .before .before .before .before .before .before .before .before .before .before .before .before .before .before .before .before .before .before .before .before .before .before .add .kept .1 .0 ∙ i .2, c .before .before .before .before .before .before .before .before .visit .kept .1 .1 .1 .1 .1 .1 .1 .1 .0 ∙ c .before .before .before .before .before .before .before .before .before .before .before .before .before .before .before .before .before .before .before .before .before .before .add .kept .1 .1 .0 ∙ i .3, c .before .before .before .before .before .before .before .before .visit .kept .1 .1 .1 .1 .1 .1 .1 .1 .1 .0 ∙ c .before .before .before .before .before .before .before .before .before .before .before .before .before .before .before .before .before .before .before .before .before .before .add .kept .1 .1 .1 .0 ∙ i .4)
-
-visit-same-length-5 : (t : ℕ) → visit-lts.Need-same-length-5 (visit-claims t) (visit-at t) visit.Post visit-Inv-loop visit-μ-loop
-visit-same-length-5 t c = c .before .loop .inv .1
-
-visit-same-length-6 : (t : ℕ) → visit-lts.Need-same-length-6 (visit-claims t) (visit-at t) visit.Post visit-Inv-loop visit-μ-loop
-visit-same-length-6 t c = c .before .loop .inv .2
-
-visit-same-length-7 : (t : ℕ) → visit-lts.Need-same-length-7 (visit-claims t) (visit-at t) visit.Post visit-Inv-loop visit-μ-loop
-visit-same-length-7 t c = c .before .loop .inv .3
-
-visit-same-length-8 : (t : ℕ) → visit-lts.Need-same-length-8 (visit-claims t) (visit-at t) visit.Post visit-Inv-loop visit-μ-loop
-visit-same-length-8 t c = c .before .loop .inv .4
+    let wn : w < maxAtoms = omega (arith, q, f .ensures .0, x) in
+    let r = next-after-is lk (at .b) (a .v .0) (f .result .next) h (i .0 .here h) (f .ensures .1) in
+    let room = room-kept (s .pre .1 .1 .1 .0) (i .1) in
+    let l = room .number in
+    let d = c .before .before .before .before .before .before .add in
+    let kept = kept-set (i .1) (at .next) w (a .hub + 1) (c .before .before .before .before .before .before .before .before .before .before .before .bond-number .result) (d .ensures .0) (d .ensures .1 .0) (d .ensures .1 .1 .0) (d .ensures .1 .1 .1) in
+    let b = c .before .before .before .before .before .before .before .before .before .before .before .bond-number in
+    let v = c .visit in
+    (left-new fit (f .result .next) h r _ _ _ _ _ _ (i .0) w (b .result) (getD (a .head .now) w 0) (f .ensures .0) (c .before .before .before .before .before .before .before .before .before .before .before .before .before .if1 .left) (b .ensures) (lk .heads w wn) (omega arith) _ _ _ _ (d .ensures .0) (d .ensures .1 .0) (d .ensures .1 .1 .0) (d .ensures .1 .1 .1) _ (v .ensures .0), kept-then kept (v .ensures .1))
 
 visit-returns-2 : (t : ℕ) → visit-lts.Need-returns-2 (visit-claims t) (visit-at t) visit.Post visit-Inv-loop visit-μ-loop
 visit-returns-2 t c =
-    let s = c .before .before .before .before .before .before in
+    let s = c .before .before in
     let fit = s .pre .1 .0 in
     let at = c .before .loop in
     let i = at .inv in
-    left-end fit _ _ (i .0) (c .loop-test .left)
+    (left-end fit _ _ (i .0) (c .loop-test .left), i .1)
 
 pub +visit-spec : {M : Type 1} → statement M
 +visit-spec = close μ-visit λ t. visit-lts.spec (visit-claims t)
@@ -339,16 +293,11 @@ pub +visit-spec : {M : Type 1} → statement M
     visit-Inv-loop
     visit-μ-loop
     (visit-loop-holds t)
-    (visit-other-end-requires t)
-    (visit-next-after-requires t)
+    (visit-follow-requires t)
     (visit-mul-if1 t)
-    (visit-slice-read-if1 t)
+    (visit-element-copy-out-if1 t)
     (visit-loop-less t)
     (visit-loop-again t)
-    (visit-same-length t)
-    (visit-same-length-2 t)
-    (visit-same-length-3 t)
-    (visit-same-length-4 t)
     (visit-returns t)
     (visit-bond-number-requires t)
     (visit-add-add t)
@@ -360,8 +309,4 @@ pub +visit-spec : {M : Type 1} → statement M
     (visit-visit-requires t)
     (visit-loop-less-2 t)
     (visit-loop-again-2 t)
-    (visit-same-length-5 t)
-    (visit-same-length-6 t)
-    (visit-same-length-7 t)
-    (visit-same-length-8 t)
     (visit-returns-2 t)
