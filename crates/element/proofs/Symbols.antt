@@ -8,7 +8,7 @@ use lib.Dec.{eqb, ltb, eqb·suc-zero}
 use lib.ListN.{length}
 use borrow.Author.Tests.{eqb-true, ltb-false, not-false}
 use Rattle.loops.specs.Loop.{pick}
-use Rattle.element.specs.Symbols.{among, sameBytes, listed, starts, symbols}
+use Rattle.element.specs.Symbols.{sameBytes, listed, starts, symbols}
 use Rattle.element.specs.Lookup.{indexFrom, numberOf, singleOf}
 
 pub both : (a b : Bool) → pick a b false ≡ true → (a ≡ true) × (b ≡ true)
@@ -136,21 +136,3 @@ pub no-single : (a : ℕ) → noCapital a ≡ true → singleOf a ≡ 0
 unfolding symbols singleOf
 no-single a e =
     simp (unlisted lettered (a ∷ []) symbols refl (ap not e), unstarted (λ b. not (noCapital b)) a symbols refl (ap not e))
-
--- a byte is one of several, as code tests it
-abbrev pub oneOf : ℕ → Bool → List ℕ → Bool
-oneOf b t [] = t
-oneOf b t (x ∷ l) = oneOf b (t || eqb b x) l
-
-or-pick : (t u m : Bool) → pick (t || u) true m ≡ pick t true (pick u true m)
-or-pick true u m = refl
-or-pick false u m = refl
-
-pick-self : (t : Bool) → t ≡ pick t true false
-pick-self true = refl
-pick-self false = refl
-
-pub one-of : (b : ℕ) (t : Bool) (l : List ℕ) → oneOf b t l ≡ pick t true (among b l)
-unfolding among
-one-of b t [] = pick-self t
-one-of b t (x ∷ l) = one-of b (t || eqb b x) l ∙ or-pick t (eqb b x) (among b l)

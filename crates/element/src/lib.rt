@@ -171,19 +171,10 @@ pub fn atom_start(b: u8) -> Letter
 pub fn is_bare(e: u8) -> bool
     ensures { λ r. ⌜ r ≡ bare e ⌝ }
 {
-    (e == 0)
-        | (e == 5)
-        | (e == 6)
-        | (e == 7)
-        | (e == 8)
-        | (e == 9)
-        | (e == 15)
-        | (e == 16)
-        | (e == 17)
-        | (e == 35)
-        | (e == 53)
-        | (e == 85)
-        | (e == 117)
+    match e {
+        0 | 5 | 6 | 7 | 8 | 9 | 15 | 16 | 17 | 35 | 53 | 85 | 117 => true,
+        _ => false,
+    }
 }
 
 // A symbol of one letter.

@@ -6,17 +6,34 @@ use native.Mathlib.Nat.{add-zero}
 use mathlib.Core.Path.{_≡_, refl, sym, ap, _∙_}
 use mathlib.Core.Bool.{Bool, true, false, _||_}
 use mathlib.Core.List.{List, _∷_}
-use borrow.Author.Tests.{eq-eqb, ne-eqb, eqb-true, eqb-false, leb-true, ltb-true, ltb-false}
+use borrow.Author.Tests.{eq-eqb, ne-eqb, eqb-true, eqb-false, leb-true, lt-ltb, ltb-true, ltb-false}
 use lib.ListN.{length, getD, replicate, length-set, length-replicate, List·getD-eq-default}
 use lib.Seq.{getD-set-same, getD-set-other, ext-getD}
 use lib.IntN.{ℤ}
+use mir.Syntax.{w32}
+use mir.Val.{toZ, ofZ}
+use mir.Facts.{toZ-ofZ}
 use lib.Dec.{eqb, leb, ltb}
 use Rattle.loops.specs.Loop.{pick, run, upTo}
 use Rattle.loops.proofs.Loops.{length-upTo, upTo-at}
-use Rattle.table.specs.Cells.{end1, end2, kind}
+use Rattle.table.specs.declared.Bond.{Bond}
+use Rattle.table.specs.Limits.{maxBonds}
+use Rattle.table.specs.Cells.{number, end1, end2, kind}
+use Rattle.table.specs.Rows.{bondAt, bondRow, BondFits}
 use Rattle.valence.specs.Valence.{order}
 use Rattle.graph.specs.Graph.{touches, share, addShare, bondSum}
 use Rattle.graph.specs.Built.{bump, withBond}
+
+-- the numbers in a bond's row are those of its cells
+pub row-cells : (bonds : List ℤ) (b : ℕ) (x : Bond) → (x ≡ bondAt bonds b) × BondFits x → b < maxBonds
+    → (number (toZ w32 (ofZ w32 (x .first))) ≡ end1 bonds b) × (number (toZ w32 (ofZ w32 (x .second))) ≡ end2 bonds b) × (number (toZ w32 (ofZ w32 (x .kind))) ≡ kind bonds b)
+unfolding bondAt
+row-cells bonds b x e h =
+    let f : x ≡ bondRow bonds b = e .0 ∙ simp (lt-ltb b maxBonds h) in (
+      ap number (toZ-ofZ (e .1 .first)) ∙ ap (λ (y : Bond). number (y .first)) f,
+      ap number (toZ-ofZ (e .1 .second)) ∙ ap (λ (y : Bond). number (y .second)) f,
+      ap number (toZ-ofZ (e .1 .kind)) ∙ ap (λ (y : Bond). number (y .kind)) f,
+    )
 
 -- the last step of a loop
 run-last : {S : Type 0} (step : ℕ → S → S) (k m : ℕ) (s : S) → run step k (suc m) s ≡ step (k + m) (run step k m s)

@@ -13,13 +13,11 @@ ghost use Rattle.graph.specs.Built.{bump, withBond, sumFlag, Summed, Wid
 use ids::AtomId;
 use ids::BondId;
 use table::ELEMENT;
-use table::FIRST;
 use table::HYDROGENS;
-use table::KIND;
 use table::MAX_ATOMS;
-use table::SECOND;
 use table::SELECTED;
 use table::cell;
+use table::row;
 
 // Adds to the bond sum of an atom; nothing past the end.
 fn add(sums: &mut [u16], a: AtomId, x: usize)
@@ -40,9 +38,10 @@ fn add_bond(bonds: &[i32], b: BondId, sums: &mut [u16])
     requires { ⌜ ((a : ℕ) → getD (now sums) a 0 ≤ 3 * b .0) ⌝ }
     ensures { λ _. ⌜ now (sums .exit) ≡ withBond (now (bonds .entry)) (b .0) (now (sums .entry)) ⌝ }
 {
-    let e = cell::bond_number(bonds, b, FIRST);
-    let f = cell::bond_number(bonds, b, SECOND);
-    let x = valence::order(cell::bond_number(bonds, b, KIND));
+    let row = row::get_bond(bonds, b);
+    let e = cell::number(row.first);
+    let f = cell::number(row.second);
+    let x = valence::order(cell::number(row.kind));
     add(sums, AtomId(e), x);
     if e != f {
         add(sums, AtomId(f), x);
@@ -122,10 +121,10 @@ fn fill_bonds(
 {
     let mut i = 0;
     while i < m {
-        let b = BondId(i);
-        let first = cell::bond_number(bonds, b, FIRST);
-        let second = cell::bond_number(bonds, b, SECOND);
-        let kind = cell::bond_number(bonds, b, KIND);
+        let row = row::get_bond(bonds, BondId(i));
+        let first = cell::number(row.first);
+        let second = cell::number(row.second);
+        let kind = cell::number(row.kind);
         let x = valence::order(kind) as u16;
         ea[i] = first as u16;
         eb[i] = second as u16;

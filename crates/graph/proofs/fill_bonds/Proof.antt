@@ -6,7 +6,7 @@ use Rattle.loops.proofs.Loops.{Edited, fills, edited-start, filled-step, filled
 use Rattle.table.specs.Limits.{maxAtoms}
 use Rattle.table.specs.Cells.{end1, end2}
 use Rattle.graph.specs.Graph.{elidedFlag}
-use Rattle.graph.proofs.Sums.{order-small, sumsTo, sums-none, sums-bound, second-bound, sums-step, two-ends}
+use Rattle.graph.proofs.Sums.{row-cells, order-small, sumsTo, sums-none, sums-bound, second-bound, sums-step, two-ends}
 use Rattle.graph.proofs.fill_bonds.Statement.{statement}
 use Rattle.graph.proofs.fill_bonds.Tie as tie
 
@@ -22,28 +22,37 @@ loop-holds c =
     let s = c .before .before .before in
     (edited-start, edited-start, edited-start, s .pre .1 ∙ sums-none (now (s .args .bonds)) maxAtoms)
 
-bond-number-requires : tie.Need-bond-number-requires Inv-loop μ-loop
-bond-number-requires c κs = (omega arith, omega arith)
+get-bond-requires : tie.Need-get-bond-requires Inv-loop μ-loop
+get-bond-requires c κs = tt
 
-bond-number-requires-2 : tie.Need-bond-number-requires-2 Inv-loop μ-loop
-bond-number-requires-2 c κs = (omega arith, omega arith)
+number-requires : tie.Need-number-requires Inv-loop μ-loop
+number-requires c κs = tt
 
-bond-number-requires-3 : tie.Need-bond-number-requires-3 Inv-loop μ-loop
-bond-number-requires-3 c κs = (omega arith, omega arith)
+number-requires-2 : tie.Need-number-requires-2 Inv-loop μ-loop
+number-requires-2 c κs = tt
+
+number-requires-3 : tie.Need-number-requires-3 Inv-loop μ-loop
+number-requires-3 c κs = tt
 
 order-requires : tie.Need-order-requires Inv-loop μ-loop
 order-requires c κs = tt
 
 cast-x : tie.Need-cast-x Inv-loop μ-loop
-cast-x c = omega (arith, c .order .ensures, order-small (c .before .bond-number3 .result))
+cast-x c =
+    let k = c .before .number3 in
+    let o = c .order in
+    omega (arith, o .ensures, order-small (k .result))
 
 cast-ea : tie.Need-cast-ea Inv-loop μ-loop
 cast-ea c =
-    let d = c .before .before .before in
-    let i = d .before .before .loop .i in
-    let w = d .before .before .before .before .before .before .pre .0 in
-    let l = d .before .loop-test .taken in
-    omega (arith, d .bond-number .ensures, w .order i l, w .second-fits i l)
+    let s = c .before .before .before .before .before .before .before .before .before .before .before .before .before in
+    let a = c .before .before .before .before .before .before .before .before .before .loop in
+    let l = c .before .before .before .before .before .before .before .before .loop-test .taken in
+    let w = s .pre .0 in
+    let bs = now (s .args .bonds) in
+    let r = row-cells bs (a .i) (c .before .before .before .before .before .before .before .get-bond .result) (c .before .before .before .before .before .before .before .get-bond .ensures) (omega (arith, w .few, l)) in
+    let e = c .before .before .before .before .before .number in
+    omega (arith, e .ensures, r .0, w .order (a .i) l, w .second-fits (a .i) l)
 
 mul-ea : tie.Need-mul-ea Inv-loop μ-loop
 mul-ea c = omega arith
@@ -53,10 +62,14 @@ slice-write-ea c = omega arith
 
 cast-eb : tie.Need-cast-eb Inv-loop μ-loop
 cast-eb c =
-    let d = c .before .before .before in
-    let i = d .before .before .loop .i in
-    let w = d .before .before .before .before .before .before .pre .0 in
-    omega (arith, c .before .before .bond-number2 .ensures, w .second-fits i (d .before .loop-test .taken))
+    let s = c .before .before .before .before .before .before .before .before .before .before .before .before .before in
+    let a = c .before .before .before .before .before .before .before .before .before .loop in
+    let l = c .before .before .before .before .before .before .before .before .loop-test .taken in
+    let w = s .pre .0 in
+    let bs = now (s .args .bonds) in
+    let r = row-cells bs (a .i) (c .before .before .before .before .before .before .before .get-bond .result) (c .before .before .before .before .before .before .before .get-bond .ensures) (omega (arith, w .few, l)) in
+    let f = c .before .before .before .number2 in
+    omega (arith, f .ensures, r .1, w .second-fits (a .i) l)
 
 mul-eb : tie.Need-mul-eb Inv-loop μ-loop
 mul-eb c = omega arith
@@ -72,71 +85,93 @@ slice-write-el c = omega arith
 
 mul-sums : tie.Need-mul-sums Inv-loop μ-loop
 mul-sums c =
-    let d = c .before .before .before .before in
-    let i = d .before .before .loop .i in
-    let w = d .before .before .before .before .before .before .pre .0 in
-    let l = d .before .loop-test .taken in
-    omega (arith, d .bond-number .ensures, w .order i l, w .second-fits i l)
+    let s = c .before .before .before .before .before .before .before .before .before .before .before .before .before .before in
+    let a = c .before .before .before .before .before .before .before .before .before .before .loop in
+    let l = c .before .before .before .before .before .before .before .before .before .loop-test .taken in
+    let w = s .pre .0 in
+    let bs = now (s .args .bonds) in
+    let r = row-cells bs (a .i) (c .before .before .before .before .before .before .before .before .get-bond .result) (c .before .before .before .before .before .before .before .before .get-bond .ensures) (omega (arith, w .few, l)) in
+    let e = c .before .before .before .before .before .before .number in
+    omega (arith, e .ensures, r .0, w .order (a .i) l, w .second-fits (a .i) l)
 
 element-copy-out-sums : tie.Need-element-copy-out-sums Inv-loop μ-loop
 element-copy-out-sums c =
-    let d = c .before .before .before .before in
-    let i = d .before .before .loop .i in
-    let w = d .before .before .before .before .before .before .pre .0 in
-    let l = d .before .loop-test .taken in
-    omega (arith, d .bond-number .ensures, w .order i l, w .second-fits i l)
+    let s = c .before .before .before .before .before .before .before .before .before .before .before .before .before .before in
+    let a = c .before .before .before .before .before .before .before .before .before .before .loop in
+    let l = c .before .before .before .before .before .before .before .before .before .loop-test .taken in
+    let w = s .pre .0 in
+    let bs = now (s .args .bonds) in
+    let r = row-cells bs (a .i) (c .before .before .before .before .before .before .before .before .get-bond .result) (c .before .before .before .before .before .before .before .before .get-bond .ensures) (omega (arith, w .few, l)) in
+    let e = c .before .before .before .before .before .before .number in
+    omega (arith, e .ensures, r .0, w .order (a .i) l, w .second-fits (a .i) l)
 
 add-sums : tie.Need-add-sums Inv-loop μ-loop
 add-sums c =
-    let o = c .before .before in
-    let d = o .before .before .before in
-    let a = d .before .before .loop in
-    let bs = now (d .before .before .before .before .before .before .args .bonds) in
-    omega (arith, sums-bound bs (a .i) maxAtoms (a .inv .3) (d .bond-number .result), o .order .ensures, order-small (o .before .bond-number3 .result))
+    let s = c .before .before .before .before .before .before .before .before .before .before .before .before .before .before .before in
+    let a = c .before .before .before .before .before .before .before .before .before .before .before .loop in
+    let e = c .before .before .before .before .before .before .before .number in
+    let k = c .before .before .before .number3 in
+    let o = c .before .before .order in
+    omega (arith, sums-bound (now (s .args .bonds)) (a .i) maxAtoms (a .inv .3) (e .result), o .ensures, order-small (k .result))
 
 element-write-sums : tie.Need-element-write-sums Inv-loop μ-loop
 element-write-sums c =
-    let d = c .before .before .before .before .before in
-    let i = d .before .before .loop .i in
-    let w = d .before .before .before .before .before .before .pre .0 in
-    let l = d .before .loop-test .taken in
-    omega (arith, d .bond-number .ensures, w .order i l, w .second-fits i l)
+    let s = c .before .before .before .before .before .before .before .before .before .before .before .before .before .before .before in
+    let a = c .before .before .before .before .before .before .before .before .before .before .before .loop in
+    let l = c .before .before .before .before .before .before .before .before .before .before .loop-test .taken in
+    let w = s .pre .0 in
+    let bs = now (s .args .bonds) in
+    let r = row-cells bs (a .i) (c .before .before .before .before .before .before .before .before .before .get-bond .result) (c .before .before .before .before .before .before .before .before .before .get-bond .ensures) (omega (arith, w .few, l)) in
+    let e = c .before .before .before .before .before .before .before .number in
+    omega (arith, e .ensures, r .0, w .order (a .i) l, w .second-fits (a .i) l)
 
 mul-sums-2 : tie.Need-mul-sums-2 Inv-loop μ-loop
 mul-sums-2 c =
-    let f = c .before .before .before .before in
-    let d = f .before in
-    let i = d .before .before .loop .i in
-    let w = d .before .before .before .before .before .before .pre .0 in
-    omega (arith, f .bond-number2 .ensures, w .second-fits i (d .before .loop-test .taken))
+    let s = c .before .before .before .before .before .before .before .before .before .before .before .before .before .before .before in
+    let a = c .before .before .before .before .before .before .before .before .before .before .before .loop in
+    let l = c .before .before .before .before .before .before .before .before .before .before .loop-test .taken in
+    let w = s .pre .0 in
+    let bs = now (s .args .bonds) in
+    let r = row-cells bs (a .i) (c .before .before .before .before .before .before .before .before .before .get-bond .result) (c .before .before .before .before .before .before .before .before .before .get-bond .ensures) (omega (arith, w .few, l)) in
+    let f = c .before .before .before .before .before .number2 in
+    omega (arith, f .ensures, r .1, w .second-fits (a .i) l)
 
 element-copy-out-sums-2 : tie.Need-element-copy-out-sums-2 Inv-loop μ-loop
 element-copy-out-sums-2 c =
-    let f = c .before .before .before .before in
-    let d = f .before in
-    let i = d .before .before .loop .i in
-    let w = d .before .before .before .before .before .before .pre .0 in
-    omega (arith, f .bond-number2 .ensures, w .second-fits i (d .before .loop-test .taken))
+    let s = c .before .before .before .before .before .before .before .before .before .before .before .before .before .before .before in
+    let a = c .before .before .before .before .before .before .before .before .before .before .before .loop in
+    let l = c .before .before .before .before .before .before .before .before .before .before .loop-test .taken in
+    let w = s .pre .0 in
+    let bs = now (s .args .bonds) in
+    let r = row-cells bs (a .i) (c .before .before .before .before .before .before .before .before .before .get-bond .result) (c .before .before .before .before .before .before .before .before .before .get-bond .ensures) (omega (arith, w .few, l)) in
+    let f = c .before .before .before .before .before .number2 in
+    omega (arith, f .ensures, r .1, w .second-fits (a .i) l)
 
 add-sums-2 : tie.Need-add-sums-2 Inv-loop μ-loop
 add-sums-2 c =
-    let o = c .before .before .before in
-    let f = o .before .before in
-    let d = f .before in
-    let a = d .before .before .loop in
-    let s = d .before .before .before .before .before .before in
-    let e = d .bond-number .result in
-    let g = f .bond-number2 .result in
-    let l : e < g = omega (arith, d .bond-number .ensures, f .bond-number2 .ensures, s .pre .0 .order (a .i) (d .before .loop-test .taken)) in
-    omega (arith, second-bound (a .sums) e g (o .order .result) (3 * a .i) l (sums-bound (now (s .args .bonds)) (a .i) maxAtoms (a .inv .3)), o .order .ensures, order-small (o .before .bond-number3 .result))
+    let s = c .before .before .before .before .before .before .before .before .before .before .before .before .before .before .before .before in
+    let a = c .before .before .before .before .before .before .before .before .before .before .before .before .loop in
+    let l = c .before .before .before .before .before .before .before .before .before .before .before .loop-test .taken in
+    let w = s .pre .0 in
+    let bs = now (s .args .bonds) in
+    let r = row-cells bs (a .i) (c .before .before .before .before .before .before .before .before .before .before .get-bond .result) (c .before .before .before .before .before .before .before .before .before .before .get-bond .ensures) (omega (arith, w .few, l)) in
+    let e = c .before .before .before .before .before .before .before .before .number in
+    let f = c .before .before .before .before .before .before .number2 in
+    let k = c .before .before .before .before .number3 in
+    let o = c .before .before .before .order in
+    let g : e .result < f .result = omega (arith, e .ensures, f .ensures, r .0, r .1, w .order (a .i) l) in
+    omega (arith, second-bound (a .sums) (e .result) (f .result) (o .result) (3 * a .i) g (sums-bound bs (a .i) maxAtoms (a .inv .3)), o .ensures, order-small (k .result))
 
 element-write-sums-2 : tie.Need-element-write-sums-2 Inv-loop μ-loop
 element-write-sums-2 c =
-    let f = c .before .before .before .before .before in
-    let d = f .before in
-    let i = d .before .before .loop .i in
-    let w = d .before .before .before .before .before .before .pre .0 in
-    omega (arith, f .bond-number2 .ensures, w .second-fits i (d .before .loop-test .taken))
+    let s = c .before .before .before .before .before .before .before .before .before .before .before .before .before .before .before .before in
+    let a = c .before .before .before .before .before .before .before .before .before .before .before .before .loop in
+    let l = c .before .before .before .before .before .before .before .before .before .before .before .loop-test .taken in
+    let w = s .pre .0 in
+    let bs = now (s .args .bonds) in
+    let r = row-cells bs (a .i) (c .before .before .before .before .before .before .before .before .before .before .get-bond .result) (c .before .before .before .before .before .before .before .before .before .before .get-bond .ensures) (omega (arith, w .few, l)) in
+    let f = c .before .before .before .before .before .before .number2 in
+    omega (arith, f .ensures, r .1, w .second-fits (a .i) l)
 
 add-i : tie.Need-add-i Inv-loop μ-loop
 add-i c = omega arith
@@ -146,21 +181,25 @@ loop-less c = omega arith
 
 loop-again : tie.Need-loop-again Inv-loop μ-loop
 loop-again c =
-    let o = c .before .before .before in
-    let k = o .before in
-    let f = k .before in
-    let e = f .before in
-    let t = e .before in
-    let v = t .before .loop .inv in
-    let l = t .loop-test .taken in
-    let w = t .before .before .before .before .before .pre .0 in
-    let bs = now (t .before .before .before .before .before .args .bonds) in
-    let i = t .before .loop .i in
-    let ne : e .bond-number .result ≡ f .bond-number2 .result → ⊥ = λ q. omega (arith, e .bond-number .ensures, f .bond-number2 .ensures, w .order i l) in (
-      filled-step (v .0) _ l (e .bond-number .ensures),
-      filled-step (v .1) _ l (f .bond-number2 .ensures),
-      filled-step (v .2) _ l (c .before .before .flag .ensures ∙ simp (k .bond-number3 .ensures)),
-      sums-step bs i _ (v .3) (two-ends bs i _ (e .bond-number .ensures) (f .bond-number2 .ensures) (k .bond-number3 .ensures) (o .order .ensures) ne refl refl),
+    let s = c .before .before .before .before .before .before .before .before .before .before .before .before .before .before .before .before in
+    let a = c .before .before .before .before .before .before .before .before .before .before .before .before .loop in
+    let l = c .before .before .before .before .before .before .before .before .before .before .before .loop-test .taken in
+    let w = s .pre .0 in
+    let bs = now (s .args .bonds) in
+    let r = row-cells bs (a .i) (c .before .before .before .before .before .before .before .before .before .before .get-bond .result) (c .before .before .before .before .before .before .before .before .before .before .get-bond .ensures) (omega (arith, w .few, l)) in
+    let e = c .before .before .before .before .before .before .before .before .number in
+    let f = c .before .before .before .before .before .before .number2 in
+    let k = c .before .before .before .before .number3 in
+    let o = c .before .before .before .order in
+    let pe = e .ensures ∙ r .0 in
+    let pf = f .ensures ∙ r .1 in
+    let pk = k .ensures ∙ r .2 in
+    let v = a .inv in
+    let ne : e .result ≡ f .result → ⊥ = λ q. omega (arith, pe, pf, w .order (a .i) l) in (
+      filled-step (v .0) _ l pe,
+      filled-step (v .1) _ l pf,
+      filled-step (v .2) _ l (c .before .before .flag .ensures ∙ simp pk),
+      sums-step bs (a .i) _ (v .3) (two-ends bs (a .i) _ pe pf pk (o .ensures) ne refl refl),
     )
 
 same-length : tie.Need-same-length Inv-loop μ-loop
@@ -194,9 +233,10 @@ fill-bonds-spec =
     Inv-loop
     μ-loop
     loop-holds
-    bond-number-requires
-    bond-number-requires-2
-    bond-number-requires-3
+    get-bond-requires
+    number-requires
+    number-requires-2
+    number-requires-3
     order-requires
     cast-x
     cast-ea

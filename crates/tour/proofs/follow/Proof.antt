@@ -1,6 +1,5 @@
 use Rattle.tour.specs.Tour.{otherEnd, nextAfter}
 use mathlib.Core.Path.{sym, _∙_}
-use native.Mathlib.Omega.{arith}
 use borrow.Author.Tests.{eq-eqb, ne-eqb}
 use borrow.Author.Needs.{needs}
 use Rattle.tour.proofs.follow.Statement.{statement}
