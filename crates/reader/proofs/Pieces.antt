@@ -1,7 +1,7 @@
 -- What the bytes at an offset make the next piece: a law for each way. Assumes nothing.
 use Prim.Native.Nat.{ℕ, zero, suc, _+_, _-_, _*_, _≤_, _<_}
 use native.Mathlib.Omega.{arith}
-use mathlib.Core.Path.{_≡_, refl, sym, ap, _∙_}
+use mathlib.Core.Path.{_≡_, refl, sym, ap, _∙_, subst⁻¹}
 use mathlib.Core.Bool.{Bool, true, false}
 use mathlib.Core.List.{List}
 use lib.ListN.{length, getD}
@@ -33,7 +33,7 @@ use Rattle.field.proofs.Bytes.{digit-high, nonzero-digit, digit-in, byte-in}
 use Rattle.field.proofs.Letters.{nothing-first}
 use Rattle.reader.specs.declared.piece.Joint.{Joint}
 use Rattle.reader.specs.declared.piece.Piece.{Piece}
-use Rattle.reader.specs.Piece.{jointOf, kindMode, kindPending, Loose, Free, afterBridge, SeenAtom, Seen, Joined}
+use Rattle.reader.specs.Piece.{jointOf, kindMode, kindPending, startMode, startPending, Loose, Free, afterBridge, SeenAtom, Seen, Joined}
 
 -- ---- an atom, where no other piece can begin
 plain-dot : (s : List ℕ) (p : ℕ) {b : ℕ} (μ : Memory) → Peeked s p b → p < length s → among b nonzero ≡ false → eqb b 37 ≡ false → among b bondSymbols ≡ false → eqb b 46 ≡ false → eqb b 40 ≡ false → eqb b 41 ≡ false
@@ -360,3 +360,10 @@ module _ (s : List ℕ) (p x : ℕ) {b : ℕ} (k : Peeked s p b) where
             is = λ t a o i f. let μ = memory t a o (kindPending x) i f in
                 (digit c, tens-step μ ∙ bridge-rest s (p + 2) percent1 (counting (digit c) μ) (10 * v + w) p q (digit-in q g) (rw g) (rw (y, ev, ew)) ∙ rw z);
           }
+
+-- ---- the next piece, fresh or not
+pub seen-fresh : (s : List ℕ) (p : ℕ) (j : Joint) {f : Bool} → f ≡ true → p ≤ length s → Seen s p (startMode f) (startPending f j) (Piece.Atom j p)
+seen-fresh s p j e l = subst⁻¹ (λ (z : Bool). Seen s p (startMode z) (startPending z j) (Piece.Atom j p)) e (record { within = l; later = omega arith; is = λ t a b n f. refl })
+
+pub seen-older : (s : List ℕ) (p : ℕ) (j : Joint) (r : Piece) {f : Bool} → f ≡ false → Seen s p (seq plain) nothing r → Seen s p (startMode f) (startPending f j) r
+seen-older s p j r e h = subst⁻¹ (λ (z : Bool). Seen s p (startMode z) (startPending z j) r) e h

@@ -2,25 +2,25 @@
 use Prim.Native.Nat.{ℕ, suc, _-_, _<_}
 use native.Mathlib.Omega.{arith}
 use mathlib.Core.Path.{_≡_, refl, _∙_, subst, subst⁻¹}
+use mathlib.Core.Bool.{Bool, true, false}
 use mathlib.Core.List.{List}
 use lib.ListN.{length, getD}
 use lib.IntN.{ℤ}
 use Rattle.refusal.specs.declared.Refusal.{Refusal}
 use Rattle.grammar.specs.declared.Last.the-variants.{Plain as plain}
 use Rattle.grammar.specs.declared.Mode.the-variants.{Seq as seq, Dot as dot}
+use Rattle.grammar.specs.Fold.{Answer}
 use Rattle.state.specs.State.{Steering}
 use Rattle.state.specs.declared.Fields.{Fields}
-use Rattle.reading.specs.Memory.{nothing}
+use Rattle.reading.specs.Memory.{Memory, nothing}
 use Rattle.field.specs.Rest.{rest, memory}
 use Rattle.field.specs.Field.{Peeked}
 use Rattle.reader.specs.declared.piece.Joint.{Joint}
-use Rattle.reader.specs.declared.piece.Piece.{Piece}
 use Rattle.reader.specs.declared.bridge.Why.{Why}
-use Rattle.reader.specs.Piece.{pendingOf, Seen}
+use Rattle.reader.specs.Piece.{pendingOf, startMode, startPending}
 use Rattle.reader.specs.Added.{Reaches}
-use Rattle.reader.specs.Went.{Went, Goes, PastFine, Past, Stops, Sequenced, Branched}
-use Rattle.reader.specs.Chain.{Stands, ChainEnds, Chained}
-use Rattle.reader.proofs.Turns.{stands-next, ends-next}
+use Rattle.reader.specs.Went.{Went, GoesOn, Goes, PastFine, Past, Stops, Sequenced, Branched}
+use Rattle.reader.specs.Chain.{ChainEnds, Chained}
 
 -- how much is left to read after a chain: nothing where it was refused
 abbrev pub left : List ℕ → Why → ℕ → ℕ
@@ -46,25 +46,25 @@ Runs s o₀ a₁ b₁ o a b = (p : ℕ) (j : Joint) (t : Steering) (a₀ b₀ : 
 
 module _ {s : List ℕ} {p : ℕ} {j : Joint} {t : Steering} {a₀ b₀ : List ℤ} where
   -- a chain was read after a part of the sequence that ended in u
-  run-chain : {r : Piece} {u : Steering} {a b a′ b′ : List ℤ} {o : Went} → ((i : ℕ) (f : Fields) → Stands s (rest s p dot (memory t a₀ b₀ (pendingOf j) i f)) r u a b)
-      → ((z : Why) → ChainEnds s r u z (o .at) (o .st) → Past s p t z (o .at) (o .st)) → Chained s r u a b a′ b′ o → length a′ ≡ length a₀ → length b′ ≡ length b₀ → Run s p j t a₀ b₀ o a′ b′
-  run-chain {r = r} {u = u} {o = o} h k g la lb = record {
-    goes = λ i f. g .goes (rest s p dot (memory t a₀ b₀ (pendingOf j) i f)) (h i f);
-    past = k (o .why) (g .ends);
+  run-chain : {q : ℕ} {k : Joint} {f : Bool} {u : Steering} {a b a′ b′ : List ℤ} {o : Went} → ((i : ℕ) (d : Fields) → Reaches s (rest s p dot (memory t a₀ b₀ (pendingOf j) i d)) q (startMode f) (startPending f k) u a b)
+      → ((z : Why) → ChainEnds s q f u z (o .at) (o .st) → Past s p t z (o .at) (o .st)) → Chained s q k f u a b a′ b′ o → length a′ ≡ length a₀ → length b′ ≡ length b₀ → Run s p j t a₀ b₀ o a′ b′
+  run-chain {q = q} {f = f} {u = u} {a′ = a′} {b′ = b′} {o = o} h past g la lb = record {
+    goes = λ i d. let y = h i d in subst⁻¹ (λ (x : Answer Memory). GoesOn s x (o .why) (o .at) (o .st) a′ b′) (y .is) (g .goes (y .tens) (y .draft));
+    past = past (o .why) (g .ends);
     pauses = by (o .why) (g .ends);
     long-a = la;
     long-b = lb;
   }
     where
-      by : (z : Why) → ChainEnds s r u z (o .at) (o .st) → Pauses s z (o .at)
+      by : (z : Why) → ChainEnds s q f u z (o .at) (o .st) → Pauses s z (o .at)
       by Why.Fine w = w .stops
       by (Why.Refused c e) w = tt
 
-  pub run-start : {a b : List ℤ} {o : Went} → Chained s (Piece.Atom j p) t a₀ b₀ a b o → length a ≡ length a₀ → length b ≡ length b₀ → Run s p j t a₀ b₀ o a b
-  run-start {o = o} g la lb = run-chain (λ i f. record { tens = i; draft = f; is = refl }) by g la lb
+  pub run-start : {a b : List ℤ} {o : Went} → Chained s p j true t a₀ b₀ a b o → length a ≡ length a₀ → length b ≡ length b₀ → Run s p j t a₀ b₀ o a b
+  run-start {o = o} g la lb = run-chain (λ i d. record { tens = i; draft = d; is = refl }) by g la lb
     where
-      by : (z : Why) → ChainEnds s (Piece.Atom j p) t z (o .at) (o .st) → Past s p t z (o .at) (o .st)
-      by Why.Fine w = record { later = w .later p (omega arith); within = w .within; fair = w .fair; deep = w .deep }
+      by : (z : Why) → ChainEnds s p true t z (o .at) (o .st) → Past s p t z (o .at) (o .st)
+      by Why.Fine w = record { later = w .moved refl; within = w .within; fair = w .fair; deep = w .deep }
       by (Why.Refused c e) w = tt
 
   module _ {o : Went} {a b : List ℤ} (v : Run s p j t a₀ b₀ o a b) where
@@ -102,21 +102,21 @@ module _ {s : List ℕ} {p : ℕ} {j : Joint} {t : Steering} {a₀ b₀ : List �
           branch-past = subst (λ (z : Why). Past s (o .at) (o .st) z (x .at) (x .st)) n (g .past)
 
           -- and the chain after it
-          module _ (r : Piece) (h : Seen s (x .at) (seq plain) nothing r) {a′ b′ : List ℤ} {y : Went} (k : Chained s r (x .st) a₁ b₁ a′ b′ y) where
+          module _ {i : Joint} {a′ b′ : List ℤ} {y : Went} (k : Chained s (x .at) i false (x .st) a₁ b₁ a′ b′ y) where
             pub run-branch : length a′ ≡ length a₀ → length b′ ≡ length b₀ → Run s p j t a₀ b₀ y a′ b′
-            run-branch la lb = run-chain (λ i f. stands-next s (x .at) r (reached i f) h) by k la lb
+            run-branch la lb = run-chain reached by k la lb
               where
                 reached : (i : ℕ) (f : Fields) → Reaches s (rest s p dot (memory t a₀ b₀ (pendingOf j) i f)) (x .at) (seq plain) nothing (x .st) a₁ b₁
                 reached i f = let m = run-goes i f in let c = subst (λ (z : Why). Goes s (o .at) (seq plain) nothing (o .st) a b z (x .at) (x .st) a₁ b₁) n (g .goes) (m .tens) (m .draft) in
                     record { tens = c .tens; draft = c .draft; is = m .is ∙ c .is }
 
-                by : (z : Why) → ChainEnds s r (x .st) z (y .at) (y .st) → Past s p t z (y .at) (y .st)
-                by Why.Fine e = record { later = e .later p (ends-next s (x .at) r (omega (arith, run-past .later, branch-past .later)) h); within = e .within; fair = e .fair; deep = e .deep ∙ branch-past .deep ∙ run-past .deep }
+                by : (z : Why) → ChainEnds s (x .at) false (x .st) z (y .at) (y .st) → Past s p t z (y .at) (y .st)
+                by Why.Fine e = record { later = omega (arith, e .later, run-past .later, branch-past .later); within = e .within; fair = e .fair; deep = e .deep ∙ branch-past .deep ∙ run-past .deep }
                 by (Why.Refused c m) e = tt
 
             pub run-less : left s (y .why) (y .at) < left s (o .why) (o .at)
             run-less = subst⁻¹ (λ (z : Why). left s (y .why) (y .at) < left s z (o .at)) w (by (y .why) (k .ends))
               where
-                by : (z : Why) → ChainEnds s r (x .st) z (y .at) (y .st) → left s z (y .at) < suc (length s - o .at)
-                by Why.Fine e = omega (arith, e .later (o .at) (ends-next s (x .at) r (branch-past .later) h), branch-past .later, branch-past .within)
+                by : (z : Why) → ChainEnds s (x .at) false (x .st) z (y .at) (y .st) → left s z (y .at) < suc (length s - o .at)
+                by Why.Fine e = omega (arith, e .later, e .within, branch-past .later)
                 by (Why.Refused c m) e = omega arith

@@ -1,7 +1,8 @@
--- The loop over the pieces of a chain: a reading that stood before its first piece stands before the piece that is next. Assumes nothing.
+-- The loop over the pieces of a chain: a reading that stood where the chain begins stands where the next piece begins. Assumes nothing.
 use Prim.Native.Nat.{ℕ, _≤_, _<_}
 use native.Mathlib.Omega.{arith}
 use mathlib.Core.Path.{_≡_, refl, ap, _∙_, subst, subst⁻¹}
+use mathlib.Core.Bool.{Bool, true, false}
 use mathlib.Core.List.{List, []}
 use lib.ListN.{length, getD}
 use lib.IntN.{ℤ}
@@ -9,60 +10,26 @@ use Rattle.refusal.specs.declared.Refusal.{Refusal}
 use Rattle.refusal.specs.declared.Refusal.the-variants.{Grammar}
 use Rattle.refusal.specs.Code.{codeOf}
 use Rattle.grammar.specs.declared.Last.the-variants.{Plain as plain}
-use Rattle.grammar.specs.declared.Mode.the-variants.{Seq as seq}
+use Rattle.grammar.specs.declared.Mode.{Mode}
+use Rattle.grammar.specs.declared.Mode.the-variants.{Seq as seq, Dot as dot}
 use Rattle.grammar.specs.Fold.{Answer, bad}
 use Rattle.table.specs.Limits.{maxAtoms}
 use Rattle.state.specs.State.{Steering, steering}
 use Rattle.state.specs.declared.State.{State}
+use Rattle.state.specs.declared.Fields.{Fields}
 use Rattle.state.specs.Limits.{bridges}
-use Rattle.reading.specs.Memory.{Memory, nothing, extended}
+use Rattle.reading.specs.Memory.{Memory, Pending, nothing, extended}
+use Rattle.reading.specs.Act.{bridgeAct}
+use Rattle.field.specs.Rest.{rest, memory}
 use Rattle.reader.specs.declared.piece.Joint.{Joint}
 use Rattle.reader.specs.declared.piece.Piece.{Piece}
 use Rattle.reader.specs.declared.atom.Added.{Added}
 use Rattle.reader.specs.declared.bridge.Why.{Why}
-use Rattle.reader.specs.Piece.{afterBridge, Seen}
+use Rattle.reader.specs.Piece.{pendingOf, kindPending, startMode, startPending, afterBridge, Seen, SeenAtom, SeenBridge, SeenBranch, SeenEnd, SeenWrong}
 use Rattle.reader.specs.Added.{Reaches, Adds}
 use Rattle.reader.specs.Went.{Fair, Went, refusedAt, GoesOn}
 use Rattle.reader.specs.Bridge.{Bridged, FairAfter, Bridges}
-use Rattle.reader.specs.Chain.{Stands, Lies, EndsAfter, ChainEnds, Chained}
-
--- where a piece begins
-abbrev pub from : Piece → ℕ
-from (Piece.Atom j q) = q
-from (Piece.Bridge r k q e) = q
-from (Piece.Branch q) = q
-from (Piece.End q) = q
-from (Piece.Wrong q) = q
-
--- ---- the next piece was seen
-module _ (s : List ℕ) (p : ℕ) where
-  pub from-next : (r : Piece) → Seen s p (seq plain) nothing r → p ≤ from r
-  from-next (Piece.Atom j q) v = v .later
-  from-next (Piece.Bridge r k q e) v = v .later
-  from-next (Piece.Branch q) v = omega (arith, v .here)
-  from-next (Piece.End q) v = omega (arith, v .here)
-  from-next (Piece.Wrong q) v = v .later
-
-  pub stands-next : {x : Answer Memory} {u : Steering} {a b : List ℤ} (r : Piece) → Reaches s x p (seq plain) nothing u a b → Seen s p (seq plain) nothing r → Stands s x r u a b
-  stands-next {u = u} {a = a} {b = b} (Piece.Atom j q) w v = record { tens = w .tens; draft = w .draft; is = w .is ∙ v .is u a b (w .tens) (w .draft) }
-  stands-next {u = u} {a = a} {b = b} (Piece.Bridge r k q e) w v = let z = v .is u a b (w .tens) (w .draft) in (z .0, w .draft, w .is ∙ z .1)
-  stands-next (Piece.Branch q) w v = rw (v .here) w
-  stands-next (Piece.End q) w v = rw (v .here) w
-  stands-next {u = u} {a = a} {b = b} (Piece.Wrong q) w v = w .is ∙ v .is u a b (w .tens) (w .draft)
-
-  pub lies-next : (r : Piece) → Seen s p (seq plain) nothing r → Lies s r
-  lies-next (Piece.Atom j q) v = v .within
-  lies-next (Piece.Bridge r k q e) v = (v .number, v .long, v .within)
-  lies-next (Piece.Branch q) v = rw (v .here) (v .within, v .byte)
-  lies-next (Piece.End q) v = rw (v .here) (v .within, v .stops)
-  lies-next (Piece.Wrong q) v = tt
-
-  pub ends-next : {at : ℕ} (r : Piece) → at < p → Seen s p (seq plain) nothing r → EndsAfter at r
-  ends-next (Piece.Atom j q) l v = omega (arith, v .later)
-  ends-next (Piece.Bridge r k q e) l v = omega (arith, v .later)
-  ends-next (Piece.Branch q) l v = omega (arith, v .here)
-  ends-next (Piece.End q) l v = omega (arith, v .here)
-  ends-next (Piece.Wrong q) l v = tt
+use Rattle.reader.specs.Chain.{ChainEnds, Chained}
 
 -- fair without the arrays that a chain or a bridge is not lent
 pub fair-chain : {st : State} {h u k p x : List ℕ} → Fair (steering st h u k p x) → Fair (steering st [] u k p x)
@@ -71,73 +38,101 @@ fair-chain g = record { atoms = g .atoms; bonds = g .bonds; depth = g .depth; hu
 pub fair-bridge : {st : State} {h u k p x : List ℕ} → Fair (steering st h u k p x) → Fair (steering st [] u k p [])
 fair-bridge g = record { atoms = g .atoms; bonds = g .bonds; depth = g .depth; hub = g .hub; stack = λ i. omega arith; opener = g .opener }
 
--- ---- what holds at each turn of the loop, from the piece r₀ in t with the tables a₀, b₀ on
-pub record Turn (s : List ℕ) (r₀ : Piece) (t : Steering) (a₀ b₀ : List ℤ) (r : Piece) (u : Steering) (a b : List ℤ) : Type 0 where
-  pub stands : (x : Answer Memory) → Stands s x r₀ t a₀ b₀ → Stands s x r u a b
-  pub lies : Lies s r
-  pub later : (p : ℕ) → EndsAfter p r₀ → EndsAfter p r
+-- the machine rests only where it is not fresh
+resting-older : (f : Bool) → startMode f ≡ seq plain → f ≡ false
+resting-older true e = let z : _≡_ {A = Mode} dot (seq plain) = e in cc
+resting-older false e = refl
+
+-- a reading that reached p rests there
+at-rest : {s : List ℕ} {x : Answer Memory} {p q : ℕ} {m : Mode} {k : Pending} {u : Steering} {a b : List ℤ} → q ≡ p → m ≡ seq plain → k ≡ nothing → Reaches s x p m k u a b → Reaches s x q (seq plain) nothing u a b
+at-rest {s} {x} {p} {q} {m} {k} {u} {a} {b} e n l y =
+    subst (λ (z : Pending). Reaches s x q (seq plain) z u a b) l (subst (λ (z : Mode). Reaches s x q z k u a b) n (subst⁻¹ (λ (z : ℕ). Reaches s x z m k u a b) e y))
+
+-- the reading where a chain begins
+abbrev begun : List ℕ → Joint → ℕ → Bool → Steering → List ℤ → List ℤ → ℕ → Fields → Answer Memory
+begun s j p f t a b i d = rest s p (startMode f) (memory t a b (startPending f j) i d)
+
+-- ---- what holds at each turn of the loop, from p₀ in t with the tables a₀, b₀ on
+pub record Turn (s : List ℕ) (j : Joint) (p₀ : ℕ) (f₀ : Bool) (t : Steering) (a₀ b₀ : List ℤ) (p : ℕ) (f : Bool) (u : Steering) (a b : List ℤ) : Type 0 where
+  pub stands : (i : ℕ) (d : Fields) → Reaches s (begun s j p₀ f₀ t a₀ b₀ i d) p (startMode f) (startPending f j) u a b
+  pub within : p ≤ length s
+  pub later : p₀ ≤ p
+  pub moved : f₀ ≡ true → f ≡ false → p₀ < p
   pub fair : Fair u
   pub deep : u .depth ≡ t .depth
   pub long-a : length a ≡ length a₀
   pub long-b : length b ≡ length b₀
 
-module _ {s : List ℕ} {r₀ : Piece} {t : Steering} {a₀ b₀ : List ℤ} where
-  pub turn-start : Lies s r₀ → Fair t → Turn s r₀ t a₀ b₀ r₀ t a₀ b₀
-  turn-start l g = record { stands = λ x h. h; lies = l; later = λ p h. h; fair = g; deep = refl; long-a = refl; long-b = refl }
+module _ {s : List ℕ} {j : Joint} {p₀ : ℕ} {f₀ : Bool} {t : Steering} {a₀ b₀ : List ℤ} where
+  pub turn-start : p₀ ≤ length s → Fair t → Turn s j p₀ f₀ t a₀ b₀ p₀ f₀ t a₀ b₀
+  turn-start l g = record {
+    stands = λ i d. record { tens = i; draft = d; is = refl };
+    within = l;
+    later = omega arith;
+    moved = λ e n. let z : _≡_ {A = ℕ} 0 1 = cc in absurd (omega arith);
+    fair = g;
+    deep = refl;
+    long-a = refl;
+    long-b = refl;
+  }
 
-  refused-chain : {a b : List ℤ} {u : Steering} {o : Went} {c : Refusal} {p : ℕ} → o ≡ refusedAt c p u → ((x : Answer Memory) → Stands s x r₀ t a₀ b₀ → x ≡ bad (codeOf c) p) → Chained s r₀ t a₀ b₀ a b o
+  refused-chain : {a b : List ℤ} {u : Steering} {o : Went} {c : Refusal} {p : ℕ} → o ≡ refusedAt c p u → ((i : ℕ) (d : Fields) → begun s j p₀ f₀ t a₀ b₀ i d ≡ bad (codeOf c) p) → Chained s p₀ j f₀ t a₀ b₀ a b o
   refused-chain e h = rw e (record { goes = h; ends = tt })
 
-  module _ {r : Piece} {u : Steering} {a b : List ℤ} (v : Turn s r₀ t a₀ b₀ r u a b) where
+  module _ {p : ℕ} {f : Bool} {u : Steering} {a b : List ℤ} (v : Turn s j p₀ f₀ t a₀ b₀ p f u a b) (r : Piece) (h : Seen s p (startMode f) (startPending f j) r) where
     -- ---- after an atom
-    module _ {j : Joint} {q : ℕ} (e : r ≡ Piece.Atom j q) where
-      atom-stands : (x : Answer Memory) → Stands s x r₀ t a₀ b₀ → Stands s x (Piece.Atom j q) u a b
-      atom-stands x h = subst (λ (z : Piece). Stands s x z u a b) e (v .stands x h)
+    module _ {k : Joint} {q : ℕ} (e : r ≡ Piece.Atom k q) where
+      atom-seen : SeenAtom s p (startMode f) (startPending f j) k q
+      atom-seen = subst (Seen s p (startMode f) (startPending f j)) e h
 
-      atom-ends : (p : ℕ) → EndsAfter p r₀ → p ≤ q
-      atom-ends p h = subst (EndsAfter p) e (v .later p h)
+      atom-stands : (i : ℕ) (d : Fields) → Reaches s (begun s j p₀ f₀ t a₀ b₀ i d) q dot (pendingOf k) u a b
+      atom-stands i d = let y = v .stands i d in record { tens = y .tens; draft = y .draft; is = y .is ∙ atom-seen .is u a b (y .tens) (y .draft) }
 
       pub atom-lies : q ≤ length s
-      atom-lies = subst (Lies s) e (v .lies)
+      atom-lies = atom-seen .within
 
-      module _ (a′ b′ : List ℤ) (y : Added) (g : Adds s q j (u .hub) (u .atoms) (u .bonds) a b a′ b′ y) where
-        module _ {o l p : ℕ} (ey : y ≡ Added.Atom o l p) where
-          atom-added : Adds s q j (u .hub) (u .atoms) (u .bonds) a b a′ b′ (Added.Atom o l p)
-          atom-added = subst (Adds s q j (u .hub) (u .atoms) (u .bonds) a b a′ b′) ey g
+      module _ (a′ b′ : List ℤ) (y : Added) (g : Adds s q k (u .hub) (u .atoms) (u .bonds) a b a′ b′ y) where
+        module _ {o l m : ℕ} (ey : y ≡ Added.Atom o l m) where
+          atom-added : Adds s q k (u .hub) (u .atoms) (u .bonds) a b a′ b′ (Added.Atom o l m)
+          atom-added = subst (Adds s q k (u .hub) (u .atoms) (u .bonds) a b a′ b′) ey g
 
-          pub atom-in : p ≤ length s
+          pub atom-in : m ≤ length s
           atom-in = atom-added .within
 
-          pub atom-later : q < p
-          atom-later = atom-added .later
+          pub atom-later : p < m
+          atom-later = omega (arith, atom-seen .later, atom-added .later)
 
           pub atom-room : u .atoms < maxAtoms
           atom-room = atom-added .atoms
 
-          pub turn-atom : (z : Piece) → Seen s p (seq plain) nothing z → length a′ ≡ length a → length b′ ≡ length b → Turn s r₀ t a₀ b₀ z (extended u o l) a′ b′
-          turn-atom z h ka kb = let w = atom-added in record {
-            stands = λ x k. let y = atom-stands x k in let c = w .is u (refl, refl, refl) (y .tens) (y .draft) in stands-next s p z (record { tens = c .tens; draft = c .draft; is = y .is ∙ c .is }) h;
-            lies = lies-next s p z h;
-            later = λ n k. ends-next s p z (omega (arith, atom-ends n k, atom-later)) h;
+          pub turn-atom : length a′ ≡ length a → length b′ ≡ length b → Turn s j p₀ f₀ t a₀ b₀ m false (extended u o l) a′ b′
+          turn-atom ka kb = let w = atom-added in record {
+            stands = λ i d. let y = atom-stands i d in let c = w .is u (refl, refl, refl) (y .tens) (y .draft) in record { tens = c .tens; draft = c .draft; is = y .is ∙ c .is };
+            within = atom-in;
+            later = omega (arith, v .later, atom-later);
+            moved = λ x n. omega (arith, v .later, atom-later);
             fair = record { atoms = omega (arith, atom-room); bonds = w .bonds (v .fair .bonds); depth = v .fair .depth; hub = omega (arith, atom-room); stack = v .fair .stack; opener = v .fair .opener };
             deep = v .deep;
             long-a = ka ∙ v .long-a;
             long-b = kb ∙ v .long-b;
           }
 
-        pub end-atom : {c : Refusal} {p : ℕ} {o : Went} → y ≡ Added.Refused c p → o ≡ refusedAt c p u → Chained s r₀ t a₀ b₀ a′ b′ o
-        end-atom ey eo = refused-chain eo (λ x h. let w = subst (Adds s q j (u .hub) (u .atoms) (u .bonds) a b a′ b′) ey g in let k = atom-stands x h in k .is ∙ w .is u (refl, refl, refl) (k .tens) (k .draft))
+        pub end-atom : {c : Refusal} {m : ℕ} {o : Went} → y ≡ Added.Refused c m → o ≡ refusedAt c m u → Chained s p₀ j f₀ t a₀ b₀ a′ b′ o
+        end-atom ey eo = refused-chain eo (λ i d. let w = subst (Adds s q k (u .hub) (u .atoms) (u .bonds) a b a′ b′) ey g in let z = atom-stands i d in z .is ∙ w .is u (refl, refl, refl) (z .tens) (z .draft))
 
     -- ---- after a bridge
-    module _ {n k q p : ℕ} (e : r ≡ Piece.Bridge n k q p) where
-      bridge-stands : (x : Answer Memory) → Stands s x r₀ t a₀ b₀ → Stands s x (Piece.Bridge n k q p) u a b
-      bridge-stands x h = subst (λ (z : Piece). Stands s x z u a b) e (v .stands x h)
+    module _ {n k q m : ℕ} (e : r ≡ Piece.Bridge n k q m) where
+      bridge-seen : SeenBridge s p (startMode f) (startPending f j) n k q m
+      bridge-seen = subst (Seen s p (startMode f) (startPending f j)) e h
 
-      bridge-ends : (m : ℕ) → EndsAfter m r₀ → m ≤ q
-      bridge-ends m h = subst (EndsAfter m) e (v .later m h)
+      bridge-stands : (i : ℕ) (d : Fields) → (i′ : ℕ) × (d′ : Fields) × (begun s j p₀ f₀ t a₀ b₀ i d ≡ afterBridge s m (bridgeAct n q (memory u a b (kindPending k) i′ d′)))
+      bridge-stands i d = let y = v .stands i d in let z = bridge-seen .is u a b (y .tens) (y .draft) in (z .0, y .draft, y .is ∙ z .1)
 
-      pub bridge-lies : (n < bridges) × (q < p) × (p ≤ length s)
-      bridge-lies = subst (Lies s) e (v .lies)
+      pub bridge-lies : (n < bridges) × (q < m) × (m ≤ length s)
+      bridge-lies = (bridge-seen .number, bridge-seen .long, bridge-seen .within)
+
+      pub bridge-later : p < m
+      bridge-later = omega (arith, bridge-seen .later, bridge-seen .long)
 
       module _ {b′ : List ℤ} {o : Went} (g : Bridges u n k q b b′ o) where
         module _ (w : o .why ≡ Why.Fine) where
@@ -147,37 +142,42 @@ module _ {s : List ℕ} {r₀ : Piece} {t : Steering} {a₀ b₀ : List ℤ} whe
           still-fair : Fair (o .st) × (o .st .depth ≡ u .depth)
           still-fair = subst (λ (z : Why). FairAfter u z (o .st)) w (g .fair)
 
-          pub turn-bridge : (z : Piece) → Seen s p (seq plain) nothing z → length b′ ≡ length b → Turn s r₀ t a₀ b₀ z (o .st) a b′
-          turn-bridge z h kb = record {
-            stands = λ x i. let y = bridge-stands x i in stands-next s p z (record { tens = y .0; draft = y .1; is = y .2 ∙ ap (afterBridge s p) (bridged a (y .0) (y .1)) }) h;
-            lies = lies-next s p z h;
-            later = λ m i. ends-next s p z (omega (arith, bridge-ends m i, bridge-lies .1)) h;
+          pub turn-bridge : length b′ ≡ length b → Turn s j p₀ f₀ t a₀ b₀ m false (o .st) a b′
+          turn-bridge kb = record {
+            stands = λ i d. let y = bridge-stands i d in record { tens = y .0; draft = y .1; is = y .2 ∙ ap (afterBridge s m) (bridged a (y .0) (y .1)) };
+            within = bridge-lies .2;
+            later = omega (arith, v .later, bridge-later);
+            moved = λ x n. omega (arith, v .later, bridge-later);
             fair = still-fair .0;
             deep = still-fair .1 ∙ v .deep;
             long-a = v .long-a;
             long-b = kb ∙ v .long-b;
           }
 
-        pub end-bridge : {c : Refusal} {m : ℕ} → o .why ≡ Why.Refused c m → Chained s r₀ t a₀ b₀ a b′ o
-        end-bridge {c} {m} w = record {
-          goes = λ x h. let y = bridge-stands x h in
-              let d : x ≡ bad (codeOf c) m = y .2 ∙ ap (afterBridge s p) (subst (λ (z : Why). Bridged u n k q b b′ z (o .st)) w (g .is) a (y .0) (y .1)) in
-              subst⁻¹ (λ (z : Why). GoesOn s x z (o .at) (o .st) a b′) w d;
-          ends = subst⁻¹ (λ (z : Why). ChainEnds s r₀ t z (o .at) (o .st)) w tt;
+        pub end-bridge : {c : Refusal} {x : ℕ} → o .why ≡ Why.Refused c x → Chained s p₀ j f₀ t a₀ b₀ a b′ o
+        end-bridge {c} {x} w = record {
+          goes = λ i d. let y = bridge-stands i d in
+              let z : begun s j p₀ f₀ t a₀ b₀ i d ≡ bad (codeOf c) x = y .2 ∙ ap (afterBridge s m) (subst (λ (z : Why). Bridged u n k q b b′ z (o .st)) w (g .is) a (y .0) (y .1)) in
+              subst⁻¹ (λ (z : Why). GoesOn s (begun s j p₀ f₀ t a₀ b₀ i d) z (o .at) (o .st) a b′) w z;
+          ends = subst⁻¹ (λ (z : Why). ChainEnds s p₀ f₀ t z (o .at) (o .st)) w tt;
         }
 
     -- ---- at the end of the chain
-    pub end-wrong : {q : ℕ} {o : Went} → r ≡ Piece.Wrong q → o ≡ refusedAt Grammar q u → Chained s r₀ t a₀ b₀ a b o
-    end-wrong e eo = refused-chain eo (λ x h. subst (λ (z : Piece). Stands s x z u a b) e (v .stands x h))
+    pub end-wrong : {q : ℕ} {o : Went} → r ≡ Piece.Wrong q → o ≡ refusedAt Grammar q u → Chained s p₀ j f₀ t a₀ b₀ a b o
+    end-wrong {q} e eo = let w : SeenWrong s p (startMode f) (startPending f j) q = subst (Seen s p (startMode f) (startPending f j)) e h in
+        refused-chain eo (λ i d. let y = v .stands i d in y .is ∙ w .is u a b (y .tens) (y .draft))
 
-    pub end-branch : {q : ℕ} → r ≡ Piece.Branch q → Chained s r₀ t a₀ b₀ a b (record { why = Why.Fine; at = q; st = u })
-    end-branch {q} e = let l : (q < length s) × (getD s q 0 ≡ 40) = subst (Lies s) e (v .lies) in record {
-      goes = λ x h. subst (λ (z : Piece). Stands s x z u a b) e (v .stands x h);
-      ends = record { later = λ p h. subst (EndsAfter p) e (v .later p h); within = omega (arith, l .0); fair = v .fair; deep = v .deep; stops = λ n m. absurd (n (l .1)) };
+    -- it stops at q, where the machine rests
+    ended : {q : ℕ} → q ≡ p → startMode f ≡ seq plain → startPending f j ≡ nothing → ((getD s q 0 ≡ 40 → ⊥) → (getD s q 0 ≡ 41 → ⊥) → q ≡ length s) → Chained s p₀ j f₀ t a₀ b₀ a b (record { why = Why.Fine; at = q; st = u })
+    ended e m k stops = record {
+      goes = λ i d. at-rest e m k (v .stands i d);
+      ends = record { later = omega (arith, e, v .later); moved = λ x. omega (arith, e, v .moved x (resting-older f m)); within = omega (arith, e, v .within); fair = v .fair; deep = v .deep; stops = stops };
     }
 
-    pub end-fine : {q : ℕ} → r ≡ Piece.End q → Chained s r₀ t a₀ b₀ a b (record { why = Why.Fine; at = q; st = u })
-    end-fine {q} e = let l : (q ≤ length s) × ((getD s q 0 ≡ 41 → ⊥) → q ≡ length s) = subst (Lies s) e (v .lies) in record {
-      goes = λ x h. subst (λ (z : Piece). Stands s x z u a b) e (v .stands x h);
-      ends = record { later = λ p h. subst (EndsAfter p) e (v .later p h); within = l .0; fair = v .fair; deep = v .deep; stops = λ n m. l .1 m };
-    }
+    pub end-branch : {q : ℕ} → r ≡ Piece.Branch q → Chained s p₀ j f₀ t a₀ b₀ a b (record { why = Why.Fine; at = q; st = u })
+    end-branch {q} e = let w : SeenBranch s p (startMode f) (startPending f j) q = subst (Seen s p (startMode f) (startPending f j)) e h in
+        ended (w .here) (w .mode) (w .joint) (λ n m. absurd (n (ap (λ (z : ℕ). getD s z 0) (w .here) ∙ w .byte)))
+
+    pub end-fine : {q : ℕ} → r ≡ Piece.End q → Chained s p₀ j f₀ t a₀ b₀ a b (record { why = Why.Fine; at = q; st = u })
+    end-fine {q} e = let w : SeenEnd s p (startMode f) (startPending f j) q = subst (Seen s p (startMode f) (startPending f j)) e h in
+        ended (w .here) (w .mode) (w .joint) (λ n m. w .here ∙ w .stops (λ z. m (ap (λ (y : ℕ). getD s y 0) (w .here) ∙ z)))

@@ -2,7 +2,7 @@
 use Prim.Native.Nat.{ℕ, _≤_, _<_}
 use mathlib.Core.Path.{_≡_}
 use mathlib.Core.List.{List}
-use mathlib.Core.Bool.{false}
+use mathlib.Core.Bool.{Bool, false}
 use lib.ListN.{length, getD}
 use lib.IntN.{ℤ}
 use lib.Dec.{eqb}
@@ -38,6 +38,13 @@ kindMode k = pick (eqb k 0) (seq plain) bond
 
 abbrev pub kindPending : ℕ → Pending
 kindPending k = pick (eqb k 0) nothing (symbol k)
+
+-- where the machine stands before a piece: before an atom after a joint where fresh, else before any piece of a sequence
+abbrev pub startMode : Bool → Mode
+startMode fresh = pick fresh dot (seq plain)
+
+abbrev pub startPending : Bool → Joint → Pending
+startPending fresh j = pick fresh (pendingOf j) nothing
 
 -- a byte that is no bond symbol, dot or bracket of a branch, and lies within the text
 pub record Loose (s : List ℕ) (at : ℕ) : Type 0 where

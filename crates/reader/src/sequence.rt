@@ -6,7 +6,7 @@ ghost use lib.ListN.{length, getD};
 ghost use Rattle.state.specs.Limits.{maxText};
 ghost use Rattle.state.specs.State.{steering};
 ghost use Rattle.reader.specs.Went.{Fair, went, Sequenced, Branched};
-ghost use Rattle.reader.specs.Chain.{Lies, Chained};
+ghost use Rattle.reader.specs.Chain.{Chained};
 use crate::atom::Added;
 use crate::atom::atom_at;
 use crate::bridge::Out;
@@ -15,8 +15,8 @@ use crate::bridge::bridge;
 use crate::bridge::refuse;
 use crate::piece::Joint;
 use crate::piece::Piece;
-use crate::piece::glance;
 use crate::piece::joint_at;
+use crate::piece::piece_at;
 use field::byte::peek;
 use ids::AtomId;
 use refusal::Refusal;
@@ -25,10 +25,12 @@ use state::MAX_DEPTH;
 use state::State;
 use table::MAX_ATOMS;
 
-// Atoms and bridges from a piece on, up to a `(`, a `)` or the end of the text.
+// Atoms and bridges from an offset on, where fresh from an atom after a joint on, up to a `(`, a `)` or the end of the text.
 fn chain(
     s: &[u8],
-    start: Piece,
+    mut at: usize,
+    joint: Joint,
+    mut fresh: bool,
     st: State,
     atoms: &mut [i32],
     bonds: &mut [i32],
@@ -38,13 +40,14 @@ fn chain(
     outsides: &mut [u8; MAX_ATOMS],
 ) -> Out
     requires { ⌜ Fair (steering st [] (now openers) (now symbols) (now offsets) (now outsides)) ⌝ }
-    requires { ⌜ Lies (now s) start ⌝ }
+    requires { ⌜ at ≤ length (now s) ⌝ }
     requires { ⌜ length (now s) ≤ maxText ⌝ }
-    ensures { λ r. ⌜ ((h : List ℕ) → Fair (steering st h (now (openers .entry)) (now (symbols .entry)) (now (offsets .entry)) (now (outsides .entry))) → Chained (now (s .entry)) start (steering st h (now (openers .entry)) (now (symbols .entry)) (now (offsets .entry)) (now (outsides .entry))) (now (atoms .entry)) (now (bonds .entry)) (now (atoms .exit)) (now (bonds .exit)) (went r h (now (openers .exit)) (now (symbols .exit)) (now (offsets .exit)) (now (outsides .exit)))) ⌝ }
+    ensures { λ r. ⌜ ((h : List ℕ) → Fair (steering st h (now (openers .entry)) (now (symbols .entry)) (now (offsets .entry)) (now (outsides .entry))) → Chained (now (s .entry)) at joint fresh (steering st h (now (openers .entry)) (now (symbols .entry)) (now (offsets .entry)) (now (outsides .entry))) (now (atoms .entry)) (now (bonds .entry)) (now (atoms .exit)) (now (bonds .exit)) (went r h (now (openers .exit)) (now (symbols .exit)) (now (offsets .exit)) (now (outsides .exit)))) ⌝ }
 {
     let mut cur = st;
-    let mut piece = start;
     loop {
+        let piece = piece_at(s, at, joint, fresh);
+        fresh = false;
         match piece {
             Piece::Atom(j, q) => {
                 let n = cur.atoms;
@@ -55,7 +58,7 @@ fn chain(
                         cur.atoms = n + 1;
                         cur.bonds = m;
                         outsides[n] = outside;
-                        piece = glance(s, p);
+                        at = p;
                     }
                     Added::Refused(r, e) => return refuse(r, e, cur),
                 }
@@ -67,7 +70,7 @@ fn chain(
                     return o;
                 };
                 cur = o.st;
-                piece = glance(s, p);
+                at = p;
             }
             Piece::Branch(p) | Piece::End(p) => {
                 let fine = Why::Fine;
@@ -101,8 +104,19 @@ pub fn sequence(
     requires { ⌜ length (now s) ≤ maxText ⌝ }
     ensures { λ r. ⌜ Sequenced (now (s .entry)) at joint (steering st (now (hubs .entry)) (now (openers .entry)) (now (symbols .entry)) (now (offsets .entry)) (now (outsides .entry))) (now (atoms .entry)) (now (bonds .entry)) (now (atoms .exit)) (now (bonds .exit)) (went r (now (hubs .exit)) (now (openers .exit)) (now (symbols .exit)) (now (offsets .exit)) (now (outsides .exit))) ⌝ }
 {
-    let p = Piece::Atom(joint, at);
-    let mut o = chain(s, p, st, atoms, bonds, openers, symbols, offsets, outsides);
+    let mut o = chain(
+        s,
+        at,
+        joint,
+        true,
+        st,
+        atoms,
+        bonds,
+        openers,
+        symbols,
+        offsets,
+        outsides,
+    );
     loop {
         let w = o.why;
         let Why::Fine = w else {
@@ -130,8 +144,20 @@ pub fn sequence(
             return b;
         };
         let u = b.st;
-        let p = glance(s, b.at);
-        o = chain(s, p, u, atoms, bonds, openers, symbols, offsets, outsides);
+        let none = Joint::Elided;
+        o = chain(
+            s,
+            b.at,
+            none,
+            false,
+            u,
+            atoms,
+            bonds,
+            openers,
+            symbols,
+            offsets,
+            outsides,
+        );
     }
 }
 

@@ -5,7 +5,7 @@ use native.Mathlib.Omega.{arith}
 use borrow.Author.Needs.{needs}
 use Rattle.field.proofs.Bytes.{byte-in}
 use Rattle.reader.specs.Went.{went}
-use Rattle.reader.proofs.Turns.{lies-next, fair-chain}
+use Rattle.reader.proofs.Turns.{fair-chain}
 use Rattle.reader.proofs.Sequences.{left, Runs, run-start, run-past, sequence-refused, sequence-ends, sequence-stuck, branch-past, run-branch, run-less}
 use Rattle.reader.proofs.Branches.{fair-opened, branch-deep, branch-refused, inner-past, inner-deep, branch-closes, branch-unclosed}
 use borrow.Fn.Kinds.{In}
@@ -18,7 +18,6 @@ use Rattle.reader.proofs.sequence.sequence.Kinds as sequence-kinds
 use Rattle.reader.proofs.sequence.+branch+sequence.Lts-sequence as sequence-lts
 use Rattle.field.proofs.byte.peek.Reads as peek-reads
 use Rattle.reader.proofs.bridge.refuse.Reads as refuse-reads
-use Rattle.reader.proofs.piece.glance.Reads as glance-reads
 use Rattle.reader.proofs.piece.joint_at.Reads as joint-at-reads
 use Rattle.reader.proofs.sequence.chain.Reads as chain-reads
 use Rattle.state.proofs.State.close.Reads as close-reads
@@ -51,7 +50,7 @@ branch-claims t = (refuse-reads.Asked, refuse-reads.Learnt, open-reads.Asked, op
 
 -- what the calls of `sequence` ask and give, below t
 abbrev sequence-claims : ℕ → sequence-lts.Claims
-sequence-claims t = (chain-reads.Asked, chain-reads.Learnt, peek-reads.Asked, peek-reads.Learnt, branch-below t, branch.Post, glance-reads.Asked, glance-reads.Learnt)
+sequence-claims t = (chain-reads.Asked, chain-reads.Learnt, peek-reads.Asked, peek-reads.Learnt, branch-below t, branch.Post)
 
 branch-refuse-requires : (t : ℕ) → branch-lts.Need-refuse-requires (branch-claims t) (branch-at t) branch.Post
 branch-refuse-requires t c κs = search needs
@@ -137,28 +136,28 @@ sequence-enum-told-2 : (t : ℕ) → sequence-lts.Need-enum-told-2 (sequence-cla
 sequence-enum-told-2 t c = search needs
 
 sequence-same-length : (t : ℕ) → sequence-lts.Need-same-length (sequence-claims t) (sequence-at t) sequence.Post sequence-Inv-loop sequence-μ-loop
-sequence-same-length t c = (c .before .before .loop .inv _ _ _ _ _ (run-start (c .before .before .before .before .before .chain .ensures _ (c .before .before .before .before .before .before .before .before .before .before .before .before .before .pre .1 .0)) (c .before .before .before .before .before .chain .kept .1 .1 .1 .0) (c .before .before .before .before .before .chain .kept .1 .1 .1 .1 .0))) .long-a
+sequence-same-length t c = (c .before .before .loop .inv _ _ _ _ _ (run-start (c .before .before .before .before .before .chain .ensures _ (c .before .before .before .before .before .before .before .before .before .before .before .before .before .pre .1 .0)) (c .before .before .before .before .before .chain .kept .1 .1 .1 .1 .1 .0) (c .before .before .before .before .before .chain .kept .1 .1 .1 .1 .1 .1 .0))) .long-a
 
 sequence-same-length-2 : (t : ℕ) → sequence-lts.Need-same-length-2 (sequence-claims t) (sequence-at t) sequence.Post sequence-Inv-loop sequence-μ-loop
-sequence-same-length-2 t c = (c .before .before .loop .inv _ _ _ _ _ (run-start (c .before .before .before .before .before .chain .ensures _ (c .before .before .before .before .before .before .before .before .before .before .before .before .before .pre .1 .0)) (c .before .before .before .before .before .chain .kept .1 .1 .1 .0) (c .before .before .before .before .before .chain .kept .1 .1 .1 .1 .0))) .long-b
+sequence-same-length-2 t c = (c .before .before .loop .inv _ _ _ _ _ (run-start (c .before .before .before .before .before .chain .ensures _ (c .before .before .before .before .before .before .before .before .before .before .before .before .before .pre .1 .0)) (c .before .before .before .before .before .chain .kept .1 .1 .1 .1 .1 .0) (c .before .before .before .before .before .chain .kept .1 .1 .1 .1 .1 .1 .0))) .long-b
 
 sequence-returns : (t : ℕ) → sequence-lts.Need-returns (sequence-claims t) (sequence-at t) sequence.Post sequence-Inv-loop sequence-μ-loop
-sequence-returns t c = sequence-refused (c .before .before .loop .inv _ _ _ _ _ (run-start (c .before .before .before .before .before .chain .ensures _ (c .before .before .before .before .before .before .before .before .before .before .before .before .before .pre .1 .0)) (c .before .before .before .before .before .chain .kept .1 .1 .1 .0) (c .before .before .before .before .before .chain .kept .1 .1 .1 .1 .0))) (c .enum-told2 .given .1)
+sequence-returns t c = sequence-refused (c .before .before .loop .inv _ _ _ _ _ (run-start (c .before .before .before .before .before .chain .ensures _ (c .before .before .before .before .before .before .before .before .before .before .before .before .before .pre .1 .0)) (c .before .before .before .before .before .chain .kept .1 .1 .1 .1 .1 .0) (c .before .before .before .before .before .chain .kept .1 .1 .1 .1 .1 .1 .0))) (c .enum-told2 .given .1)
 
 sequence-peek-requires : (t : ℕ) → sequence-lts.Need-peek-requires (sequence-claims t) (sequence-at t) sequence.Post sequence-Inv-loop sequence-μ-loop
 sequence-peek-requires t c κs = search needs
 
 sequence-same-length-3 : (t : ℕ) → sequence-lts.Need-same-length-3 (sequence-claims t) (sequence-at t) sequence.Post sequence-Inv-loop sequence-μ-loop
-sequence-same-length-3 t c = (c .before .before .before .before .loop .inv _ _ _ _ _ (run-start (c .before .before .before .before .before .before .before .chain .ensures _ (c .before .before .before .before .before .before .before .before .before .before .before .before .before .before .before .pre .1 .0)) (c .before .before .before .before .before .before .before .chain .kept .1 .1 .1 .0) (c .before .before .before .before .before .before .before .chain .kept .1 .1 .1 .1 .0))) .long-a
+sequence-same-length-3 t c = (c .before .before .before .before .loop .inv _ _ _ _ _ (run-start (c .before .before .before .before .before .before .before .chain .ensures _ (c .before .before .before .before .before .before .before .before .before .before .before .before .before .before .before .pre .1 .0)) (c .before .before .before .before .before .before .before .chain .kept .1 .1 .1 .1 .1 .0) (c .before .before .before .before .before .before .before .chain .kept .1 .1 .1 .1 .1 .1 .0))) .long-a
 
 sequence-same-length-4 : (t : ℕ) → sequence-lts.Need-same-length-4 (sequence-claims t) (sequence-at t) sequence.Post sequence-Inv-loop sequence-μ-loop
-sequence-same-length-4 t c = (c .before .before .before .before .loop .inv _ _ _ _ _ (run-start (c .before .before .before .before .before .before .before .chain .ensures _ (c .before .before .before .before .before .before .before .before .before .before .before .before .before .before .before .pre .1 .0)) (c .before .before .before .before .before .before .before .chain .kept .1 .1 .1 .0) (c .before .before .before .before .before .before .before .chain .kept .1 .1 .1 .1 .0))) .long-b
+sequence-same-length-4 t c = (c .before .before .before .before .loop .inv _ _ _ _ _ (run-start (c .before .before .before .before .before .before .before .chain .ensures _ (c .before .before .before .before .before .before .before .before .before .before .before .before .before .before .before .pre .1 .0)) (c .before .before .before .before .before .before .before .chain .kept .1 .1 .1 .1 .1 .0) (c .before .before .before .before .before .before .before .chain .kept .1 .1 .1 .1 .1 .1 .0))) .long-b
 
 sequence-returns-2 : (t : ℕ) → sequence-lts.Need-returns-2 (sequence-claims t) (sequence-at t) sequence.Post sequence-Inv-loop sequence-μ-loop
-sequence-returns-2 t c = sequence-ends (c .before .before .before .before .loop .inv _ _ _ _ _ (run-start (c .before .before .before .before .before .before .before .chain .ensures _ (c .before .before .before .before .before .before .before .before .before .before .before .before .before .before .before .pre .1 .0)) (c .before .before .before .before .before .before .before .chain .kept .1 .1 .1 .0) (c .before .before .before .before .before .before .before .chain .kept .1 .1 .1 .1 .0))) (c .before .before .enum-told .given .1) (c .before .peek .ensures) (c .if1 .taken)
+sequence-returns-2 t c = sequence-ends (c .before .before .before .before .loop .inv _ _ _ _ _ (run-start (c .before .before .before .before .before .before .before .chain .ensures _ (c .before .before .before .before .before .before .before .before .before .before .before .before .before .before .before .pre .1 .0)) (c .before .before .before .before .before .before .before .chain .kept .1 .1 .1 .1 .1 .0) (c .before .before .before .before .before .before .before .chain .kept .1 .1 .1 .1 .1 .1 .0))) (c .before .before .enum-told .given .1) (c .before .peek .ensures) (c .if1 .taken)
 
 sequence-branch-requires : (t : ℕ) → sequence-lts.Need-branch-requires (sequence-claims t) (sequence-at t) sequence.Post sequence-Inv-loop sequence-μ-loop
-sequence-branch-requires t c κs = let w = run-past (c .before .before .before .before .before .before .before .before .before .before .before .before .loop .inv _ _ _ _ _ (run-start (c .before .before .before .before .before .before .before .before .before .before .before .before .before .before .before .chain .ensures _ (c .before .before .before .before .before .before .before .before .before .before .before .before .before .before .before .before .before .before .before .before .before .before .before .pre .1 .0)) (c .before .before .before .before .before .before .before .before .before .before .before .before .before .before .before .chain .kept .1 .1 .1 .0) (c .before .before .before .before .before .before .before .before .before .before .before .before .before .before .before .chain .kept .1 .1 .1 .1 .0))) (c .before .before .before .before .before .before .before .before .before .before .enum-told .given .1) in let l = byte-in (c .before .before .before .before .before .before .before .before .before .peek .ensures) (c .before .before .before .before .before .before .before .before .if1 .left) in (omega (arith, c .before .before .before .before .before .before .before .before .before .before .before .before .before .before .before .before .before .before .before .before .before .before .before .pre .0, w .later, l), (w .fair, (l, (sym (c .before .before .before .before .before .before .before .before .before .peek .ensures .is) ∙ c .before .before .before .before .before .before .before .before .if1 .left, c .before .before .before .before .before .before .before .before .before .before .before .before .before .before .before .before .before .before .before .before .before .before .before .pre .1 .1 .1))))
+sequence-branch-requires t c κs = let w = run-past (c .before .before .before .before .before .before .before .before .before .before .before .before .loop .inv _ _ _ _ _ (run-start (c .before .before .before .before .before .before .before .before .before .before .before .before .before .before .before .chain .ensures _ (c .before .before .before .before .before .before .before .before .before .before .before .before .before .before .before .before .before .before .before .before .before .before .before .pre .1 .0)) (c .before .before .before .before .before .before .before .before .before .before .before .before .before .before .before .chain .kept .1 .1 .1 .1 .1 .0) (c .before .before .before .before .before .before .before .before .before .before .before .before .before .before .before .chain .kept .1 .1 .1 .1 .1 .1 .0))) (c .before .before .before .before .before .before .before .before .before .before .enum-told .given .1) in let l = byte-in (c .before .before .before .before .before .before .before .before .before .peek .ensures) (c .before .before .before .before .before .before .before .before .if1 .left) in (omega (arith, c .before .before .before .before .before .before .before .before .before .before .before .before .before .before .before .before .before .before .before .before .before .before .before .pre .0, w .later, l), (w .fair, (l, (sym (c .before .before .before .before .before .before .before .before .before .peek .ensures .is) ∙ c .before .before .before .before .before .before .before .before .if1 .left, c .before .before .before .before .before .before .before .before .before .before .before .before .before .before .before .before .before .before .before .before .before .before .before .pre .1 .1 .1))))
 
 sequence-enum-told-3 : (t : ℕ) → sequence-lts.Need-enum-told-3 (sequence-claims t) (sequence-at t) sequence.Post sequence-Inv-loop sequence-μ-loop
 sequence-enum-told-3 t c = search needs
@@ -167,25 +166,22 @@ sequence-enum-told-4 : (t : ℕ) → sequence-lts.Need-enum-told-4 (sequence-cla
 sequence-enum-told-4 t c = search needs
 
 sequence-same-length-5 : (t : ℕ) → sequence-lts.Need-same-length-5 (sequence-claims t) (sequence-at t) sequence.Post sequence-Inv-loop sequence-μ-loop
-sequence-same-length-5 t c = c .before .before .before .before .branch .kept .1 .1 .1 .0 ∙ (c .before .before .before .before .before .before .before .before .before .before .before .before .before .before .before .before .before .loop .inv _ _ _ _ _ (run-start (c .before .before .before .before .before .before .before .before .before .before .before .before .before .before .before .before .before .before .before .before .chain .ensures _ (c .before .before .before .before .before .before .before .before .before .before .before .before .before .before .before .before .before .before .before .before .before .before .before .before .before .before .before .before .pre .1 .0)) (c .before .before .before .before .before .before .before .before .before .before .before .before .before .before .before .before .before .before .before .before .chain .kept .1 .1 .1 .0) (c .before .before .before .before .before .before .before .before .before .before .before .before .before .before .before .before .before .before .before .before .chain .kept .1 .1 .1 .1 .0))) .long-a
+sequence-same-length-5 t c = c .before .before .before .before .branch .kept .1 .1 .1 .0 ∙ (c .before .before .before .before .before .before .before .before .before .before .before .before .before .before .before .before .before .loop .inv _ _ _ _ _ (run-start (c .before .before .before .before .before .before .before .before .before .before .before .before .before .before .before .before .before .before .before .before .chain .ensures _ (c .before .before .before .before .before .before .before .before .before .before .before .before .before .before .before .before .before .before .before .before .before .before .before .before .before .before .before .before .pre .1 .0)) (c .before .before .before .before .before .before .before .before .before .before .before .before .before .before .before .before .before .before .before .before .chain .kept .1 .1 .1 .1 .1 .0) (c .before .before .before .before .before .before .before .before .before .before .before .before .before .before .before .before .before .before .before .before .chain .kept .1 .1 .1 .1 .1 .1 .0))) .long-a
 
 sequence-same-length-6 : (t : ℕ) → sequence-lts.Need-same-length-6 (sequence-claims t) (sequence-at t) sequence.Post sequence-Inv-loop sequence-μ-loop
-sequence-same-length-6 t c = c .before .before .before .before .branch .kept .1 .1 .1 .1 .0 ∙ (c .before .before .before .before .before .before .before .before .before .before .before .before .before .before .before .before .before .loop .inv _ _ _ _ _ (run-start (c .before .before .before .before .before .before .before .before .before .before .before .before .before .before .before .before .before .before .before .before .chain .ensures _ (c .before .before .before .before .before .before .before .before .before .before .before .before .before .before .before .before .before .before .before .before .before .before .before .before .before .before .before .before .pre .1 .0)) (c .before .before .before .before .before .before .before .before .before .before .before .before .before .before .before .before .before .before .before .before .chain .kept .1 .1 .1 .0) (c .before .before .before .before .before .before .before .before .before .before .before .before .before .before .before .before .before .before .before .before .chain .kept .1 .1 .1 .1 .0))) .long-b
+sequence-same-length-6 t c = c .before .before .before .before .branch .kept .1 .1 .1 .1 .0 ∙ (c .before .before .before .before .before .before .before .before .before .before .before .before .before .before .before .before .before .loop .inv _ _ _ _ _ (run-start (c .before .before .before .before .before .before .before .before .before .before .before .before .before .before .before .before .before .before .before .before .chain .ensures _ (c .before .before .before .before .before .before .before .before .before .before .before .before .before .before .before .before .before .before .before .before .before .before .before .before .before .before .before .before .pre .1 .0)) (c .before .before .before .before .before .before .before .before .before .before .before .before .before .before .before .before .before .before .before .before .chain .kept .1 .1 .1 .1 .1 .0) (c .before .before .before .before .before .before .before .before .before .before .before .before .before .before .before .before .before .before .before .before .chain .kept .1 .1 .1 .1 .1 .1 .0))) .long-b
 
 sequence-returns-3 : (t : ℕ) → sequence-lts.Need-returns-3 (sequence-claims t) (sequence-at t) sequence.Post sequence-Inv-loop sequence-μ-loop
-sequence-returns-3 t c = sequence-stuck (c .before .before .before .before .before .before .before .before .before .before .before .before .before .before .before .before .before .loop .inv _ _ _ _ _ (run-start (c .before .before .before .before .before .before .before .before .before .before .before .before .before .before .before .before .before .before .before .before .chain .ensures _ (c .before .before .before .before .before .before .before .before .before .before .before .before .before .before .before .before .before .before .before .before .before .before .before .before .before .before .before .before .pre .1 .0)) (c .before .before .before .before .before .before .before .before .before .before .before .before .before .before .before .before .before .before .before .before .chain .kept .1 .1 .1 .0) (c .before .before .before .before .before .before .before .before .before .before .before .before .before .before .before .before .before .before .before .before .chain .kept .1 .1 .1 .1 .0))) (c .before .before .before .before .before .before .before .before .before .before .before .before .before .before .before .enum-told .given .1) (c .before .before .before .before .branch .ensures) (c .enum-told4 .given .1)
-
-sequence-glance-requires : (t : ℕ) → sequence-lts.Need-glance-requires (sequence-claims t) (sequence-at t) sequence.Post sequence-Inv-loop sequence-μ-loop
-sequence-glance-requires t c κs = branch-past (c .before .before .before .before .before .before .before .before .before .before .before .before .before .before .before .before .before .before .loop .inv _ _ _ _ _ (run-start (c .before .before .before .before .before .before .before .before .before .before .before .before .before .before .before .before .before .before .before .before .before .chain .ensures _ (c .before .before .before .before .before .before .before .before .before .before .before .before .before .before .before .before .before .before .before .before .before .before .before .before .before .before .before .before .before .pre .1 .0)) (c .before .before .before .before .before .before .before .before .before .before .before .before .before .before .before .before .before .before .before .before .before .chain .kept .1 .1 .1 .0) (c .before .before .before .before .before .before .before .before .before .before .before .before .before .before .before .before .before .before .before .before .before .chain .kept .1 .1 .1 .1 .0))) (c .before .before .before .before .before .before .before .before .before .before .before .before .before .before .before .before .enum-told .given .1) (c .before .before .before .before .before .branch .ensures) (c .before .enum-told3 .given .1) .within
+sequence-returns-3 t c = sequence-stuck (c .before .before .before .before .before .before .before .before .before .before .before .before .before .before .before .before .before .loop .inv _ _ _ _ _ (run-start (c .before .before .before .before .before .before .before .before .before .before .before .before .before .before .before .before .before .before .before .before .chain .ensures _ (c .before .before .before .before .before .before .before .before .before .before .before .before .before .before .before .before .before .before .before .before .before .before .before .before .before .before .before .before .pre .1 .0)) (c .before .before .before .before .before .before .before .before .before .before .before .before .before .before .before .before .before .before .before .before .chain .kept .1 .1 .1 .1 .1 .0) (c .before .before .before .before .before .before .before .before .before .before .before .before .before .before .before .before .before .before .before .before .chain .kept .1 .1 .1 .1 .1 .1 .0))) (c .before .before .before .before .before .before .before .before .before .before .before .before .before .before .before .enum-told .given .1) (c .before .before .before .before .branch .ensures) (c .enum-told4 .given .1)
 
 sequence-chain-requires-2 : (t : ℕ) → sequence-lts.Need-chain-requires-2 (sequence-claims t) (sequence-at t) sequence.Post sequence-Inv-loop sequence-μ-loop
-sequence-chain-requires-2 t c κs = (fair-chain (branch-past (c .before .before .before .before .before .before .before .before .before .before .before .before .before .before .before .before .before .before .before .before .before .before .before .before .before .loop .inv _ _ _ _ _ (run-start (c .before .before .before .before .before .before .before .before .before .before .before .before .before .before .before .before .before .before .before .before .before .before .before .before .before .before .before .before .chain .ensures _ (c .before .before .before .before .before .before .before .before .before .before .before .before .before .before .before .before .before .before .before .before .before .before .before .before .before .before .before .before .before .before .before .before .before .before .before .before .pre .1 .0)) (c .before .before .before .before .before .before .before .before .before .before .before .before .before .before .before .before .before .before .before .before .before .before .before .before .before .before .before .before .chain .kept .1 .1 .1 .0) (c .before .before .before .before .before .before .before .before .before .before .before .before .before .before .before .before .before .before .before .before .before .before .before .before .before .before .before .before .chain .kept .1 .1 .1 .1 .0))) (c .before .before .before .before .before .before .before .before .before .before .before .before .before .before .before .before .before .before .before .before .before .before .before .enum-told .given .1) (c .before .before .before .before .before .before .before .before .before .before .before .before .branch .ensures) (c .before .before .before .before .before .before .before .before .enum-told3 .given .1) .fair), (lies-next _ _ (c .before .before .before .before .before .before .glance .result) (c .before .before .before .before .before .before .glance .ensures), c .before .before .before .before .before .before .before .before .before .before .before .before .before .before .before .before .before .before .before .before .before .before .before .before .before .before .before .before .before .before .before .before .before .before .before .before .pre .1 .1 .1))
+sequence-chain-requires-2 t c κs = let v = c .before .before .before .before .before .before .before .before .before .before .before .before .before .before .before .before .before .before .before .before .before .before .before .before .loop .inv _ _ _ _ _ (run-start (c .before .before .before .before .before .before .before .before .before .before .before .before .before .before .before .before .before .before .before .before .before .before .before .before .before .before .before .chain .ensures _ (c .before .before .before .before .before .before .before .before .before .before .before .before .before .before .before .before .before .before .before .before .before .before .before .before .before .before .before .before .before .before .before .before .before .before .before .pre .1 .0)) (c .before .before .before .before .before .before .before .before .before .before .before .before .before .before .before .before .before .before .before .before .before .before .before .before .before .before .before .chain .kept .1 .1 .1 .1 .1 .0) (c .before .before .before .before .before .before .before .before .before .before .before .before .before .before .before .before .before .before .before .before .before .before .before .before .before .before .before .chain .kept .1 .1 .1 .1 .1 .1 .0)) in let w = branch-past v (c .before .before .before .before .before .before .before .before .before .before .before .before .before .before .before .before .before .before .before .before .before .before .enum-told .given .1) (c .before .before .before .before .before .before .before .before .before .before .before .branch .ensures) (c .before .before .before .before .before .before .before .enum-told3 .given .1) in (fair-chain (w .fair), (w .within, c .before .before .before .before .before .before .before .before .before .before .before .before .before .before .before .before .before .before .before .before .before .before .before .before .before .before .before .before .before .before .before .before .before .before .before .pre .1 .1 .1))
 
 sequence-loop-less : (t : ℕ) → sequence-lts.Need-loop-less (sequence-claims t) (sequence-at t) sequence.Post sequence-Inv-loop sequence-μ-loop
-sequence-loop-less t c = let v = c .before .before .before .before .before .before .before .before .before .before .before .before .before .before .before .before .before .before .before .before .before .before .before .before .before .before .before .before .loop .inv _ _ _ _ _ (run-start (c .before .before .before .before .before .before .before .before .before .before .before .before .before .before .before .before .before .before .before .before .before .before .before .before .before .before .before .before .before .before .before .chain .ensures _ (c .before .before .before .before .before .before .before .before .before .before .before .before .before .before .before .before .before .before .before .before .before .before .before .before .before .before .before .before .before .before .before .before .before .before .before .before .before .before .before .pre .1 .0)) (c .before .before .before .before .before .before .before .before .before .before .before .before .before .before .before .before .before .before .before .before .before .before .before .before .before .before .before .before .before .before .before .chain .kept .1 .1 .1 .0) (c .before .before .before .before .before .before .before .before .before .before .before .before .before .before .before .before .before .before .before .before .before .before .before .before .before .before .before .before .before .before .before .chain .kept .1 .1 .1 .1 .0)) in run-less v (c .before .before .before .before .before .before .before .before .before .before .before .before .before .before .before .before .before .before .before .before .before .before .before .before .before .before .enum-told .given .1) (c .before .before .before .before .before .before .before .before .before .before .before .before .before .before .before .branch .ensures) (c .before .before .before .before .before .before .before .before .before .before .before .enum-told3 .given .1) (c .before .before .before .before .before .before .before .before .before .glance .result) (c .before .before .before .before .before .before .before .before .before .glance .ensures) (c .before .before .chain2 .ensures _ (branch-past v (c .before .before .before .before .before .before .before .before .before .before .before .before .before .before .before .before .before .before .before .before .before .before .before .before .before .before .enum-told .given .1) (c .before .before .before .before .before .before .before .before .before .before .before .before .before .before .before .branch .ensures) (c .before .before .before .before .before .before .before .before .before .before .before .enum-told3 .given .1) .fair))
+sequence-loop-less t c = let v = c .before .before .before .before .before .before .before .before .before .before .before .before .before .before .before .before .before .before .before .before .before .before .before .before .before .before .before .loop .inv _ _ _ _ _ (run-start (c .before .before .before .before .before .before .before .before .before .before .before .before .before .before .before .before .before .before .before .before .before .before .before .before .before .before .before .before .before .before .chain .ensures _ (c .before .before .before .before .before .before .before .before .before .before .before .before .before .before .before .before .before .before .before .before .before .before .before .before .before .before .before .before .before .before .before .before .before .before .before .before .before .before .pre .1 .0)) (c .before .before .before .before .before .before .before .before .before .before .before .before .before .before .before .before .before .before .before .before .before .before .before .before .before .before .before .before .before .before .chain .kept .1 .1 .1 .1 .1 .0) (c .before .before .before .before .before .before .before .before .before .before .before .before .before .before .before .before .before .before .before .before .before .before .before .before .before .before .before .before .before .before .chain .kept .1 .1 .1 .1 .1 .1 .0)) in run-less v (c .before .before .before .before .before .before .before .before .before .before .before .before .before .before .before .before .before .before .before .before .before .before .before .before .before .enum-told .given .1) (c .before .before .before .before .before .before .before .before .before .before .before .before .before .before .branch .ensures) (c .before .before .before .before .before .before .before .before .before .before .enum-told3 .given .1) (c .before .before .chain2 .ensures _ (branch-past v (c .before .before .before .before .before .before .before .before .before .before .before .before .before .before .before .before .before .before .before .before .before .before .before .before .before .enum-told .given .1) (c .before .before .before .before .before .before .before .before .before .before .before .before .before .before .branch .ensures) (c .before .before .before .before .before .before .before .before .before .before .enum-told3 .given .1) .fair))
 
 sequence-loop-again : (t : ℕ) → sequence-lts.Need-loop-again (sequence-claims t) (sequence-at t) sequence.Post sequence-Inv-loop sequence-μ-loop
-sequence-loop-again t c = λ p j t a b r. let v = c .before .before .before .before .before .before .before .before .before .before .before .before .before .before .before .before .before .before .before .before .before .before .before .before .before .before .before .before .loop .inv p j t a b r in run-branch v (c .before .before .before .before .before .before .before .before .before .before .before .before .before .before .before .before .before .before .before .before .before .before .before .before .before .before .enum-told .given .1) (c .before .before .before .before .before .before .before .before .before .before .before .before .before .before .before .branch .ensures) (c .before .before .before .before .before .before .before .before .before .before .before .enum-told3 .given .1) (c .before .before .before .before .before .before .before .before .before .glance .result) (c .before .before .before .before .before .before .before .before .before .glance .ensures) (c .before .before .chain2 .ensures _ (branch-past v (c .before .before .before .before .before .before .before .before .before .before .before .before .before .before .before .before .before .before .before .before .before .before .before .before .before .before .enum-told .given .1) (c .before .before .before .before .before .before .before .before .before .before .before .before .before .before .before .branch .ensures) (c .before .before .before .before .before .before .before .before .before .before .before .enum-told3 .given .1) .fair)) (c .before .before .chain2 .kept .1 .1 .1 .0 ∙ c .before .before .before .before .before .before .before .before .before .before .before .before .before .before .before .branch .kept .1 .1 .1 .0 ∙ v .long-a) (c .before .before .chain2 .kept .1 .1 .1 .1 .0 ∙ c .before .before .before .before .before .before .before .before .before .before .before .before .before .before .before .branch .kept .1 .1 .1 .1 .0 ∙ v .long-b)
+sequence-loop-again t c = λ p j t a b r. let v = c .before .before .before .before .before .before .before .before .before .before .before .before .before .before .before .before .before .before .before .before .before .before .before .before .before .before .before .loop .inv p j t a b r in run-branch v (c .before .before .before .before .before .before .before .before .before .before .before .before .before .before .before .before .before .before .before .before .before .before .before .before .before .enum-told .given .1) (c .before .before .before .before .before .before .before .before .before .before .before .before .before .before .branch .ensures) (c .before .before .before .before .before .before .before .before .before .before .enum-told3 .given .1) (c .before .before .chain2 .ensures _ (branch-past v (c .before .before .before .before .before .before .before .before .before .before .before .before .before .before .before .before .before .before .before .before .before .before .before .before .before .enum-told .given .1) (c .before .before .before .before .before .before .before .before .before .before .before .before .before .before .branch .ensures) (c .before .before .before .before .before .before .before .before .before .before .enum-told3 .given .1) .fair)) (c .before .before .chain2 .kept .1 .1 .1 .1 .1 .0 ∙ c .before .before .before .before .before .before .before .before .before .before .before .before .before .before .branch .kept .1 .1 .1 .0 ∙ v .long-a) (c .before .before .chain2 .kept .1 .1 .1 .1 .1 .1 .0 ∙ c .before .before .before .before .before .before .before .before .before .before .before .before .before .before .branch .kept .1 .1 .1 .1 .0 ∙ v .long-b)
 
 pub +branch+sequence-spec : {M : Type 1} → statement M
 +branch+sequence-spec = close μ-branch μ-sequence (λ t. branch-lts.spec (branch-claims t)
@@ -234,7 +230,6 @@ pub +branch+sequence-spec : {M : Type 1} → statement M
     (sequence-same-length-5 t)
     (sequence-same-length-6 t)
     (sequence-returns-3 t)
-    (sequence-glance-requires t)
     (sequence-chain-requires-2 t)
     (sequence-loop-less t)
     (sequence-loop-again t)
