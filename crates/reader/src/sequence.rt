@@ -25,13 +25,14 @@ use state::MAX_DEPTH;
 use state::State;
 use table::MAX_ATOMS;
 
-// Atoms and bridges from an offset on, where fresh from an atom after a joint on, up to a `(`, a `)` or the end of the text.
+// Where a chain begins: an offset, the joint before it, and whether it is fresh: it begins with an atom after the joint, else with any piece.
+struct Head(usize, Joint, bool);
+
+// Atoms and bridges from a head on, up to a `(`, a `)` or the end of the text.
 fn chain(
     s: &[u8],
-    mut at: usize,
-    joint: Joint,
-    mut fresh: bool,
-    st: State,
+    head: Head,
+    mut st: State,
     atoms: &mut [i32],
     bonds: &mut [i32],
     openers: &mut [u16; BRIDGES],
@@ -40,47 +41,45 @@ fn chain(
     outsides: &mut [u8; MAX_ATOMS],
 ) -> Out
     requires { ⌜ Fair (steering st [] (now openers) (now symbols) (now offsets) (now outsides)) ⌝ }
-    requires { ⌜ at ≤ length (now s) ⌝ }
+    requires { ⌜ head .0 ≤ length (now s) ⌝ }
     requires { ⌜ length (now s) ≤ maxText ⌝ }
-    ensures { λ r. ⌜ ((h : List ℕ) → Fair (steering st h (now (openers .entry)) (now (symbols .entry)) (now (offsets .entry)) (now (outsides .entry))) → Chained (now (s .entry)) at joint fresh (steering st h (now (openers .entry)) (now (symbols .entry)) (now (offsets .entry)) (now (outsides .entry))) (now (atoms .entry)) (now (bonds .entry)) (now (atoms .exit)) (now (bonds .exit)) (went r h (now (openers .exit)) (now (symbols .exit)) (now (offsets .exit)) (now (outsides .exit)))) ⌝ }
+    ensures { λ r. ⌜ ((h : List ℕ) → Fair (steering st h (now (openers .entry)) (now (symbols .entry)) (now (offsets .entry)) (now (outsides .entry))) → Chained (now (s .entry)) (head .0) (head .1) (head .2) (steering st h (now (openers .entry)) (now (symbols .entry)) (now (offsets .entry)) (now (outsides .entry))) (now (atoms .entry)) (now (bonds .entry)) (now (atoms .exit)) (now (bonds .exit)) (went r h (now (openers .exit)) (now (symbols .exit)) (now (offsets .exit)) (now (outsides .exit)))) ⌝ }
 {
-    let mut cur = st;
+    let mut at = head.0;
+    let joint = head.1;
+    let mut fresh = head.2;
     loop {
         let piece = piece_at(s, at, joint, fresh);
         fresh = false;
         match piece {
             Piece::Atom(j, q) => {
-                let n = cur.atoms;
-                match atom_at(s, q, j, cur.hub, n, cur.bonds, atoms, bonds) {
+                let n = st.atoms;
+                match atom_at(s, q, j, st.hub, n, st.bonds, atoms, bonds) {
                     Added::Atom(outside, m, p) => {
                         let h = AtomId(n);
-                        cur.hub = h;
-                        cur.atoms = n + 1;
-                        cur.bonds = m;
+                        st.hub = h;
+                        st.atoms = n + 1;
+                        st.bonds = m;
                         outsides[n] = outside;
                         at = p;
                     }
-                    Added::Refused(r, e) => return refuse(r, e, cur),
+                    Added::Refused(r, e) => return refuse(r, e, st),
                 }
             }
             Piece::Bridge(r, k, q, p) => {
-                let o = bridge(cur, r, k, q, bonds, openers, symbols, offsets);
+                let o = bridge(st, r, k, q, bonds, openers, symbols, offsets);
                 let w = o.why;
                 let Why::Fine = w else {
                     return o;
                 };
-                cur = o.st;
+                st = o.st;
                 at = p;
             }
-            Piece::Branch(p) | Piece::End(p) => {
+            Piece::Branch(at) | Piece::End(at) => {
                 let fine = Why::Fine;
-                return Out {
-                    why: fine,
-                    at: p,
-                    st: cur,
-                };
+                return Out { why: fine, at, st };
             }
-            Piece::Wrong(q) => return refuse(Refusal::Grammar, q, cur),
+            Piece::Wrong(q) => return refuse(Refusal::Grammar, q, st),
         }
     }
 }
@@ -104,19 +103,8 @@ pub fn sequence(
     requires { ⌜ length (now s) ≤ maxText ⌝ }
     ensures { λ r. ⌜ Sequenced (now (s .entry)) at joint (steering st (now (hubs .entry)) (now (openers .entry)) (now (symbols .entry)) (now (offsets .entry)) (now (outsides .entry))) (now (atoms .entry)) (now (bonds .entry)) (now (atoms .exit)) (now (bonds .exit)) (went r (now (hubs .exit)) (now (openers .exit)) (now (symbols .exit)) (now (offsets .exit)) (now (outsides .exit))) ⌝ }
 {
-    let mut o = chain(
-        s,
-        at,
-        joint,
-        true,
-        st,
-        atoms,
-        bonds,
-        openers,
-        symbols,
-        offsets,
-        outsides,
-    );
+    let p = Head(at, joint, true);
+    let mut o = chain(s, p, st, atoms, bonds, openers, symbols, offsets, outsides);
     loop {
         let w = o.why;
         let Why::Fine = w else {
@@ -145,19 +133,8 @@ pub fn sequence(
         };
         let u = b.st;
         let none = Joint::Elided;
-        o = chain(
-            s,
-            b.at,
-            none,
-            false,
-            u,
-            atoms,
-            bonds,
-            openers,
-            symbols,
-            offsets,
-            outsides,
-        );
+        let p = Head(b.at, none, false);
+        o = chain(s, p, u, atoms, bonds, openers, symbols, offsets, outsides);
     }
 }
 

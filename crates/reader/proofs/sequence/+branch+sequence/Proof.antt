@@ -136,28 +136,28 @@ sequence-enum-told-2 : (t : ℕ) → sequence-lts.Need-enum-told-2 (sequence-cla
 sequence-enum-told-2 t c = search needs
 
 sequence-same-length : (t : ℕ) → sequence-lts.Need-same-length (sequence-claims t) (sequence-at t) sequence.Post sequence-Inv-loop sequence-μ-loop
-sequence-same-length t c = (c .before .before .loop .inv _ _ _ _ _ (run-start (c .before .before .before .before .before .chain .ensures _ (c .before .before .before .before .before .before .before .before .before .before .before .before .before .pre .1 .0)) (c .before .before .before .before .before .chain .kept .1 .1 .1 .1 .1 .0) (c .before .before .before .before .before .chain .kept .1 .1 .1 .1 .1 .1 .0))) .long-a
+sequence-same-length t c = (c .before .before .loop .inv _ _ _ _ _ (run-start (c .before .before .before .before .before .chain .ensures _ (c .before .before .before .before .before .before .before .before .before .before .before .before .before .pre .1 .0)) (c .before .before .before .before .before .chain .kept .1 .1 .1 .0) (c .before .before .before .before .before .chain .kept .1 .1 .1 .1 .0))) .long-a
 
 sequence-same-length-2 : (t : ℕ) → sequence-lts.Need-same-length-2 (sequence-claims t) (sequence-at t) sequence.Post sequence-Inv-loop sequence-μ-loop
-sequence-same-length-2 t c = (c .before .before .loop .inv _ _ _ _ _ (run-start (c .before .before .before .before .before .chain .ensures _ (c .before .before .before .before .before .before .before .before .before .before .before .before .before .pre .1 .0)) (c .before .before .before .before .before .chain .kept .1 .1 .1 .1 .1 .0) (c .before .before .before .before .before .chain .kept .1 .1 .1 .1 .1 .1 .0))) .long-b
+sequence-same-length-2 t c = (c .before .before .loop .inv _ _ _ _ _ (run-start (c .before .before .before .before .before .chain .ensures _ (c .before .before .before .before .before .before .before .before .before .before .before .before .before .pre .1 .0)) (c .before .before .before .before .before .chain .kept .1 .1 .1 .0) (c .before .before .before .before .before .chain .kept .1 .1 .1 .1 .0))) .long-b
 
 sequence-returns : (t : ℕ) → sequence-lts.Need-returns (sequence-claims t) (sequence-at t) sequence.Post sequence-Inv-loop sequence-μ-loop
-sequence-returns t c = sequence-refused (c .before .before .loop .inv _ _ _ _ _ (run-start (c .before .before .before .before .before .chain .ensures _ (c .before .before .before .before .before .before .before .before .before .before .before .before .before .pre .1 .0)) (c .before .before .before .before .before .chain .kept .1 .1 .1 .1 .1 .0) (c .before .before .before .before .before .chain .kept .1 .1 .1 .1 .1 .1 .0))) (c .enum-told2 .given .1)
+sequence-returns t c = sequence-refused (c .before .before .loop .inv _ _ _ _ _ (run-start (c .before .before .before .before .before .chain .ensures _ (c .before .before .before .before .before .before .before .before .before .before .before .before .before .pre .1 .0)) (c .before .before .before .before .before .chain .kept .1 .1 .1 .0) (c .before .before .before .before .before .chain .kept .1 .1 .1 .1 .0))) (c .enum-told2 .given .1)
 
 sequence-peek-requires : (t : ℕ) → sequence-lts.Need-peek-requires (sequence-claims t) (sequence-at t) sequence.Post sequence-Inv-loop sequence-μ-loop
 sequence-peek-requires t c κs = search needs
 
 sequence-same-length-3 : (t : ℕ) → sequence-lts.Need-same-length-3 (sequence-claims t) (sequence-at t) sequence.Post sequence-Inv-loop sequence-μ-loop
-sequence-same-length-3 t c = (c .before .before .before .before .loop .inv _ _ _ _ _ (run-start (c .before .before .before .before .before .before .before .chain .ensures _ (c .before .before .before .before .before .before .before .before .before .before .before .before .before .before .before .pre .1 .0)) (c .before .before .before .before .before .before .before .chain .kept .1 .1 .1 .1 .1 .0) (c .before .before .before .before .before .before .before .chain .kept .1 .1 .1 .1 .1 .1 .0))) .long-a
+sequence-same-length-3 t c = (c .before .before .before .before .loop .inv _ _ _ _ _ (run-start (c .before .before .before .before .before .before .before .chain .ensures _ (c .before .before .before .before .before .before .before .before .before .before .before .before .before .before .before .pre .1 .0)) (c .before .before .before .before .before .before .before .chain .kept .1 .1 .1 .0) (c .before .before .before .before .before .before .before .chain .kept .1 .1 .1 .1 .0))) .long-a
 
 sequence-same-length-4 : (t : ℕ) → sequence-lts.Need-same-length-4 (sequence-claims t) (sequence-at t) sequence.Post sequence-Inv-loop sequence-μ-loop
-sequence-same-length-4 t c = (c .before .before .before .before .loop .inv _ _ _ _ _ (run-start (c .before .before .before .before .before .before .before .chain .ensures _ (c .before .before .before .before .before .before .before .before .before .before .before .before .before .before .before .pre .1 .0)) (c .before .before .before .before .before .before .before .chain .kept .1 .1 .1 .1 .1 .0) (c .before .before .before .before .before .before .before .chain .kept .1 .1 .1 .1 .1 .1 .0))) .long-b
+sequence-same-length-4 t c = (c .before .before .before .before .loop .inv _ _ _ _ _ (run-start (c .before .before .before .before .before .before .before .chain .ensures _ (c .before .before .before .before .before .before .before .before .before .before .before .before .before .before .before .pre .1 .0)) (c .before .before .before .before .before .before .before .chain .kept .1 .1 .1 .0) (c .before .before .before .before .before .before .before .chain .kept .1 .1 .1 .1 .0))) .long-b
 
 sequence-returns-2 : (t : ℕ) → sequence-lts.Need-returns-2 (sequence-claims t) (sequence-at t) sequence.Post sequence-Inv-loop sequence-μ-loop
-sequence-returns-2 t c = sequence-ends (c .before .before .before .before .loop .inv _ _ _ _ _ (run-start (c .before .before .before .before .before .before .before .chain .ensures _ (c .before .before .before .before .before .before .before .before .before .before .before .before .before .before .before .pre .1 .0)) (c .before .before .before .before .before .before .before .chain .kept .1 .1 .1 .1 .1 .0) (c .before .before .before .before .before .before .before .chain .kept .1 .1 .1 .1 .1 .1 .0))) (c .before .before .enum-told .given .1) (c .before .peek .ensures) (c .if1 .taken)
+sequence-returns-2 t c = sequence-ends (c .before .before .before .before .loop .inv _ _ _ _ _ (run-start (c .before .before .before .before .before .before .before .chain .ensures _ (c .before .before .before .before .before .before .before .before .before .before .before .before .before .before .before .pre .1 .0)) (c .before .before .before .before .before .before .before .chain .kept .1 .1 .1 .0) (c .before .before .before .before .before .before .before .chain .kept .1 .1 .1 .1 .0))) (c .before .before .enum-told .given .1) (c .before .peek .ensures) (c .if1 .taken)
 
 sequence-branch-requires : (t : ℕ) → sequence-lts.Need-branch-requires (sequence-claims t) (sequence-at t) sequence.Post sequence-Inv-loop sequence-μ-loop
-sequence-branch-requires t c κs = let w = run-past (c .before .before .before .before .before .before .before .before .before .before .before .before .loop .inv _ _ _ _ _ (run-start (c .before .before .before .before .before .before .before .before .before .before .before .before .before .before .before .chain .ensures _ (c .before .before .before .before .before .before .before .before .before .before .before .before .before .before .before .before .before .before .before .before .before .before .before .pre .1 .0)) (c .before .before .before .before .before .before .before .before .before .before .before .before .before .before .before .chain .kept .1 .1 .1 .1 .1 .0) (c .before .before .before .before .before .before .before .before .before .before .before .before .before .before .before .chain .kept .1 .1 .1 .1 .1 .1 .0))) (c .before .before .before .before .before .before .before .before .before .before .enum-told .given .1) in let l = byte-in (c .before .before .before .before .before .before .before .before .before .peek .ensures) (c .before .before .before .before .before .before .before .before .if1 .left) in (omega (arith, c .before .before .before .before .before .before .before .before .before .before .before .before .before .before .before .before .before .before .before .before .before .before .before .pre .0, w .later, l), (w .fair, (l, (sym (c .before .before .before .before .before .before .before .before .before .peek .ensures .is) ∙ c .before .before .before .before .before .before .before .before .if1 .left, c .before .before .before .before .before .before .before .before .before .before .before .before .before .before .before .before .before .before .before .before .before .before .before .pre .1 .1 .1))))
+sequence-branch-requires t c κs = let w = run-past (c .before .before .before .before .before .before .before .before .before .before .before .before .loop .inv _ _ _ _ _ (run-start (c .before .before .before .before .before .before .before .before .before .before .before .before .before .before .before .chain .ensures _ (c .before .before .before .before .before .before .before .before .before .before .before .before .before .before .before .before .before .before .before .before .before .before .before .pre .1 .0)) (c .before .before .before .before .before .before .before .before .before .before .before .before .before .before .before .chain .kept .1 .1 .1 .0) (c .before .before .before .before .before .before .before .before .before .before .before .before .before .before .before .chain .kept .1 .1 .1 .1 .0))) (c .before .before .before .before .before .before .before .before .before .before .enum-told .given .1) in let l = byte-in (c .before .before .before .before .before .before .before .before .before .peek .ensures) (c .before .before .before .before .before .before .before .before .if1 .left) in (omega (arith, c .before .before .before .before .before .before .before .before .before .before .before .before .before .before .before .before .before .before .before .before .before .before .before .pre .0, w .later, l), (w .fair, (l, (sym (c .before .before .before .before .before .before .before .before .before .peek .ensures .is) ∙ c .before .before .before .before .before .before .before .before .if1 .left, c .before .before .before .before .before .before .before .before .before .before .before .before .before .before .before .before .before .before .before .before .before .before .before .pre .1 .1 .1))))
 
 sequence-enum-told-3 : (t : ℕ) → sequence-lts.Need-enum-told-3 (sequence-claims t) (sequence-at t) sequence.Post sequence-Inv-loop sequence-μ-loop
 sequence-enum-told-3 t c = search needs
@@ -166,22 +166,22 @@ sequence-enum-told-4 : (t : ℕ) → sequence-lts.Need-enum-told-4 (sequence-cla
 sequence-enum-told-4 t c = search needs
 
 sequence-same-length-5 : (t : ℕ) → sequence-lts.Need-same-length-5 (sequence-claims t) (sequence-at t) sequence.Post sequence-Inv-loop sequence-μ-loop
-sequence-same-length-5 t c = c .before .before .before .before .branch .kept .1 .1 .1 .0 ∙ (c .before .before .before .before .before .before .before .before .before .before .before .before .before .before .before .before .before .loop .inv _ _ _ _ _ (run-start (c .before .before .before .before .before .before .before .before .before .before .before .before .before .before .before .before .before .before .before .before .chain .ensures _ (c .before .before .before .before .before .before .before .before .before .before .before .before .before .before .before .before .before .before .before .before .before .before .before .before .before .before .before .before .pre .1 .0)) (c .before .before .before .before .before .before .before .before .before .before .before .before .before .before .before .before .before .before .before .before .chain .kept .1 .1 .1 .1 .1 .0) (c .before .before .before .before .before .before .before .before .before .before .before .before .before .before .before .before .before .before .before .before .chain .kept .1 .1 .1 .1 .1 .1 .0))) .long-a
+sequence-same-length-5 t c = c .before .before .before .before .branch .kept .1 .1 .1 .0 ∙ (c .before .before .before .before .before .before .before .before .before .before .before .before .before .before .before .before .before .loop .inv _ _ _ _ _ (run-start (c .before .before .before .before .before .before .before .before .before .before .before .before .before .before .before .before .before .before .before .before .chain .ensures _ (c .before .before .before .before .before .before .before .before .before .before .before .before .before .before .before .before .before .before .before .before .before .before .before .before .before .before .before .before .pre .1 .0)) (c .before .before .before .before .before .before .before .before .before .before .before .before .before .before .before .before .before .before .before .before .chain .kept .1 .1 .1 .0) (c .before .before .before .before .before .before .before .before .before .before .before .before .before .before .before .before .before .before .before .before .chain .kept .1 .1 .1 .1 .0))) .long-a
 
 sequence-same-length-6 : (t : ℕ) → sequence-lts.Need-same-length-6 (sequence-claims t) (sequence-at t) sequence.Post sequence-Inv-loop sequence-μ-loop
-sequence-same-length-6 t c = c .before .before .before .before .branch .kept .1 .1 .1 .1 .0 ∙ (c .before .before .before .before .before .before .before .before .before .before .before .before .before .before .before .before .before .loop .inv _ _ _ _ _ (run-start (c .before .before .before .before .before .before .before .before .before .before .before .before .before .before .before .before .before .before .before .before .chain .ensures _ (c .before .before .before .before .before .before .before .before .before .before .before .before .before .before .before .before .before .before .before .before .before .before .before .before .before .before .before .before .pre .1 .0)) (c .before .before .before .before .before .before .before .before .before .before .before .before .before .before .before .before .before .before .before .before .chain .kept .1 .1 .1 .1 .1 .0) (c .before .before .before .before .before .before .before .before .before .before .before .before .before .before .before .before .before .before .before .before .chain .kept .1 .1 .1 .1 .1 .1 .0))) .long-b
+sequence-same-length-6 t c = c .before .before .before .before .branch .kept .1 .1 .1 .1 .0 ∙ (c .before .before .before .before .before .before .before .before .before .before .before .before .before .before .before .before .before .loop .inv _ _ _ _ _ (run-start (c .before .before .before .before .before .before .before .before .before .before .before .before .before .before .before .before .before .before .before .before .chain .ensures _ (c .before .before .before .before .before .before .before .before .before .before .before .before .before .before .before .before .before .before .before .before .before .before .before .before .before .before .before .before .pre .1 .0)) (c .before .before .before .before .before .before .before .before .before .before .before .before .before .before .before .before .before .before .before .before .chain .kept .1 .1 .1 .0) (c .before .before .before .before .before .before .before .before .before .before .before .before .before .before .before .before .before .before .before .before .chain .kept .1 .1 .1 .1 .0))) .long-b
 
 sequence-returns-3 : (t : ℕ) → sequence-lts.Need-returns-3 (sequence-claims t) (sequence-at t) sequence.Post sequence-Inv-loop sequence-μ-loop
-sequence-returns-3 t c = sequence-stuck (c .before .before .before .before .before .before .before .before .before .before .before .before .before .before .before .before .before .loop .inv _ _ _ _ _ (run-start (c .before .before .before .before .before .before .before .before .before .before .before .before .before .before .before .before .before .before .before .before .chain .ensures _ (c .before .before .before .before .before .before .before .before .before .before .before .before .before .before .before .before .before .before .before .before .before .before .before .before .before .before .before .before .pre .1 .0)) (c .before .before .before .before .before .before .before .before .before .before .before .before .before .before .before .before .before .before .before .before .chain .kept .1 .1 .1 .1 .1 .0) (c .before .before .before .before .before .before .before .before .before .before .before .before .before .before .before .before .before .before .before .before .chain .kept .1 .1 .1 .1 .1 .1 .0))) (c .before .before .before .before .before .before .before .before .before .before .before .before .before .before .before .enum-told .given .1) (c .before .before .before .before .branch .ensures) (c .enum-told4 .given .1)
+sequence-returns-3 t c = sequence-stuck (c .before .before .before .before .before .before .before .before .before .before .before .before .before .before .before .before .before .loop .inv _ _ _ _ _ (run-start (c .before .before .before .before .before .before .before .before .before .before .before .before .before .before .before .before .before .before .before .before .chain .ensures _ (c .before .before .before .before .before .before .before .before .before .before .before .before .before .before .before .before .before .before .before .before .before .before .before .before .before .before .before .before .pre .1 .0)) (c .before .before .before .before .before .before .before .before .before .before .before .before .before .before .before .before .before .before .before .before .chain .kept .1 .1 .1 .0) (c .before .before .before .before .before .before .before .before .before .before .before .before .before .before .before .before .before .before .before .before .chain .kept .1 .1 .1 .1 .0))) (c .before .before .before .before .before .before .before .before .before .before .before .before .before .before .before .enum-told .given .1) (c .before .before .before .before .branch .ensures) (c .enum-told4 .given .1)
 
 sequence-chain-requires-2 : (t : ℕ) → sequence-lts.Need-chain-requires-2 (sequence-claims t) (sequence-at t) sequence.Post sequence-Inv-loop sequence-μ-loop
-sequence-chain-requires-2 t c κs = let v = c .before .before .before .before .before .before .before .before .before .before .before .before .before .before .before .before .before .before .before .before .before .before .before .before .loop .inv _ _ _ _ _ (run-start (c .before .before .before .before .before .before .before .before .before .before .before .before .before .before .before .before .before .before .before .before .before .before .before .before .before .before .before .chain .ensures _ (c .before .before .before .before .before .before .before .before .before .before .before .before .before .before .before .before .before .before .before .before .before .before .before .before .before .before .before .before .before .before .before .before .before .before .before .pre .1 .0)) (c .before .before .before .before .before .before .before .before .before .before .before .before .before .before .before .before .before .before .before .before .before .before .before .before .before .before .before .chain .kept .1 .1 .1 .1 .1 .0) (c .before .before .before .before .before .before .before .before .before .before .before .before .before .before .before .before .before .before .before .before .before .before .before .before .before .before .before .chain .kept .1 .1 .1 .1 .1 .1 .0)) in let w = branch-past v (c .before .before .before .before .before .before .before .before .before .before .before .before .before .before .before .before .before .before .before .before .before .before .enum-told .given .1) (c .before .before .before .before .before .before .before .before .before .before .before .branch .ensures) (c .before .before .before .before .before .before .before .enum-told3 .given .1) in (fair-chain (w .fair), (w .within, c .before .before .before .before .before .before .before .before .before .before .before .before .before .before .before .before .before .before .before .before .before .before .before .before .before .before .before .before .before .before .before .before .before .before .before .pre .1 .1 .1))
+sequence-chain-requires-2 t c κs = let v = c .before .before .before .before .before .before .before .before .before .before .before .before .before .before .before .before .before .before .before .before .before .before .before .before .loop .inv _ _ _ _ _ (run-start (c .before .before .before .before .before .before .before .before .before .before .before .before .before .before .before .before .before .before .before .before .before .before .before .before .before .before .before .chain .ensures _ (c .before .before .before .before .before .before .before .before .before .before .before .before .before .before .before .before .before .before .before .before .before .before .before .before .before .before .before .before .before .before .before .before .before .before .before .pre .1 .0)) (c .before .before .before .before .before .before .before .before .before .before .before .before .before .before .before .before .before .before .before .before .before .before .before .before .before .before .before .chain .kept .1 .1 .1 .0) (c .before .before .before .before .before .before .before .before .before .before .before .before .before .before .before .before .before .before .before .before .before .before .before .before .before .before .before .chain .kept .1 .1 .1 .1 .0)) in let w = branch-past v (c .before .before .before .before .before .before .before .before .before .before .before .before .before .before .before .before .before .before .before .before .before .before .enum-told .given .1) (c .before .before .before .before .before .before .before .before .before .before .before .branch .ensures) (c .before .before .before .before .before .before .before .enum-told3 .given .1) in (fair-chain (w .fair), (w .within, c .before .before .before .before .before .before .before .before .before .before .before .before .before .before .before .before .before .before .before .before .before .before .before .before .before .before .before .before .before .before .before .before .before .before .before .pre .1 .1 .1))
 
 sequence-loop-less : (t : ℕ) → sequence-lts.Need-loop-less (sequence-claims t) (sequence-at t) sequence.Post sequence-Inv-loop sequence-μ-loop
-sequence-loop-less t c = let v = c .before .before .before .before .before .before .before .before .before .before .before .before .before .before .before .before .before .before .before .before .before .before .before .before .before .before .before .loop .inv _ _ _ _ _ (run-start (c .before .before .before .before .before .before .before .before .before .before .before .before .before .before .before .before .before .before .before .before .before .before .before .before .before .before .before .before .before .before .chain .ensures _ (c .before .before .before .before .before .before .before .before .before .before .before .before .before .before .before .before .before .before .before .before .before .before .before .before .before .before .before .before .before .before .before .before .before .before .before .before .before .before .pre .1 .0)) (c .before .before .before .before .before .before .before .before .before .before .before .before .before .before .before .before .before .before .before .before .before .before .before .before .before .before .before .before .before .before .chain .kept .1 .1 .1 .1 .1 .0) (c .before .before .before .before .before .before .before .before .before .before .before .before .before .before .before .before .before .before .before .before .before .before .before .before .before .before .before .before .before .before .chain .kept .1 .1 .1 .1 .1 .1 .0)) in run-less v (c .before .before .before .before .before .before .before .before .before .before .before .before .before .before .before .before .before .before .before .before .before .before .before .before .before .enum-told .given .1) (c .before .before .before .before .before .before .before .before .before .before .before .before .before .before .branch .ensures) (c .before .before .before .before .before .before .before .before .before .before .enum-told3 .given .1) (c .before .before .chain2 .ensures _ (branch-past v (c .before .before .before .before .before .before .before .before .before .before .before .before .before .before .before .before .before .before .before .before .before .before .before .before .before .enum-told .given .1) (c .before .before .before .before .before .before .before .before .before .before .before .before .before .before .branch .ensures) (c .before .before .before .before .before .before .before .before .before .before .enum-told3 .given .1) .fair))
+sequence-loop-less t c = let v = c .before .before .before .before .before .before .before .before .before .before .before .before .before .before .before .before .before .before .before .before .before .before .before .before .before .before .before .loop .inv _ _ _ _ _ (run-start (c .before .before .before .before .before .before .before .before .before .before .before .before .before .before .before .before .before .before .before .before .before .before .before .before .before .before .before .before .before .before .chain .ensures _ (c .before .before .before .before .before .before .before .before .before .before .before .before .before .before .before .before .before .before .before .before .before .before .before .before .before .before .before .before .before .before .before .before .before .before .before .before .before .before .pre .1 .0)) (c .before .before .before .before .before .before .before .before .before .before .before .before .before .before .before .before .before .before .before .before .before .before .before .before .before .before .before .before .before .before .chain .kept .1 .1 .1 .0) (c .before .before .before .before .before .before .before .before .before .before .before .before .before .before .before .before .before .before .before .before .before .before .before .before .before .before .before .before .before .before .chain .kept .1 .1 .1 .1 .0)) in run-less v (c .before .before .before .before .before .before .before .before .before .before .before .before .before .before .before .before .before .before .before .before .before .before .before .before .before .enum-told .given .1) (c .before .before .before .before .before .before .before .before .before .before .before .before .before .before .branch .ensures) (c .before .before .before .before .before .before .before .before .before .before .enum-told3 .given .1) (c .before .before .chain2 .ensures _ (branch-past v (c .before .before .before .before .before .before .before .before .before .before .before .before .before .before .before .before .before .before .before .before .before .before .before .before .before .enum-told .given .1) (c .before .before .before .before .before .before .before .before .before .before .before .before .before .before .branch .ensures) (c .before .before .before .before .before .before .before .before .before .before .enum-told3 .given .1) .fair))
 
 sequence-loop-again : (t : ℕ) → sequence-lts.Need-loop-again (sequence-claims t) (sequence-at t) sequence.Post sequence-Inv-loop sequence-μ-loop
-sequence-loop-again t c = λ p j t a b r. let v = c .before .before .before .before .before .before .before .before .before .before .before .before .before .before .before .before .before .before .before .before .before .before .before .before .before .before .before .loop .inv p j t a b r in run-branch v (c .before .before .before .before .before .before .before .before .before .before .before .before .before .before .before .before .before .before .before .before .before .before .before .before .before .enum-told .given .1) (c .before .before .before .before .before .before .before .before .before .before .before .before .before .before .branch .ensures) (c .before .before .before .before .before .before .before .before .before .before .enum-told3 .given .1) (c .before .before .chain2 .ensures _ (branch-past v (c .before .before .before .before .before .before .before .before .before .before .before .before .before .before .before .before .before .before .before .before .before .before .before .before .before .enum-told .given .1) (c .before .before .before .before .before .before .before .before .before .before .before .before .before .before .branch .ensures) (c .before .before .before .before .before .before .before .before .before .before .enum-told3 .given .1) .fair)) (c .before .before .chain2 .kept .1 .1 .1 .1 .1 .0 ∙ c .before .before .before .before .before .before .before .before .before .before .before .before .before .before .branch .kept .1 .1 .1 .0 ∙ v .long-a) (c .before .before .chain2 .kept .1 .1 .1 .1 .1 .1 .0 ∙ c .before .before .before .before .before .before .before .before .before .before .before .before .before .before .branch .kept .1 .1 .1 .1 .0 ∙ v .long-b)
+sequence-loop-again t c = λ p j t a b r. let v = c .before .before .before .before .before .before .before .before .before .before .before .before .before .before .before .before .before .before .before .before .before .before .before .before .before .before .before .loop .inv p j t a b r in run-branch v (c .before .before .before .before .before .before .before .before .before .before .before .before .before .before .before .before .before .before .before .before .before .before .before .before .before .enum-told .given .1) (c .before .before .before .before .before .before .before .before .before .before .before .before .before .before .branch .ensures) (c .before .before .before .before .before .before .before .before .before .before .enum-told3 .given .1) (c .before .before .chain2 .ensures _ (branch-past v (c .before .before .before .before .before .before .before .before .before .before .before .before .before .before .before .before .before .before .before .before .before .before .before .before .before .enum-told .given .1) (c .before .before .before .before .before .before .before .before .before .before .before .before .before .before .branch .ensures) (c .before .before .before .before .before .before .before .before .before .before .enum-told3 .given .1) .fair)) (c .before .before .chain2 .kept .1 .1 .1 .0 ∙ c .before .before .before .before .before .before .before .before .before .before .before .before .before .before .branch .kept .1 .1 .1 .0 ∙ v .long-a) (c .before .before .chain2 .kept .1 .1 .1 .1 .0 ∙ c .before .before .before .before .before .before .before .before .before .before .before .before .before .before .branch .kept .1 .1 .1 .1 .0 ∙ v .long-b)
 
 pub +branch+sequence-spec : {M : Type 1} → statement M
 +branch+sequence-spec = close μ-branch μ-sequence (λ t. branch-lts.spec (branch-claims t)

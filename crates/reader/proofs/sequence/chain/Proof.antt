@@ -11,11 +11,11 @@ use Rattle.reader.proofs.sequence.chain.Statement.{statement}
 use Rattle.reader.proofs.sequence.chain.Tie as tie
 
 abbrev Inv-loop : tie.InvT-loop
-Inv-loop s at₀ joint fresh₀ atoms₀ bonds₀ openers₀ symbols₀ offsets₀ outsides₀ cur₀ at fresh atoms bonds openers symbols offsets outsides cur =
-    (h : List ℕ) → Fair (steering cur₀ h openers₀ symbols₀ offsets₀ outsides₀) → Turn s joint at₀ fresh₀ (steering cur₀ h openers₀ symbols₀ offsets₀ outsides₀) atoms₀ bonds₀ at fresh (steering cur h openers symbols offsets outsides) atoms bonds
+Inv-loop s st₀ atoms₀ bonds₀ openers₀ symbols₀ offsets₀ outsides₀ at₀ joint fresh₀ st atoms bonds openers symbols offsets outsides at fresh =
+    (h : List ℕ) → Fair (steering st₀ h openers₀ symbols₀ offsets₀ outsides₀) → Turn s joint at₀ fresh₀ (steering st₀ h openers₀ symbols₀ offsets₀ outsides₀) atoms₀ bonds₀ at fresh (steering st h openers symbols offsets outsides) atoms bonds
 
 abbrev μ-loop : tie.MeasureT-loop
-μ-loop s at₀ joint fresh₀ atoms₀ bonds₀ openers₀ symbols₀ offsets₀ outsides₀ cur₀ at fresh atoms bonds openers symbols offsets outsides cur =
+μ-loop s st₀ atoms₀ bonds₀ openers₀ symbols₀ offsets₀ outsides₀ at₀ joint fresh₀ st atoms bonds openers symbols offsets outsides at fresh =
     length s - at
 
 loop-holds : tie.Need-loop-holds Inv-loop μ-loop
@@ -33,8 +33,8 @@ atom-at-requires c κs = (atom-lies (c .before .before .before .before .before .
 enum-known-outside : tie.Need-enum-known-outside Inv-loop μ-loop
 enum-known-outside c = search needs
 
-add-cur : tie.Need-add-cur Inv-loop μ-loop
-add-cur c = omega (arith, atom-room (c .before .before .before .before .before .before .before .before .before .before .before .before .loop .inv [] (c .before .before .before .before .before .before .before .before .before .before .before .before .before .before .pre .0)) (c .before .before .before .before .before .before .before .before .before .before .before .piece-at .result) (c .before .before .before .before .before .before .before .before .before .before .before .piece-at .ensures) (c .before .before .before .before .before .before .before .before .before .piece .given .1) _ _ _ (c .before .before .before .before .before .atom-at .ensures) (c .before .outside .given .1))
+add-st : tie.Need-add-st Inv-loop μ-loop
+add-st c = omega (arith, atom-room (c .before .before .before .before .before .before .before .before .before .before .before .before .loop .inv [] (c .before .before .before .before .before .before .before .before .before .before .before .before .before .before .pre .0)) (c .before .before .before .before .before .before .before .before .before .before .before .piece-at .result) (c .before .before .before .before .before .before .before .before .before .before .before .piece-at .ensures) (c .before .before .before .before .before .before .before .before .before .piece .given .1) _ _ _ (c .before .before .before .before .before .atom-at .ensures) (c .before .outside .given .1))
 
 element-write-outsides : tie.Need-element-write-outsides Inv-loop μ-loop
 element-write-outsides c = atom-room (c .before .before .before .before .before .before .before .before .before .before .before .before .loop .inv [] (c .before .before .before .before .before .before .before .before .before .before .before .before .before .before .pre .0)) (c .before .before .before .before .before .before .before .before .before .before .before .piece-at .result) (c .before .before .before .before .before .before .before .before .before .before .before .piece-at .ensures) (c .before .before .before .before .before .before .before .before .before .piece .given .1) _ _ _ (c .before .before .before .before .before .atom-at .ensures) (c .before .outside .given .1)
@@ -137,7 +137,7 @@ chain-spec =
     enum-known-piece
     atom-at-requires
     enum-known-outside
-    add-cur
+    add-st
     element-write-outsides
     enum-known-r
     refuse-requires
