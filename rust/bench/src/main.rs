@@ -1,5 +1,6 @@
 //! Measures the CPU time per text of reading, of finding the first matching, of kekulizing, of
-//! writing and of all four, over the corpus; and of reading texts of growing length.
+//! writing and of all four, over the corpus; and of reading texts of growing length. Each figure is
+//! that of the quickest round: what else the machine does can only add to it.
 
 mod clock;
 mod subject;
@@ -12,18 +13,21 @@ use std::time::Duration;
 use subject::{Molecules, OnTables, Subject};
 
 const CORPUS: &str = include_str!("../../../corpus/real.smi");
-/// The rounds over the corpus; the first one is not counted.
-const ROUNDS: u32 = 10;
+/// The rounds, of which the quickest counts.
+const ROUNDS: usize = 20;
 /// The texts whose slots are filled before the next call is measured.
 const BATCH: usize = 64;
 const LENGTHS: [usize; 3] = [100, 1000, 4000];
-/// The readings of each length.
-const READINGS: u32 = 5000;
+/// The readings of each length in a round.
+const READINGS: usize = 500;
 
 fn main() {
     let texts: Vec<&[u8]> = CORPUS.lines().map(str::as_bytes).collect();
     println!("CPU time per text in microseconds");
-    println!("corpus: mean of {ROUNDS} rounds over {} texts", texts.len());
+    println!(
+        "corpus: quickest of {ROUNDS} rounds over {} texts",
+        texts.len()
+    );
     row(
         "",
         ["read", "first", "kekulize", "write", "all four"].map(String::from),
@@ -31,7 +35,7 @@ fn main() {
     measure_corpus(&Molecules, &texts);
     measure_corpus(&OnTables(Reference), &texts);
     measure_corpus(&OnTables(Proved), &texts);
-    println!("reading: mean of {READINGS} readings");
+    println!("reading: quickest of {ROUNDS} rounds of {READINGS} readings");
     row("", LENGTHS.map(|length| format!("{length} bytes")));
     measure_lengths(&Molecules);
     measure_lengths(&OnTables(Reference));
@@ -50,22 +54,22 @@ fn mean(time: Duration, calls: usize) -> String {
 
 fn measure_corpus<S: Subject>(subject: &S, texts: &[&[u8]]) {
     let mut slots = vec![subject.slot(); BATCH];
-    let mut times = [Duration::ZERO; 5];
+    let mut least = [Duration::MAX; 5];
     let mut accepted = 0;
-    for round in 0..=ROUNDS {
-        if round == 1 {
-            times = [Duration::ZERO; 5];
-            accepted = 0;
-        }
-        for batch in texts.chunks(BATCH) {
-            accepted += measure_batch(subject, batch, &mut slots, &mut times);
-        }
+    for _ in 0..ROUNDS {
+        let mut times = [Duration::ZERO; 5];
+        accepted = texts
+            .chunks(BATCH)
+            .map(|batch| measure_batch(subject, batch, &mut slots, &mut times))
+            .sum();
         let slot = &mut slots[0];
-        times[4] += time(|| texts.iter().for_each(|text| all_four(subject, text, slot)));
+        times[4] = time(|| texts.iter().for_each(|text| all_four(subject, text, slot)));
+        for (least, time) in least.iter_mut().zip(times) {
+            *least = time.min(*least);
+        }
     }
-    let read = ROUNDS as usize * texts.len();
-    let calls = [read, accepted, accepted, accepted, read];
-    let cells = [0, 1, 2, 3, 4].map(|call| mean(times[call], calls[call]));
+    let calls = [texts.len(), accepted, accepted, accepted, texts.len()];
+    let cells = [0, 1, 2, 3, 4].map(|call| mean(least[call], calls[call]));
     row(&subject.name(), cells);
 }
 
@@ -114,12 +118,13 @@ fn measure_lengths<S: Subject>(subject: &S) {
             subject.read(&text, &mut slot),
             "{length} bytes are accepted"
         );
-        let task = || {
+        let mut task = || {
             for _ in 0..READINGS {
                 black_box(subject.read(black_box(&text), &mut slot));
             }
         };
-        mean(time(task), READINGS as usize)
+        let least = (0..ROUNDS).map(|_| time(&mut task)).min();
+        mean(least.unwrap_or_default(), READINGS)
     });
     row(&subject.name(), cells);
 }
