@@ -111,7 +111,7 @@ fn asked_code(a: Asked) -> u32
 pub extern "C" fn balsa_check(atoms: &[i32], bonds: &[i32], n: usize, m: usize) -> u32
     ensures { λ r. ⌜ r ≡ checkCode (checkOf (now (atoms .entry)) (now (bonds .entry)) n m) ⌝ }
 {
-    check_code(table::check_tables(atoms, bonds, n, m))
+    check_code(validity::check_tables(atoms, bonds, n, m))
 }
 
 // The first matching, into the row: 0, 1, 13 or 11.

@@ -14,8 +14,6 @@ use refusal::Refusal;
 use table::Check;
 use table::MAX_ATOMS;
 use table::MAX_BONDS;
-use table::edit;
-use table::validity;
 
 // What the calls for a matching answer.
 pub enum Found {
@@ -190,8 +188,8 @@ pub fn kekulize_valid(atoms: &mut [i32], bonds: &mut [i32], n: usize, m: usize, 
     requires { ⌜ Counted n m (now row) ⌝ }
     ensures { λ _. ⌜ tables Check.Fine (now (atoms .exit)) (now (bonds .exit)) ≡ kekulized (now (atoms .entry)) (now (bonds .entry)) n m (now (row .entry)) ⌝ }
 {
-    edit::unselect_atoms(atoms, n);
-    edit::double_bonds(bonds, m, row);
+    edits::kekulize::unselect_atoms(atoms, n);
+    edits::kekulize::double_bonds(bonds, m, row);
 }
 
 // Kekulizes a molecule in its tables by a row: the row's bonds become kind 2 and every selected cell 0. 1: a table or the row

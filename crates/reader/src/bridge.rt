@@ -9,6 +9,7 @@ ghost use Rattle.reading.specs.Memory.{joins, joinedAlready, meet, between};
 ghost use Rattle.reader.specs.Went.{Fair, went, refusedAt};
 ghost use Rattle.reader.specs.Bridge.{closingOf, Bridges};
 use crate::atom::bond_of;
+use edits::put_bond;
 use ids::AtomId;
 use ids::BondId;
 use refusal::Refusal;
@@ -19,7 +20,6 @@ use table::FIRST;
 use table::MAX_BONDS;
 use table::SECOND;
 use table::cell::bond_number;
-use table::row::put_bond;
 
 // How a part of a text went.
 pub enum Why {

@@ -10,6 +10,7 @@ ghost use Rattle.table.specs.Valid.{Valid};
 ghost use Rattle.state.specs.State.{steering};
 ghost use Rattle.reading.specs.Read.{earlier, leftmost, hydrogenated};
 ghost use Rattle.reader.specs.Ending.{hydrogensBy, told, endedOf};
+use edits::clear;
 use graph::fill_sums;
 use ids::AtomId;
 use refusal::Refusal;
@@ -20,7 +21,6 @@ use table::HYDROGENS;
 use table::MAX_ATOMS;
 use table::SELECTED;
 use table::cell;
-use table::row::clear;
 
 // A molecule with its counts of atoms and bonds, or a refusal with its offset.
 pub enum Answer {

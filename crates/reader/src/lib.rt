@@ -13,13 +13,12 @@ use crate::ending::Answer;
 use crate::ending::MAX_TEXT;
 use crate::piece::Joint;
 use crate::sequence::sequence;
+use edits::clear;
 use refusal::Refusal;
 use state::BRIDGES;
 use state::MAX_DEPTH;
 use state::State;
 use table::MAX_ATOMS;
-use table::row::clear;
-use table::validity;
 
 pub mod atom;
 pub mod bridge;

@@ -1,12 +1,8 @@
 // Atom and bond tables of signed cells: the only crate that knows cells, signs and row widths.
-ghost use mathlib.Core.Path.{_≡_};
-ghost use Rattle.table.specs.Valid.{checkOf};
 use refusal::Refusal;
 
 pub mod cell;
-pub mod edit;
 pub mod row;
-pub mod validity;
 
 // The limits of a molecule.
 pub const MAX_ATOMS: usize = 200;
@@ -59,17 +55,4 @@ pub struct Bond {
 pub enum Check {
     Fine,
     Refused(Refusal),
-}
-
-// Whether the tables with their counts can be worked with: 1 for a table that is too short, 13 for tables that are not valid.
-pub fn check_tables(atoms: &[i32], bonds: &[i32], n: usize, m: usize) -> Check
-    ensures { λ r. ⌜ r ≡ checkOf (now (atoms .entry)) (now (bonds .entry)) n m ⌝ }
-{
-    if !validity::enough(atoms, bonds) {
-        return Check::Refused(Refusal::Short);
-    }
-    if !validity::valid(atoms, bonds, n, m) {
-        return Check::Refused(Refusal::Invalid);
-    }
-    Check::Fine
 }

@@ -199,7 +199,7 @@ pub fn write(
 ) -> Written
     ensures { λ r. ⌜ told r (now (out .exit)) (now (ren .exit)) ≡ writeOf (now (atoms .entry)) (now (bonds .entry)) n m (now (out .entry)) (now (ren .entry)) ⌝ }
 {
-    if !table::validity::enough(atoms, bonds) {
+    if !validity::enough(atoms, bonds) {
         return Written::Refused(Refusal::Short);
     }
     if out.len() < MAX_TEXT {
@@ -208,7 +208,7 @@ pub fn write(
     if ren.len() < MAX_ATOMS {
         return Written::Refused(Refusal::Short);
     }
-    if !table::validity::valid(atoms, bonds, n, m) {
+    if !validity::valid(atoms, bonds, n, m) {
         clear_all(out, ren);
         return Written::Refused(Refusal::Invalid);
     }
