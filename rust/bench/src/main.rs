@@ -1,6 +1,7 @@
 //! Measures the CPU time per text of reading, of finding the first matching, of kekulizing, of
-//! writing and of all four, over the corpus; and of reading texts of growing length. Each figure is
-//! that of the quickest round: what else the machine does can only add to it.
+//! writing and of all four, over the corpus and over its texts of about 40 bytes; and of reading
+//! texts of growing length. Each figure is that of the quickest round: what else the machine does can
+//! only add to it.
 
 mod clock;
 mod subject;
@@ -21,25 +22,46 @@ const LENGTHS: [usize; 3] = [100, 1000, 4000];
 /// The readings of each length in a round.
 const READINGS: usize = 500;
 
+/// The calls that are measured, and all of them together.
+const CALLS: [&str; 5] = ["read", "first", "kekulize", "write", "all four"];
+
 fn main() {
     let texts: Vec<&[u8]> = CORPUS.lines().map(str::as_bytes).collect();
-    println!("CPU time per text in microseconds");
-    println!(
-        "corpus: quickest of {ROUNDS} rounds over {} texts",
-        texts.len()
-    );
-    row(
-        "",
-        ["read", "first", "kekulize", "write", "all four"].map(String::from),
-    );
-    measure_corpus(&Molecules, &texts);
-    measure_corpus(&OnTables(Reference), &texts);
-    measure_corpus(&OnTables(Proved), &texts);
-    println!("reading: quickest of {ROUNDS} rounds of {READINGS} readings");
+    let about_40: Vec<&[u8]> = texts
+        .iter()
+        .copied()
+        .filter(|text| (36..=44).contains(&text.len()))
+        .collect();
+    println!("CPU time in microseconds per text, quickest of {ROUNDS} rounds");
+    compare_on("the corpus", &texts);
+    compare_on("its texts of 36 to 44 bytes", &about_40);
+    println!("reading one text {READINGS} times");
     row("", LENGTHS.map(|length| format!("{length} bytes")));
-    measure_lengths(&Molecules);
-    measure_lengths(&OnTables(Reference));
-    measure_lengths(&OnTables(Proved));
+    row("reference", measure_lengths(&Molecules));
+    row("reference on tables", measure_lengths(&OnTables(Reference)));
+    row("proved on tables", measure_lengths(&OnTables(Proved)));
+}
+
+/// Measures the reference and the proved library on the texts, and prints the times, their ratios and
+/// how many texts a second that is.
+fn compare_on(name: &str, texts: &[&[u8]]) {
+    let bytes: usize = texts.iter().map(|text| text.len()).sum();
+    let mean = bytes as f64 / texts.len().max(1) as f64;
+    println!("{name}: {} texts, {mean:.1} bytes in the mean", texts.len());
+    let molecules = measure_texts(&Molecules, texts);
+    let tables = measure_texts(&OnTables(Reference), texts);
+    let proved = measure_texts(&OnTables(Proved), texts);
+    row("", CALLS.map(String::from));
+    row("reference", molecules.map(figure));
+    row("reference on tables", tables.map(figure));
+    row("proved on tables", proved.map(figure));
+    let ratio = |others: [f64; 5]| [0, 1, 2, 3, 4].map(|call| figure(proved[call] / others[call]));
+    row("ratio to reference", ratio(molecules));
+    row("ratio on tables", ratio(tables));
+    row(
+        "texts per second",
+        proved.map(|time| format!("{:.0}", 1e6 / time)),
+    );
 }
 
 fn row<const N: usize>(name: &str, cells: [String; N]) {
@@ -47,12 +69,18 @@ fn row<const N: usize>(name: &str, cells: [String; N]) {
     println!("{name:<24}{cells}");
 }
 
-/// The mean time of a call in microseconds.
-fn mean(time: Duration, calls: usize) -> String {
-    format!("{:.3}", time.as_secs_f64() * 1e6 / calls.max(1) as f64)
+/// A time or a ratio as it is shown.
+fn figure(number: f64) -> String {
+    format!("{number:.3}")
 }
 
-fn measure_corpus<S: Subject>(subject: &S, texts: &[&[u8]]) {
+/// The mean time of a call in microseconds.
+fn mean(time: Duration, calls: usize) -> f64 {
+    time.as_secs_f64() * 1e6 / calls.max(1) as f64
+}
+
+/// The mean times of each call, in the quickest round of each.
+fn measure_texts<S: Subject>(subject: &S, texts: &[&[u8]]) -> [f64; 5] {
     let mut slots = vec![subject.slot(); BATCH];
     let mut least = [Duration::MAX; 5];
     let mut accepted = 0;
@@ -69,8 +97,7 @@ fn measure_corpus<S: Subject>(subject: &S, texts: &[&[u8]]) {
         }
     }
     let calls = [texts.len(), accepted, accepted, accepted, texts.len()];
-    let cells = [0, 1, 2, 3, 4].map(|call| mean(least[call], calls[call]));
-    row(&subject.name(), cells);
+    [0, 1, 2, 3, 4].map(|call| mean(least[call], calls[call]))
 }
 
 /// Adds the times of each call on a batch of texts, and tells how many were accepted.
@@ -110,9 +137,10 @@ fn text_of_length(length: usize) -> Vec<u8> {
     text.into_bytes()
 }
 
-fn measure_lengths<S: Subject>(subject: &S) {
+/// The mean times of reading a text of each length, in the quickest round.
+fn measure_lengths<S: Subject>(subject: &S) -> [String; 3] {
     let mut slot = subject.slot();
-    let cells = LENGTHS.map(|length| {
+    LENGTHS.map(|length| {
         let text = text_of_length(length);
         assert!(
             subject.read(&text, &mut slot),
@@ -124,7 +152,6 @@ fn measure_lengths<S: Subject>(subject: &S) {
             }
         };
         let least = (0..ROUNDS).map(|_| time(&mut task)).min();
-        mean(least.unwrap_or_default(), READINGS)
-    });
-    row(&subject.name(), cells);
+        figure(mean(least.unwrap_or_default(), READINGS))
+    })
 }

@@ -10,8 +10,6 @@ use std::hint::black_box;
 pub trait Subject {
     /// What the calls work on.
     type Slot: Clone;
-    /// The name that is shown.
-    fn name(&self) -> String;
     /// An empty slot.
     fn slot(&self) -> Self::Slot;
     /// Reads a text, and tells whether it is accepted.
@@ -37,10 +35,6 @@ pub struct MoleculeSlot {
 
 impl Subject for Molecules {
     type Slot = MoleculeSlot;
-
-    fn name(&self) -> String {
-        "reference".to_string()
-    }
 
     fn slot(&self) -> MoleculeSlot {
         MoleculeSlot::default()
@@ -79,10 +73,6 @@ pub struct OnTables<I>(pub I);
 
 impl<I: Implementation> Subject for OnTables<I> {
     type Slot = Buffers;
-
-    fn name(&self) -> String {
-        format!("{} on tables", self.0.name())
-    }
 
     fn slot(&self) -> Buffers {
         Buffers {
