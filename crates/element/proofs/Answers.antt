@@ -1,6 +1,6 @@
 -- What `symbolOf` answers, from the numbers of a pair and of a letter. Assumes nothing.
 use mathlib.Core.Path.{_≡_, refl, sym, ap, _∙_}
-use mathlib.Core.Bool.{Bool, true, false, not, _||_}
+use mathlib.Core.Bool.{Bool, true, false, not}
 use mathlib.Core.List.{[], _∷_}
 use Prim.Native.Nat.{ℕ, zero, suc, _≤_, _<_}
 use native.Mathlib.Omega.{arith}
@@ -12,7 +12,7 @@ use Rattle.element.specs.Symbols.{listed, starts, symbols}
 use Rattle.element.specs.Lookup.{numberOf, selectedOf, singleOf, symbolOf, bytesOf}
 use Rattle.element.specs.declared.Symbol.{Symbol}
 use Rattle.element.specs.declared.Symbol.the-variants.{Long, Brief, Half, Nothing}
-use Rattle.element.proofs.Symbols.{listed-number, number-within, noCapital, noPair, unlettered, unpaired, Letters, paired}
+use Rattle.element.proofs.Symbols.{listed-number, number-within, noCapital, no-capital, no-small-listed, Capital, capital}
 
 -- what the number of a single letter stands for
 abbrev pub briefOf : ℕ → Symbol
@@ -23,14 +23,10 @@ brief-step true u n e h = simp (not-true (eqb n 0) (sym e), ne-eqb n 255 (omega 
 brief-step false true n e h = refl
 brief-step false false n e h = refl
 
-or-true : (a : Bool) → ((a || true) || false) ≡ true
-or-true true = refl
-or-true false = refl
-
 pub alone-is : (a : ℕ) → eqb a 42 ≡ false → selectedOf a ≡ 0 → symbolOf a 0 ≡ briefOf (singleOf a)
 unfolding symbolOf singleOf
 alone-is a e s =
-    simp (e, s, unlettered a 0 (or-true (noCapital a)))
+    simp (e, s, no-small-listed a 0 refl)
     (brief-step (listed (a ∷ []) symbols) (starts a symbols) (numberOf (a ∷ [])) (listed-number (a ∷ [])) (number-within (a ∷ [])))
 
 -- one law for each return of `alone`
@@ -49,23 +45,23 @@ module _ (a s : ℕ) (e : a ≡ 42 → ⊥) (g : s ≡ selectedOf a) where
 pub brief : (n : ℕ) → (n ≡ 0 → ⊥) → (n ≡ 255 → ⊥) → Brief n ≡ briefOf n
 brief n e g = simp (ne-eqb n 0 e, ne-eqb n 255 g)
 
--- the letters of a symbol of two
-letters-of : (a b : ℕ) (t : Bool) → noPair a b ≡ t → 0 < numberOf (a ∷ b ∷ []) → Letters a b
-letters-of a b true e h = absurd (omega (arith, unpaired a b e))
-letters-of a b false e h = paired a b e
+-- a symbol of two letters begins with a capital one
+capital-of : (a b : ℕ) (t : Bool) → noCapital a ≡ t → 0 < numberOf (a ∷ b ∷ []) → Capital a
+capital-of a b true e h = absurd (omega (arith, no-capital a b e))
+capital-of a b false e h = capital a e
 
 -- one law for each return of `lookup`
 module _ (a b n : ℕ) (e : n ≡ numberOf (a ∷ b ∷ [])) where
   pub long : 0 < n → Long n ≡ symbolOf a b
   unfolding symbolOf selectedOf
   long h =
-      let l : Letters a b = letters-of a b (noPair a b) refl (omega arith) in
+      let l : Capital a = capital-of a b (noCapital a) refl (omega arith) in
       simp
       (ne-eqb a 42 (omega arith), ne-eqb a 99 (omega arith), ne-eqb a 110 (omega arith), ne-eqb a 111 (omega arith), ne-eqb a 112 (omega arith), ne-eqb a 115 (omega arith), listed-number (a ∷ b ∷ []), ← e, ne-eqb n 0 (omega arith))
 
   pub no-pair : n ≤ 0 → symbolOf a 0 ≡ symbolOf a b
   unfolding symbolOf
-  no-pair h = simp (listed-number (a ∷ b ∷ []), ← e, eq-eqb n 0 (omega arith), unlettered a 0 (or-true (noCapital a)))
+  no-pair h = simp (listed-number (a ∷ b ∷ []), ← e, eq-eqb n 0 (omega arith), no-small-listed a 0 refl)
 
 -- there is no symbol above 118
 pub no-bytes : (e : ℕ) → 118 < e → bytesOf e ≡ []

@@ -8,7 +8,7 @@ use lib.Dec.{eqb, ltb, eqb·suc-zero}
 use lib.ListN.{length}
 use borrow.Author.Tests.{eqb-true, ltb-false, not-false}
 use Rattle.loops.specs.Loop.{pick}
-use Rattle.element.specs.Symbols.{sameBytes, listed, starts, symbols}
+use Rattle.element.specs.Symbols.{among, sameBytes, listed, starts, symbols}
 use Rattle.element.specs.Lookup.{indexFrom, numberOf, singleOf}
 
 pub both : (a b : Bool) → pick a b false ≡ true → (a ≡ true) × (b ≡ true)
@@ -87,25 +87,46 @@ unstarted p a ((b ∷ t) ∷ l) e h =
     let g : (p b ≡ true) × (allOf (firstIs p) l ≡ true) = both (p b) (allOf (firstIs p) l) e in
     unstarted-step p a b (eqb a b) (starts a l) refl (g .0) h (unstarted p a l (g .1) h)
 
--- no capital letter; no two letters of a symbol
+-- no capital letter; no small letter
 abbrev pub noCapital : ℕ → Bool
 noCapital a = ltb a 65 || ltb 90 a
 
-abbrev pub noPair : ℕ → ℕ → Bool
-noPair a b = ((ltb a 65 || ltb 90 a) || ltb b 97) || ltb 122 b
+abbrev pub noSmall : ℕ → Bool
+noSmall b = ltb b 97 || ltb 122 b
 
-abbrev lettered : List ℕ → Bool
-lettered [] = false
-lettered (a ∷ []) = not (noCapital a)
-lettered (a ∷ b ∷ []) = not (noPair a b)
-lettered (a ∷ b ∷ c ∷ s) = false
+-- the letters that begin a symbol of two
+abbrev pub firsts : List ℕ
+firsts = 65 ∷ 66 ∷ 67 ∷ 68 ∷ 69 ∷ 70 ∷ 71 ∷ 72 ∷ 73 ∷ 75 ∷ 76 ∷ 77 ∷ 78 ∷ 79 ∷ 80 ∷ 82 ∷ 83 ∷ 84 ∷ 88 ∷ 89 ∷ 90 ∷ []
 
-pub unlettered : (a b : ℕ) → noPair a b ≡ true → listed (a ∷ b ∷ []) symbols ≡ false
+-- what each symbol passes: its first letter is a capital one, a second one is small, and before a second one stands one of those
+abbrev capitalized : List ℕ → Bool
+capitalized [] = false
+capitalized (a ∷ s) = not (noCapital a)
+
+abbrev smallNext : List ℕ → Bool
+smallNext [] = false
+smallNext (a ∷ []) = true
+smallNext (a ∷ b ∷ s) = not (noSmall b)
+
+abbrev firstNext : List ℕ → Bool
+firstNext [] = false
+firstNext (a ∷ []) = true
+firstNext (a ∷ b ∷ s) = among a firsts
+
+pub no-capital : (a b : ℕ) → noCapital a ≡ true → numberOf (a ∷ b ∷ []) ≡ 0
 unfolding symbols
-unlettered a b e = unlisted lettered (a ∷ b ∷ []) symbols refl (ap not e)
+no-capital a b e = no-number (a ∷ b ∷ []) (unlisted capitalized (a ∷ b ∷ []) symbols refl (ap not e))
 
-pub unpaired : (a b : ℕ) → noPair a b ≡ true → numberOf (a ∷ b ∷ []) ≡ 0
-unpaired a b e = no-number (a ∷ b ∷ []) (unlettered a b e)
+pub no-small-listed : (a b : ℕ) → noSmall b ≡ true → listed (a ∷ b ∷ []) symbols ≡ false
+unfolding symbols
+no-small-listed a b e = unlisted smallNext (a ∷ b ∷ []) symbols refl (ap not e)
+
+pub no-small : (a b : ℕ) → noSmall b ≡ true → numberOf (a ∷ b ∷ []) ≡ 0
+no-small a b e = no-number (a ∷ b ∷ []) (no-small-listed a b e)
+
+pub no-first : (a b : ℕ) → among a firsts ≡ false → numberOf (a ∷ b ∷ []) ≡ 0
+unfolding symbols among
+no-first a b e = no-number (a ∷ b ∷ []) (unlisted firstNext (a ∷ b ∷ []) symbols refl e)
 
 or-false : (a b : Bool) → (a || b) ≡ false → (a ≡ false) × (b ≡ false)
 or-false true b e = let z : _≡_ {A = ℕ} 0 1 = cc in absurd (omega arith)
@@ -120,19 +141,17 @@ capital a e =
     let t : (ltb a 65 ≡ false) × (ltb 90 a ≡ false) = or-false (ltb a 65) (ltb 90 a) e in
     record { low = ltb-false a 65 (t .0); high = ltb-false 90 a (t .1) }
 
-pub record Letters (a b : ℕ) : Type 0 where
-  pub first : Capital a
+pub record Small (b : ℕ) : Type 0 where
   pub low : 97 ≤ b
   pub high : b ≤ 122
 
-pub paired : (a b : ℕ) → noPair a b ≡ false → Letters a b
-paired a b e =
-    let t : ((noCapital a || ltb b 97) ≡ false) × (ltb 122 b ≡ false) = or-false (noCapital a || ltb b 97) (ltb 122 b) e in
-    let u : (noCapital a ≡ false) × (ltb b 97 ≡ false) = or-false (noCapital a) (ltb b 97) (t .0) in
-    record { first = capital a (u .0); low = ltb-false b 97 (u .1); high = ltb-false 122 b (t .1) }
+pub small : (b : ℕ) → noSmall b ≡ false → Small b
+small b e =
+    let t : (ltb b 97 ≡ false) × (ltb 122 b ≡ false) = or-false (ltb b 97) (ltb 122 b) e in
+    record { low = ltb-false b 97 (t .0); high = ltb-false 122 b (t .1) }
 
 -- a byte that is no capital letter begins no symbol
 pub no-single : (a : ℕ) → noCapital a ≡ true → singleOf a ≡ 0
 unfolding symbols singleOf
 no-single a e =
-    simp (unlisted lettered (a ∷ []) symbols refl (ap not e), unstarted (λ b. not (noCapital b)) a symbols refl (ap not e))
+    simp (unlisted capitalized (a ∷ []) symbols refl (ap not e), unstarted (λ b. not (noCapital b)) a symbols refl (ap not e))

@@ -114,22 +114,27 @@ unfolding implied
 implied-within e selected sum =
     implied-step (eqb selected 1) (firstTarget e - (sum + 1)) (firstRoom (targets e) sum) (omega (arith, first-within e)) (room-within e sum)
 
--- one law for each return of `room`
-module _ (e s : ℕ) (r : Targets) (i : r ≡ targetRow e) where
-  whole : firstRoom (targets e) s ≡ roomIn (r .0) (r .1) (r .2) s
-  whole = in-three (targets e) s (few-targets e .short) ∙ sym (ap (λ t. roomIn (t .0) (t .1) (t .2) s) i)
+-- where the sum meets the first target, the room is what the target leaves
+pub room-first : (e s f : ℕ) → f ≡ firstTarget e → s ≤ f → f - s ≡ firstRoom (targets e) s
+room-first e s f i h =
+    let g : getD (targets e) 0 0 ≡ f = sym (i ∙ first-is e) in
+    sym (in-three (targets e) s (few-targets e .short) ∙ simp (g, le-leb s f h))
 
-  pub room-first : s ≤ r .0 → r .0 - s ≡ firstRoom (targets e) s
-  room-first h = sym (whole ∙ simp (le-leb s (r .0) h))
+-- one law for each return of `further_room`
+module _ (e s : ℕ) (r : Targets) (i : r ≡ targetRow e) (f : firstTarget e < s) where
+  further : firstRoom (targets e) s ≡ pick (leb s (r .1)) (r .1 - s) (pick (leb s (r .2)) (r .2 - s) 0)
+  further =
+      let g : leb s (getD (targets e) 0 0) ≡ false = lt-leb s (getD (targets e) 0 0) (omega (arith, first-is e)) in
+      in-three (targets e) s (few-targets e .short) ∙ simp g (sym (ap (λ t. pick (leb s (t .1)) (t .1 - s) (pick (leb s (t .2)) (t .2 - s) 0)) i))
 
-  pub room-second : r .0 < s → s ≤ r .1 → r .1 - s ≡ firstRoom (targets e) s
-  room-second h g = sym (whole ∙ simp (lt-leb s (r .0) h, le-leb s (r .1) g))
+  pub room-second : s ≤ r .1 → r .1 - s ≡ firstRoom (targets e) s
+  room-second h = sym (further ∙ simp (le-leb s (r .1) h))
 
-  pub room-third : r .0 < s → r .1 < s → s ≤ r .2 → r .2 - s ≡ firstRoom (targets e) s
-  room-third h g k = sym (whole ∙ simp (lt-leb s (r .0) h, lt-leb s (r .1) g, le-leb s (r .2) k))
+  pub room-third : r .1 < s → s ≤ r .2 → r .2 - s ≡ firstRoom (targets e) s
+  room-third h g = sym (further ∙ simp (lt-leb s (r .1) h, le-leb s (r .2) g))
 
-  pub room-none : r .0 < s → r .1 < s → r .2 < s → 0 ≡ firstRoom (targets e) s
-  room-none h g k = sym (whole ∙ simp (lt-leb s (r .0) h, lt-leb s (r .1) g, lt-leb s (r .2) k))
+  pub room-none : r .1 < s → r .2 < s → 0 ≡ firstRoom (targets e) s
+  room-none h g = sym (further ∙ simp (lt-leb s (r .1) h, lt-leb s (r .2) g))
 
 -- one law for each return of `implied`
 module _ (e selected s : ℕ) where

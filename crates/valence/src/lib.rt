@@ -1,5 +1,6 @@
 // Valence: what a bond adds to a bond sum, target valences, implied hydrogens, and the delocalization rule.
 ghost use mathlib.Core.Path.{_≡_};
+ghost use Prim.Native.Nat.{_<_};
 ghost use Rattle.valence.specs.Valence.{order, targets, targetRow, firstTarget, firstRoom, implied, delocalized};
 
 // The target valences of an element in their order; 0 for each that it lacks.
@@ -39,27 +40,39 @@ fn target_row(e: usize) -> Targets
     }
 }
 
-// The first target valence of an element; 0 where it has none.
-pub fn first_target(e: usize) -> usize
+// The first target valence of an element above chlorine; 0 where it has none.
+fn heavy_target(e: usize) -> usize
+    requires { ⌜ 17 < e ⌝ }
     ensures { λ r. ⌜ r ≡ firstTarget e ⌝ }
 {
     match e {
-        5 | 7 | 15 => 3,
-        6 => 4,
-        8 | 16 => 2,
-        9 | 17 | 35 | 53 | 85 | 117 => 1,
+        35 | 53 | 85 | 117 => 1,
         _ => 0,
     }
 }
 
-// The first target less the sum that is not negative; 0 where there is none. A target of 0 never counts: a sum of 0 meets the first one.
-fn room(e: usize, sum: usize) -> usize
+// The first target valence of an element; 0 where it has none.
+pub fn first_target(e: usize) -> usize
+    ensures { λ r. ⌜ r ≡ firstTarget e ⌝ }
+{
+    if 17 < e {
+        return heavy_target(e);
+    }
+    match e {
+        5 | 7 | 15 => 3,
+        6 => 4,
+        8 | 16 => 2,
+        9 | 17 => 1,
+        _ => 0,
+    }
+}
+
+// The same as `room` where the sum is above the first target.
+fn further_room(e: usize, sum: usize) -> usize
+    requires { ⌜ firstTarget e < sum ⌝ }
     ensures { λ r. ⌜ r ≡ firstRoom (targets e) sum ⌝ }
 {
     let t = target_row(e);
-    if sum <= t.0 {
-        return t.0 - sum;
-    }
     if sum <= t.1 {
         return t.1 - sum;
     }
@@ -67,6 +80,17 @@ fn room(e: usize, sum: usize) -> usize
         return t.2 - sum;
     }
     0
+}
+
+// The first target less the sum that is not negative; 0 where there is none. A target of 0 never counts: a sum of 0 meets the first one.
+fn room(e: usize, sum: usize) -> usize
+    ensures { λ r. ⌜ r ≡ firstRoom (targets e) sum ⌝ }
+{
+    let t = first_target(e);
+    if sum <= t {
+        return t - sum;
+    }
+    further_room(e, sum)
 }
 
 // The hydrogens of an atom outside brackets, from its element, its selected cell and its bond sum.
