@@ -63,7 +63,7 @@ pub fn is_given(f: Found) -> bool
 }
 
 // The code of the answer to the question for a matching: 0 for yes, 12 for no.
-fn asked_code(a: Asked) -> u32
+pub fn asked_code(a: Asked) -> u32
     ensures { λ r. ⌜ r ≡ askedCode a ⌝ }
 {
     match a {
