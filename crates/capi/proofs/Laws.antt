@@ -4,8 +4,9 @@ use mathlib.Core.Path.{_≡_, ap, _∙_}
 use mathlib.Core.List.{List}
 use lib.IntN.{ℤ}
 use Rattle.table.specs.declared.Check.{Check}
-use Rattle.kekule.specs.declared.Found.{Found}
-use Rattle.kekule.specs.Kekule.{Out, out, Tables, tables, foundCode}
+use Rattle.answers.specs.declared.Found.{Found}
+use Rattle.answers.specs.Answers.{foundCode}
+use Rattle.kekule.specs.Kekule.{Out, out, Tables, tables}
 use Rattle.kekule.specs.Calls.{Replayed, replayed}
 use Rattle.reader.specs.declared.ending.Answer.{Answer}
 use Rattle.reader.specs.declared.ending.Answer.the-variants.{Molecule, Refused}

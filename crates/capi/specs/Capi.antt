@@ -13,9 +13,8 @@ use Rattle.writer.specs.declared.Written.the-variants.{Text, Refused as writeRe
 use Rattle.writing.specs.Write as write
 use Rattle.capi.specs.declared.ReadReply.{ReadReply}
 use Rattle.capi.specs.declared.WriteReply.{WriteReply}
-use Rattle.kekule.specs.declared.Asked.{Asked}
-use Rattle.kekule.specs.declared.Asked.the-variants.{Yes, No, Refused as askedRefused}
-use Rattle.kekule.specs.Kekule.{Out, Tables, foundCode}
+use Rattle.answers.specs.Answers.{foundCode}
+use Rattle.kekule.specs.Kekule.{Out, Tables}
 use Rattle.kekule.specs.Calls.{Replayed}
 
 -- an answer of the reader in plain numbers
@@ -39,12 +38,6 @@ writeOut r out ren = record { code = r .code; size = r .length; output = out; nu
 abbrev pub checkCode : Check → ℕ
 checkCode Fine = 0
 checkCode (Refused r) = codeOf r
-
--- a row that is no matching has 01's code 12
-abbrev pub askedCode : Asked → ℕ
-askedCode Yes = 0
-askedCode No = 12
-askedCode (askedRefused r) = codeOf r
 
 -- a code and the matching row
 pub record RowOut : Type 0 where

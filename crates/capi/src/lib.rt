@@ -1,14 +1,15 @@
 // The public calls for C and Rust: slices, counts and numbers in, codes out.
 ghost use mathlib.Core.Path.{_≡_};
+ghost use Rattle.answers.specs.Answers.{askedCode};
 ghost use Rattle.matching.specs.declared.Call.the-variants.{First, Next};
 ghost use Rattle.kekule.specs.Kekule.{callOn, askedOf, kekulizedOf};
 ghost use Rattle.kekule.specs.Calls.{replayedOf};
 ghost use Rattle.table.specs.Valid.{checkOf};
 ghost use Rattle.reading.specs.Read.{readOf};
 ghost use Rattle.writing.specs.Write.{writeOf};
-ghost use Rattle.capi.specs.Capi.{readReplyOf, readOut, writeReplyOf, writeOut, checkCode, askedCode, rowOut, rowOutOf, tablesOut, tablesOutOf, replayOut, replayOutOf};
-use kekule::Asked;
-use kekule::Found;
+ghost use Rattle.capi.specs.Capi.{readReplyOf, readOut, writeReplyOf, writeOut, checkCode, rowOut, rowOutOf, tablesOut, tablesOutOf, replayOut, replayOutOf};
+use answers::asked_code;
+use answers::found_code;
 use reader::ending::Answer;
 use table::Check;
 use writer::Written;
@@ -95,17 +96,6 @@ fn check_code(c: Check) -> u32
     }
 }
 
-// The code of the answer to the question for a matching: 0 for yes, 12 for no.
-fn asked_code(a: Asked) -> u32
-    ensures { λ r. ⌜ r ≡ askedCode a ⌝ }
-{
-    match a {
-        Asked::Yes => 0,
-        Asked::No => 12,
-        Asked::Refused(r) => refusal::code(r) as u32,
-    }
-}
-
 // Whether the tables can be worked with: 0, 1 or 13.
 #[no_mangle]
 pub extern "C" fn balsa_check(atoms: &[i32], bonds: &[i32], n: usize, m: usize) -> u32
@@ -125,7 +115,7 @@ pub extern "C" fn balsa_first(
 ) -> u32
     ensures { λ r. ⌜ rowOut r (now (row .exit)) ≡ rowOutOf (callOn First (now (atoms .entry)) (now (bonds .entry)) n m (now (row .entry))) ⌝ }
 {
-    kekule::found_code(kekule::first(atoms, bonds, n, m, row)) as u32
+    found_code(kekule::first(atoms, bonds, n, m, row)) as u32
 }
 
 // The next matching, into the row: 0, 255 for the end, 1, 13 or 12.
@@ -139,7 +129,7 @@ pub extern "C" fn balsa_next(
 ) -> u32
     ensures { λ r. ⌜ rowOut r (now (row .exit)) ≡ rowOutOf (callOn Next (now (atoms .entry)) (now (bonds .entry)) n m (now (row .entry))) ⌝ }
 {
-    kekule::found_code(kekule::next(atoms, bonds, n, m, row)) as u32
+    found_code(kekule::next(atoms, bonds, n, m, row)) as u32
 }
 
 // Whether the row is a matching: 0, 12 for no, 1 or 13.

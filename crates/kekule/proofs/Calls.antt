@@ -24,9 +24,10 @@ use Rattle.matching.proofs.Enumeration.{first-matching, row-length, after}
 use Rattle.matching.proofs.Graph.{enumeration-agrees}
 use Rattle.graph.specs.Graph.{delocalizedFlags, bondOf, graphOf, matchingOf}
 use Rattle.table.specs.declared.Check.the-variants.{Fine, Refused as checkRefused}
-use Rattle.kekule.specs.declared.Found.{Found}
-use Rattle.kekule.specs.declared.Found.the-variants.{Refused}
-use Rattle.kekule.specs.Kekule.{Out, out, outOf, foundCode, callOf, roomy, callOn}
+use Rattle.answers.specs.declared.Found.{Found}
+use Rattle.answers.specs.declared.Found.the-variants.{Refused}
+use Rattle.answers.specs.Answers.{foundCode, callOf}
+use Rattle.kekule.specs.Kekule.{Out, out, outOf, roomy, callOn}
 use Rattle.kekule.specs.Calls.{repliesOf, codesOf, lastRow, State, state, callStep, ranOf, replayed, replayedOf}
 use Rattle.kekule.proofs.Kekule.{row-room}
 

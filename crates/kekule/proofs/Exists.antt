@@ -10,8 +10,9 @@ use Rattle.matching.specs.Model.{some?}
 use Rattle.matching.specs.declared.Answer.the-variants.{Absent}
 use Rattle.matching.specs.declared.Call.the-variants.{First}
 use Rattle.graph.specs.Graph.{matchingOf, matchable}
-use Rattle.kekule.specs.declared.Found.{Found}
-use Rattle.kekule.specs.Kekule.{Out, out, outOf, isGiven}
+use Rattle.answers.specs.declared.Found.{Found}
+use Rattle.answers.specs.Answers.{isGiven}
+use Rattle.kekule.specs.Kekule.{Out, out, outOf}
 
 given-some : (len : ℕ) (es : List Row) → isGiven (outOf (orZeroed len Absent es) .found) ≡ some? es
 given-some len [] = refl

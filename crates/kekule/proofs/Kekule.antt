@@ -22,8 +22,8 @@ use Rattle.graph.specs.Built.{Built}
 use Rattle.graph.proofs.Graph.{built-bonds, length-first}
 use Rattle.refusal.specs.declared.Refusal.the-variants.{Short, NotMatching, Invalid}
 use Rattle.table.specs.declared.Check.the-variants.{Refused as checkRefused}
-use Rattle.kekule.specs.declared.Found.the-variants.{Refused}
-use Rattle.kekule.specs.Kekule.{callOf, Out, out, outOf, roomy, callOn, isMatchingOf, Tables, tables, kekulized, kekulizedOf}
+use Rattle.answers.specs.declared.Found.the-variants.{Refused}
+use Rattle.kekule.specs.Kekule.{Out, out, outOf, roomy, callOn, isMatchingOf, Tables, tables, kekulized, kekulizedOf}
 
 module _ {atoms bonds : List ℤ} {n m : ℕ} {flags ea eb el : List ℕ} (b : Built atoms bonds n m flags ea eb el) where
   pub first-built : (c : Call) (row : List ℕ) {g : Reply} → c ≡ First → g ≡ rowFirst (isMatching (take n flags) (bondsOf (take m ea) (take m eb) (take m el))) (length (take m ea)) (length row)
@@ -53,11 +53,6 @@ cleared row = let d : length row - 0 ≡ length row = omega arith in rw d
 -- a row that is long enough has a cell for each bond of valid tables
 pub row-room : (atoms bonds : List ℤ) (n m len : ℕ) → roomy atoms bonds len ≡ true → Valid atoms bonds n m → m ≤ len
 row-room atoms bonds n m len h v = omega (arith, leb-true maxBonds len (and-left (leb maxBonds len) (enough atoms bonds) h), v .few-bonds)
-
--- any byte but 0 asks for the next
-pub call-next : (b : ℕ) → (b ≡ 0 → ⊥) → Next ≡ callOf b
-call-next zero h = absurd (h refl)
-call-next (suc b) h = refl
 
 -- the return paths of a call: 1, 13, and the search's answer
 module _ (c : Call) (atoms bonds : List ℤ) (n m : ℕ) (row : List ℕ) where

@@ -12,8 +12,9 @@ use Rattle.table.specs.declared.Check.the-variants.{Fine, Refused as checkRefus
 use Rattle.matching.specs.Graph.{enumeration}
 use Rattle.matching.specs.declared.Call.{Call}
 use Rattle.graph.specs.Graph.{delocalizedFlags, graphOf}
-use Rattle.kekule.specs.declared.Found.the-variants.{Refused}
-use Rattle.kekule.specs.Kekule.{Out, out, outOf, foundCode, callOf, roomy, callOn}
+use Rattle.answers.specs.declared.Found.the-variants.{Refused}
+use Rattle.answers.specs.Answers.{foundCode, callOf}
+use Rattle.kekule.specs.Kekule.{Out, out, outOf, roomy, callOn}
 
 -- what the enumeration of the molecule gives to the calls; each call gives 1 where a buffer is too short, 13 on tables that are not valid
 unfoldable pub repliesOf : List Call → List ℤ → List ℤ → ℕ → ℕ → List ℕ → List Out

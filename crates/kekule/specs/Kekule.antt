@@ -1,52 +1,25 @@
 -- 01, Hydrogens and kept atoms: the calls on tables, refusals in the order of 01. A placement is a matching, settling is kekulizing.
-use Prim.Native.Nat.{ℕ, zero, suc, _≤_}
+use Prim.Native.Nat.{ℕ, _≤_}
 use mathlib.Core.List.{List}
-use mathlib.Core.Bool.{Bool, _&&_, false, true}
+use mathlib.Core.Bool.{Bool, _&&_}
 use lib.ListN.{length, take, replicate}
 use lib.IntN.{ℤ}
 use lib.Dec.{leb}
 use Rattle.loops.specs.Loop.{pick}
-use Rattle.refusal.specs.Code.{codeOf}
-use Rattle.refusal.specs.declared.Refusal.the-variants.{Short, NoMatching, NotMatching, Invalid}
+use Rattle.refusal.specs.declared.Refusal.the-variants.{Short, NotMatching, Invalid}
 use Rattle.table.specs.Limits.{maxAtoms, maxBonds}
 use Rattle.table.specs.Valid.{valid, enough}
 use Rattle.table.specs.Edits.{unselectedAtoms, doubledBonds}
 use Rattle.table.specs.declared.Check.{Check}
 use Rattle.table.specs.declared.Check.the-variants.{Fine, Refused as checkRefused}
 use Rattle.matching.specs.Enumeration.{Reply, isRow, rowCall}
-use Rattle.matching.specs.declared.Answer.{Answer}
-use Rattle.matching.specs.declared.Answer.the-variants.{Given as answerGiven, Absent, Refused as answerRefused, Ended}
 use Rattle.matching.specs.declared.Call.{Call}
-use Rattle.matching.specs.declared.Call.the-variants.{First, Next}
 use Rattle.graph.specs.Graph.{matchingOf}
-use Rattle.kekule.specs.declared.Found.{Found}
-use Rattle.kekule.specs.declared.Found.the-variants.{Given, End, Refused}
-use Rattle.kekule.specs.declared.Asked.{Asked}
-use Rattle.kekule.specs.declared.Asked.the-variants.{Yes, No, Refused as askedRefused}
-
--- an answer of the enumeration (01: of the book): 11 without a matching, 12 where the row is none, "end" after the last
-abbrev pub foundOf : Answer → Found
-foundOf answerGiven = Given
-foundOf Absent = Refused NoMatching
-foundOf answerRefused = Refused NotMatching
-foundOf Ended = End
-
--- the code of an answer: 0 for a matching, 255 for "end", else the refusal's
-abbrev pub foundCode : Found → ℕ
-foundCode Given = 0
-foundCode End = 255
-foundCode (Refused r) = codeOf r
-
--- the answer is a matching
-abbrev pub isGiven : Found → Bool
-isGiven Given = true
-isGiven End = false
-isGiven (Refused r) = false
-
--- a byte as one of the two calls
-abbrev pub callOf : ℕ → Call
-callOf zero = First
-callOf (suc b) = Next
+use Rattle.answers.specs.declared.Found.{Found}
+use Rattle.answers.specs.declared.Found.the-variants.{Refused}
+use Rattle.answers.specs.declared.Asked.{Asked}
+use Rattle.answers.specs.declared.Asked.the-variants.{Yes, No, Refused as askedRefused}
+use Rattle.answers.specs.Answers.{foundOf}
 
 -- an answer and the row as it is then
 pub record Out : Type 0 where

@@ -6,60 +6,20 @@ ghost use Rattle.table.specs.Valid.{Valid};
 ghost use Rattle.matching.specs.Enumeration.{rowCall};
 ghost use Rattle.matching.specs.Model.{reply};
 ghost use Rattle.graph.specs.Graph.{matchingOf, matchable};
-ghost use Rattle.kekule.specs.Kekule.{foundOf, foundCode, isGiven, callOf, out, outOf, roomy, callOn, isMatchingOf, askedOf, tables, kekulized, kekulizedOf, Counted};
+ghost use Rattle.kekule.specs.Kekule.{out, outOf, roomy, callOn, isMatchingOf, askedOf, tables, kekulized, kekulizedOf, Counted};
 ghost use Rattle.kekule.specs.Calls.{state, ranOf, replayed, replayedOf};
+use answers::Asked;
+use answers::Found;
+use answers::call_of;
+use answers::found_code;
+use answers::found_of;
+use answers::is_given;
 use matching::Answer;
 use matching::Call;
 use refusal::Refusal;
 use table::Check;
 use table::MAX_ATOMS;
 use table::MAX_BONDS;
-
-// What the calls for a matching answer.
-pub enum Found {
-    // The row is the matching asked for.
-    Given,
-    // None follows.
-    End,
-    Refused(Refusal),
-}
-
-// What the question for a matching answers.
-pub enum Asked {
-    Yes,
-    No,
-    Refused(Refusal),
-}
-
-// The code of an answer: 0 for a matching, 255 for the end, else the refusal's.
-pub fn found_code(f: Found) -> u8
-    ensures { λ r. ⌜ r ≡ foundCode f ⌝ }
-{
-    match f {
-        Found::Given => 0,
-        Found::End => 255,
-        Found::Refused(r) => refusal::code(r),
-    }
-}
-
-// An answer of the search as an answer of a call.
-fn found_of(a: Answer) -> Found
-    ensures { λ r. ⌜ r ≡ foundOf a ⌝ }
-{
-    match a {
-        Answer::Given => Found::Given,
-        Answer::Absent => Found::Refused(Refusal::NoMatching),
-        Answer::Refused => Found::Refused(Refusal::NotMatching),
-        Answer::Ended => Found::End,
-    }
-}
-
-// The call that a byte asks for: 0 the first matching, any other the next.
-fn call_of(b: u8) -> Call
-    ensures { λ r. ⌜ r ≡ callOf b ⌝ }
-{
-    if b == 0 { Call::First } else { Call::Next }
-}
 
 // The tables and a row of a length are as long as they have to be.
 fn roomy(atoms: &[i32], bonds: &[i32], len: usize) -> bool
@@ -99,17 +59,6 @@ pub fn call_valid(
     ensures { λ r. ⌜ out r (now (row .exit)) ≡ outOf (rowCall (matchingOf (now (atoms .entry)) (now (bonds .entry)) n m) m c (now (row .entry))) ⌝ }
 {
     found_of(ask(c, atoms, bonds, n, m, row))
-}
-
-// Whether an answer is a matching.
-fn is_given(f: Found) -> bool
-    ensures { λ r. ⌜ r ≡ isGiven f ⌝ }
-{
-    match f {
-        Found::Given => true,
-        Found::End => false,
-        Found::Refused(_) => false,
-    }
 }
 
 // internal: whether valid tables have a matching.

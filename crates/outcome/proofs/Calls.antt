@@ -20,7 +20,7 @@ use Rattle.reading.proofs.Accepted.{read-valid}
 use Rattle.reader.specs.Ending as reader
 use Rattle.reader.specs.declared.ending.Answer as reply
 use Rattle.kekule.specs.Kekule.{Tables, Out, out, tables, callOn, kekulizedOf}
-use Rattle.kekule.specs.declared.Found.{Found}
+use Rattle.answers.specs.declared.Found.{Found}
 use Rattle.writing.specs.Write as write
 use Rattle.writer.specs.Told.{told}
 use Rattle.writer.specs.declared.Written.{Written}

@@ -1,5 +1,5 @@
 use mathlib.Core.Path.{ap, _∙_}
-use Rattle.capi.specs.Capi.{askedCode}
+use Rattle.answers.specs.Answers.{askedCode}
 use borrow.Author.Needs.{needs}
 use Rattle.capi.proofs.balsa_is_matching.Statement.{statement}
 use Rattle.capi.proofs.balsa_is_matching.Tie as tie

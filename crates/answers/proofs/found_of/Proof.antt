@@ -1,6 +1,6 @@
 use borrow.Author.Needs.{needs}
-use Rattle.kekule.proofs.found_of.Statement.{statement}
-use Rattle.kekule.proofs.found_of.Tie as tie
+use Rattle.answers.proofs.found_of.Statement.{statement}
+use Rattle.answers.proofs.found_of.Tie as tie
 
 enum-told : tie.Need-enum-told
 enum-told c = search needs

@@ -1,7 +1,7 @@
-use Rattle.kekule.proofs.Kekule.{call-next}
+use Rattle.answers.proofs.Calls.{call-next}
 use borrow.Author.Needs.{needs}
-use Rattle.kekule.proofs.call_of.Statement.{statement}
-use Rattle.kekule.proofs.call_of.Tie as tie
+use Rattle.answers.proofs.call_of.Statement.{statement}
+use Rattle.answers.proofs.call_of.Tie as tie
 
 returns : tie.Need-returns
 returns c = search needs
