@@ -1,17 +1,57 @@
+-- `joins`: a bond whose second end is neither atom joins none; else both ends decide.
+use Prim.Native.Nat.{ℕ}
+use mathlib.Core.Path.{_≡_, refl, _∙_}
+use mathlib.Core.Bool.{Bool, true, false, not, _&&_, _||_}
+use mathlib.Core.List.{List}
+use lib.IntN.{ℤ}
+use lib.Dec.{eqb}
+use denote.Ref.{now}
+use Rattle.table.specs.Cells.{end1, end2}
+use Rattle.table.proofs.Keys.{never}
+use Rattle.graph.proofs.Sums.{row-cells}
 use Rattle.reading.specs.Memory.{joins}
 use borrow.Author.Needs.{needs}
 use Rattle.reader.proofs.bridge.joins.Statement.{statement}
 use Rattle.reader.proofs.bridge.joins.Tie as tie
 
-bond-number-requires : tie.Need-bond-number-requires
-bond-number-requires c κs = search needs
+apart-step : (p q t u : Bool) → (not t && not u) ≡ true → false ≡ ((p && u) || (q && t))
+apart-step p q true u h = never h
+apart-step p q false true h = never h
+apart-step true true false false h = refl
+apart-step true false false false h = refl
+apart-step false true false false h = refl
+apart-step false false false false h = refl
 
-bond-number-requires-2 : tie.Need-bond-number-requires-2
-bond-number-requires-2 c κs = search needs
+module _ (bonds : List ℤ) (a b i x y : ℕ) (e : x ≡ end1 bonds i) (f : y ≡ end2 bonds i) where
+  apart : (not (eqb y a) && not (eqb y b)) ≡ true → false ≡ joins bonds a b i
+  unfolding joins
+  apart h = simp (← e, ← f) (apart-step (eqb x a) (eqb x b) (eqb y a) (eqb y b) h)
+
+  by-ends : ((eqb x a && eqb y b) || (eqb x b && eqb y a)) ≡ joins bonds a b i
+  unfolding joins
+  by-ends = simp (e, f)
+
+get-bond-requires : tie.Need-get-bond-requires
+get-bond-requires c κs = search needs
+
+number-requires : tie.Need-number-requires
+number-requires c κs = search needs
+
+number-requires-2 : tie.Need-number-requires-2
+number-requires-2 c κs = search needs
 
 returns : tie.Need-returns
-unfolding joins
-returns c = simp (c .before .before .before .before .before .bond-number .ensures, c .before .before .before .before .bond-number2 .ensures)
+returns c =
+    let s = c .before .before .before .before .before .before .before .before in
+    let r = row-cells (now (s .args .bonds)) (s .args .i .0) (c .before .before .before .before .before .before .before .get-bond .result) (c .before .before .before .before .before .before .before .get-bond .ensures) (s .pre) in
+    apart (now (s .args .bonds)) (s .args .a .0) (s .args .b .0) (s .args .i .0) (c .before .before .before .before .before .number .result) (c .before .before .before .number2 .result) (c .before .before .before .before .before .number .ensures ∙ r .0) (c .before .before .before .number2 .ensures ∙ r .1) (c .if1 .taken)
+
+returns-2 : tie.Need-returns-2
+returns-2 c =
+    let s = c .before .before .before .before .before .before .before .before .before .before .before .before in
+    let r = row-cells (now (s .args .bonds)) (s .args .i .0) (c .before .before .before .before .before .before .before .before .before .before .before .get-bond .result) (c .before .before .before .before .before .before .before .before .before .before .before .get-bond .ensures) (s .pre) in
+    by-ends (now (s .args .bonds)) (s .args .a .0) (s .args .b .0) (s .args .i .0) (c .before .before .before .before .before .before .before .before .before .number .result) (c .before .before .before .before .before .before .before .number2 .result) (c .before .before .before .before .before .before .before .before .before .number .ensures ∙ r .0) (c .before .before .before .before .before .before .before .number2 .ensures ∙ r .1)
 
 pub joins-spec : {M : Type 1} → statement M
-joins-spec = tie.close (tie.spec bond-number-requires bond-number-requires-2 returns)
+joins-spec =
+    tie.close (tie.spec get-bond-requires number-requires number-requires-2 returns returns-2)
