@@ -17,7 +17,6 @@ use state::BRIDGES;
 use state::State;
 use table::Bond;
 use table::MAX_BONDS;
-use table::MAX_BONDS;
 use table::cell::number;
 use table::row::get_bond;
 
