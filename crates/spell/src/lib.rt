@@ -4,7 +4,7 @@ ghost use Prim.Native.Nat.{_<_};
 ghost use Rattle.pen.specs.Pen.{pen, Wrote};
 ghost use Rattle.writing.specs.Spell.{digitByte, decimal, kindBytes, bridgeBytes};
 
-pub mod field;
+pub mod fields;
 
 // A digit.
 fn digit(out: &mut [u8], at: usize, d: usize) -> usize

@@ -68,7 +68,7 @@ fn emit_atom(
     let u = up[x] as usize;
     let more = last[u] as usize != x;
     let at = lead(out, at, x, u, more, kind[x] as usize);
-    let at = spell::field::atom(atoms, AtomId(a), sums[a] as usize, out, at);
+    let at = spell::fields::atom(atoms, AtomId(a), sums[a] as usize, out, at);
     if !rings::is_end(los, his, k, x) {
         return Spot { few: true, at };
     }

@@ -1,8 +1,8 @@
 use Rattle.pen.proofs.Laws.{as-is}
 use Rattle.spell.proofs.Laws.{hydrogens-size}
 use borrow.Author.Needs.{needs}
-use Rattle.spell.proofs.field.hydrogens.Statement.{statement}
-use Rattle.spell.proofs.field.hydrogens.Tie as tie
+use Rattle.spell.proofs.fields.hydrogens.Statement.{statement}
+use Rattle.spell.proofs.fields.hydrogens.Tie as tie
 
 sized-requires : tie.Need-sized-requires
 sized-requires c κs = search needs

@@ -2,8 +2,8 @@ use mathlib.Core.Path.{sym, _∙_}
 use Rattle.pen.proofs.Laws.{as-is}
 use Rattle.spell.proofs.Laws.{bare-atom, bracket-atom}
 use borrow.Author.Needs.{needs}
-use Rattle.spell.proofs.field.atom.Statement.{statement}
-use Rattle.spell.proofs.field.atom.Tie as tie
+use Rattle.spell.proofs.fields.atom.Statement.{statement}
+use Rattle.spell.proofs.fields.atom.Tie as tie
 
 is-outside-requires : tie.Need-is-outside-requires
 is-outside-requires c κs = search needs

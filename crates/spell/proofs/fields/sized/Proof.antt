@@ -1,8 +1,8 @@
 use Rattle.pen.proofs.Laws.{also, as-is, nothing}
 use Rattle.spell.proofs.Laws.{size0, size1, size2}
 use borrow.Author.Needs.{needs}
-use Rattle.spell.proofs.field.sized.Statement.{statement}
-use Rattle.spell.proofs.field.sized.Tie as tie
+use Rattle.spell.proofs.fields.sized.Statement.{statement}
+use Rattle.spell.proofs.fields.sized.Tie as tie
 
 returns : tie.Need-returns
 returns c = as-is (size0 _ _ (c .if1 .taken)) (nothing)

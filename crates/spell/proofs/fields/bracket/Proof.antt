@@ -4,8 +4,8 @@ use mir.Facts.{toZ-ofZ}
 use Rattle.pen.proofs.Laws.{also, as-is}
 use Rattle.spell.proofs.Laws.{bracket-is}
 use borrow.Author.Needs.{needs}
-use Rattle.spell.proofs.field.bracket.Statement.{statement}
-use Rattle.spell.proofs.field.bracket.Tie as tie
+use Rattle.spell.proofs.fields.bracket.Statement.{statement}
+use Rattle.spell.proofs.fields.bracket.Tie as tie
 
 put-requires : tie.Need-put-requires
 put-requires c κs = search needs

@@ -1,8 +1,8 @@
 use Rattle.spell.specs.Fields.{outside}
 use Rattle.spell.proofs.Laws.{neutral-is}
 use borrow.Author.Needs.{needs}
-use Rattle.spell.proofs.field.is_outside.Statement.{statement}
-use Rattle.spell.proofs.field.is_outside.Tie as tie
+use Rattle.spell.proofs.fields.is_outside.Statement.{statement}
+use Rattle.spell.proofs.fields.is_outside.Tie as tie
 
 atom-number-requires : tie.Need-atom-number-requires
 atom-number-requires c κs = search needs

@@ -1,8 +1,8 @@
 use Rattle.pen.proofs.Laws.{also, as-is, nothing}
 use Rattle.spell.proofs.Laws.{extension0, extension1}
 use borrow.Author.Needs.{needs}
-use Rattle.spell.proofs.field.extension.Statement.{statement}
-use Rattle.spell.proofs.field.extension.Tie as tie
+use Rattle.spell.proofs.fields.extension.Statement.{statement}
+use Rattle.spell.proofs.fields.extension.Tie as tie
 
 returns : tie.Need-returns
 returns c = as-is (extension0 _ (c .if1 .taken)) (nothing)

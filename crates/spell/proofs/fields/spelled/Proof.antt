@@ -1,8 +1,8 @@
 use Rattle.pen.proofs.Laws.{also, as-is, nothing}
 use Rattle.spell.proofs.Laws.{letters0, letters1, letters2}
 use borrow.Author.Needs.{needs}
-use Rattle.spell.proofs.field.spelled.Statement.{statement}
-use Rattle.spell.proofs.field.spelled.Tie as tie
+use Rattle.spell.proofs.fields.spelled.Statement.{statement}
+use Rattle.spell.proofs.fields.spelled.Tie as tie
 
 returns : tie.Need-returns
 returns c = as-is (letters0 _ (c .if1 .taken)) (nothing)

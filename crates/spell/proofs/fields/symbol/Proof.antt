@@ -1,8 +1,8 @@
 use Rattle.pen.proofs.Laws.{as-is}
 use Rattle.spell.proofs.Laws.{chosen, plain}
 use borrow.Author.Needs.{needs}
-use Rattle.spell.proofs.field.symbol.Statement.{statement}
-use Rattle.spell.proofs.field.symbol.Tie as tie
+use Rattle.spell.proofs.fields.symbol.Statement.{statement}
+use Rattle.spell.proofs.fields.symbol.Tie as tie
 
 cast-spell-selected : tie.Need-cast-spell-selected
 cast-spell-selected c = search needs

@@ -2,8 +2,8 @@ use mir.Facts.{toZ-ofZ, fits-natAbs}
 use Rattle.pen.proofs.Laws.{as-is}
 use Rattle.spell.proofs.Laws.{below, above}
 use borrow.Author.Needs.{needs}
-use Rattle.spell.proofs.field.charge.Statement.{statement}
-use Rattle.spell.proofs.field.charge.Tie as tie
+use Rattle.spell.proofs.fields.charge.Statement.{statement}
+use Rattle.spell.proofs.fields.charge.Tie as tie
 
 sub-sized : tie.Need-sub-sized
 sub-sized c = let s = c .before .before .before in let r = toZ-ofZ (s .fits .c) in let w = below (s .args .c) (s .pre) (simp r at (c .before .if1 .taken)) in simp r (w .fits)

@@ -1,8 +1,8 @@
 use Rattle.pen.proofs.Laws.{as-is, nothing}
 use Rattle.spell.proofs.Laws.{isotope0, isotope1}
 use borrow.Author.Needs.{needs}
-use Rattle.spell.proofs.field.isotope.Statement.{statement}
-use Rattle.spell.proofs.field.isotope.Tie as tie
+use Rattle.spell.proofs.fields.isotope.Statement.{statement}
+use Rattle.spell.proofs.fields.isotope.Tie as tie
 
 returns : tie.Need-returns
 returns c = as-is (isotope0 _ (c .if1 .taken)) (nothing)
