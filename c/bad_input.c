@@ -1,0 +1,126 @@
+/* Short buffers, null pointers, invalid tables and rubbish rows, through C: each gives its code and leaves what it must.
+ * Prints the number of checks, or the first one that fails. */
+#include "balsa.h"
+
+#include <limits.h>
+#include <stdio.h>
+#include <stdlib.h>
+#include <string.h>
+
+static int32_t atoms[BALSA_ATOM_TABLE], bonds[BALSA_BOND_TABLE];
+static uint8_t row[BALSA_ROW], out[BALSA_TEXT];
+static uint16_t ren[BALSA_RENUMBERING];
+static unsigned checks;
+
+static void expect(int holds, const char *what) {
+    if (!holds) {
+        printf("fails: %s\n", what);
+        exit(1);
+    }
+    checks++;
+}
+
+/* Whether every byte of a buffer has this value. */
+static int all(const void *buffer, size_t size, unsigned char value) {
+    const unsigned char *bytes = buffer;
+    while (size > 0 && bytes[size - 1] == value) {
+        size--;
+    }
+    return size == 0;
+}
+
+static balsa_read_reply read_text(const char *text) {
+    return balsa_read((const uint8_t *)text, strlen(text), atoms, BALSA_ATOM_TABLE, bonds,
+                      BALSA_BOND_TABLE);
+}
+
+static uint32_t first(size_t n, size_t m, size_t room) {
+    return balsa_first(atoms, BALSA_ATOM_TABLE, bonds, BALSA_BOND_TABLE, n, m, row, room);
+}
+
+/* Refusal 1: one cell too few, and null with length 0; nothing changes. */
+static void short_buffers(void) {
+    memset(atoms, 7, sizeof atoms);
+    memset(bonds, 7, sizeof bonds);
+    balsa_read_reply r = balsa_read((const uint8_t *)"CC", 2, atoms, BALSA_ATOM_TABLE - 1, bonds,
+                                    BALSA_BOND_TABLE);
+    expect(r.code == 1 && r.place == 0 && r.atoms == 0 && r.bonds == 0, "a short atom table");
+    r = balsa_read((const uint8_t *)"CC", 2, atoms, BALSA_ATOM_TABLE, NULL, 0);
+    expect(r.code == 1, "no bond table");
+    expect(all(atoms, sizeof atoms, 7) && all(bonds, sizeof bonds, 7), "1 leaves the tables");
+    memset(row, 7, sizeof row);
+    expect(first(1, 0, BALSA_ROW - 1) == 1 && all(row, sizeof row, 7), "a short row");
+    memset(out, 7, sizeof out);
+    memset(ren, 7, sizeof ren);
+    balsa_write_reply w = balsa_write(atoms, BALSA_ATOM_TABLE, bonds, BALSA_BOND_TABLE, 1, 0, out,
+                                      BALSA_TEXT - 1, ren, BALSA_RENUMBERING);
+    expect(w.code == 1 && w.length == 0, "a short output");
+    w = balsa_write(atoms, BALSA_ATOM_TABLE, bonds, BALSA_BOND_TABLE, 1, 0, out, BALSA_TEXT, ren,
+                    BALSA_RENUMBERING - 1);
+    expect(w.code == 1, "a short renumbering");
+    expect(all(out, sizeof out, 7) && all(ren, sizeof ren, 7), "1 leaves the output");
+}
+
+/* The empty text, also as null with length 0; a refusal with its place zeroes both tables. */
+static void texts(void) {
+    balsa_read_reply r = balsa_read(NULL, 0, atoms, BALSA_ATOM_TABLE, bonds, BALSA_BOND_TABLE);
+    expect(r.code == 0 && r.atoms == 0 && r.bonds == 0, "the empty text");
+    memset(atoms, 7, sizeof atoms);
+    r = read_text("C11");
+    expect(r.code == 7 && r.place == 2 && r.atoms == 0, "C11 is 7 at 2");
+    expect(all(atoms, sizeof atoms, 0) && all(bonds, sizeof bonds, 0), "a refusal zeroes the tables");
+    r = read_text("c1ccnc1");
+    expect(r.code == 11 && r.place == 0, "c1ccnc1 is 11");
+}
+
+/* Refusal 13: cells out of range and counts above the limits, in every call on tables. */
+static void invalid_tables(void) {
+    balsa_read_reply r = read_text("c1ccccc1");
+    static const int32_t wrong[] = {INT_MIN, -1, 6, INT_MAX};
+    for (size_t i = 0; i < sizeof wrong / sizeof *wrong; i++) {
+        int32_t before = bonds[1];
+        bonds[1] = wrong[i];
+        memset(row, 7, sizeof row);
+        expect(first(r.atoms, r.bonds, BALSA_ROW) == 13, "an end that is no atom");
+        expect(all(row, sizeof row, 0), "13 zeroes the row");
+        expect(balsa_kekulize(atoms, BALSA_ATOM_TABLE, bonds, BALSA_BOND_TABLE, r.atoms, r.bonds, row,
+                              BALSA_ROW) == 13 && bonds[1] == wrong[i], "13 leaves the tables");
+        balsa_write_reply w = balsa_write(atoms, BALSA_ATOM_TABLE, bonds, BALSA_BOND_TABLE, r.atoms,
+                                          r.bonds, out, BALSA_TEXT, ren, BALSA_RENUMBERING);
+        expect(w.code == 13 && w.length == 0 && all(out, sizeof out, 0), "13 zeroes the output");
+        bonds[1] = before;
+    }
+    expect(balsa_check(atoms, BALSA_ATOM_TABLE, bonds, BALSA_BOND_TABLE, SIZE_MAX, SIZE_MAX) == 13,
+           "counts above the limits");
+    expect(balsa_check(atoms, BALSA_ATOM_TABLE, bonds, BALSA_BOND_TABLE, r.atoms, r.bonds) == 0,
+           "benzene is valid");
+}
+
+/* Refusal 12: rows that are no matchings; the end after the last one. */
+static void rubbish_rows(void) {
+    balsa_read_reply r = read_text("c1ccccc1");
+    memset(row, 2, sizeof row);
+    expect(balsa_is_matching(atoms, BALSA_ATOM_TABLE, bonds, BALSA_BOND_TABLE, r.atoms, r.bonds, row,
+                             BALSA_ROW) == 12 && all(row, sizeof row, 2), "no matching, and unchanged");
+    expect(balsa_kekulize(atoms, BALSA_ATOM_TABLE, bonds, BALSA_BOND_TABLE, r.atoms, r.bonds, row,
+                          BALSA_ROW) == 12 && atoms[1] == 1, "12 leaves the tables");
+    expect(balsa_next(atoms, BALSA_ATOM_TABLE, bonds, BALSA_BOND_TABLE, r.atoms, r.bonds, row,
+                      BALSA_ROW) == 12 && all(row, sizeof row, 0), "12 zeroes the row");
+    static const uint8_t calls[] = {1, 0, 1, 1, 1};
+    static const uint8_t told[] = {12, 0, 0, BALSA_END, 12};
+    uint8_t codes[sizeof calls];
+    expect(balsa_replay(calls, sizeof calls, atoms, BALSA_ATOM_TABLE, bonds, BALSA_BOND_TABLE, r.atoms,
+                        r.bonds, row, BALSA_ROW, codes, sizeof codes) == 0, "a list of calls");
+    expect(memcmp(codes, told, sizeof told) == 0, "12, two matchings, the end, 12");
+    expect(balsa_replay(calls, sizeof calls, atoms, BALSA_ATOM_TABLE, bonds, BALSA_BOND_TABLE, r.atoms,
+                        r.bonds, row, BALSA_ROW, codes, sizeof codes - 1) == 1, "too few codes");
+}
+
+int main(void) {
+    short_buffers();
+    texts();
+    invalid_tables();
+    rubbish_rows();
+    printf("%u checks hold\n", checks);
+    return 0;
+}
