@@ -11,12 +11,24 @@ use Rattle.loops.specs.Loop.{upTo}
 use Rattle.loops.proofs.Loops.{length-upTo, upTo-at}
 use Rattle.table.specs.Cells.{element, selected, hydrogens, end1, end2, kind}
 use Rattle.table.specs.Valid.{Valid}
-use Rattle.table.proofs.Valid.{first-end, second-end}
+use Rattle.table.proofs.Valid.{bond-row, first-end, second-end}
 use Rattle.valence.specs.Valence.{delocalized}
 use Rattle.matching.specs.Model.{bondsOf, Shape}
 use Rattle.graph.specs.Graph.{bondSum, flag, elidedFlag, delocalizedFlag, delocalizedFlags, bondOf, graphOf}
-use Rattle.graph.specs.Built.{sumFlag, Built}
+use Rattle.graph.specs.Built.{sumFlag, Wide, Built}
 use Rattle.graph.proofs.Sums.{sumsTo}
+
+-- the bonds of valid tables have what one pass over them asks
+pub wide : {atoms bonds : List ℤ} {n m : ℕ} {ea eb el : List ℕ} → Valid atoms bonds n m → m ≤ length ea → m ≤ length eb → m ≤ length el → Wide bonds m ea eb el
+wide v a b e =
+    record {
+      few = v .few-bonds;
+      firsts = a;
+      seconds = b;
+      elided = e;
+      order = λ k l. bond-row v k l .order;
+      second-fits = λ k l. omega (arith, second-end v k l, v .few-atoms);
+    }
 
 -- lists that agree at each number
 upTo-ext : {A : Type 0} (f g : ℕ → A) (k n : ℕ) → ((j : ℕ) → j < k + n → f j ≡ g j) → upTo f k n ≡ upTo g k n
