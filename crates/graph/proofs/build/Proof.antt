@@ -1,11 +1,9 @@
 use native.Mathlib.Omega.{arith}
-use mathlib.Core.Path.{refl, sym, _∙_}
+use mathlib.Core.Path.{refl, sym}
 use denote.Ref.{now}
-use Rattle.loops.proofs.Loops.{filled-part}
 use Rattle.table.specs.Limits.{maxAtoms}
-use Rattle.graph.specs.Built.{sumFlag}
 use Rattle.graph.proofs.Sums.{sums-length}
-use Rattle.graph.proofs.Graph.{wide, sum-flags}
+use Rattle.graph.proofs.Graph.{wide, flags-built}
 use borrow.Author.Needs.{needs}
 use Rattle.graph.proofs.build.Statement.{statement}
 use Rattle.graph.proofs.build.Tie as tie
@@ -45,14 +43,8 @@ returns : tie.Need-returns
 returns c =
     let f = c .before .before .before .before .before .before .before .before .before .before .before in
     let s = f .before .before .before .before .before .before .before .before .before in
-    let a = s .args in
     let e = f .wire .ensures in
-    record {
-      delocalized-part =
-          filled-part (sumFlag (now (a .atoms)) (f .wire .last .1 .1 .1 .1 .1 .0)) (a .n) (now (a .flags)) (c .before .before .fill-flags .ensures)
-          ∙ sum-flags (now (a .atoms)) (now (a .bonds)) (a .n) (a .m) maxAtoms (e .1) (s .pre .0 .few-atoms);
-      bonds-part = e .0;
-    }
+    flags-built (now (s .args .flags)) (record { valid = s .pre .0; wired = e .0; summed = e .1 }) (c .before .before .fill-flags .ensures)
 
 pub build-spec : {M : Type 1} → statement M
 build-spec =
