@@ -3,20 +3,33 @@ use Prim.Native.Nat.{ℕ, zero, suc, _+_, _≤_, _<_}
 use native.Mathlib.Omega.{arith}
 use mathlib.Core.Path.{_≡_, refl, sym, ap, _∙_}
 use mathlib.Core.Bool.{Bool, true, false}
-use mathlib.Core.List.{List}
-use lib.ListN.{length, take, getD}
+use mathlib.Core.List.{List, _++_}
+use lib.ListN.{length, take, drop, getD}
 use lib.IntN.{ℤ}
 use lib.Dec.{eqb}
 use Rattle.loops.specs.Loop.{upTo}
-use Rattle.loops.proofs.Loops.{length-upTo, upTo-at}
+use Rattle.loops.proofs.Loops.{length-upTo, upTo-at, filled-part}
+use Rattle.table.specs.Limits.{maxAtoms}
 use Rattle.table.specs.Cells.{element, selected, hydrogens, end1, end2, kind}
 use Rattle.table.specs.Valid.{Valid}
-use Rattle.table.proofs.Valid.{first-end, second-end}
+use Rattle.table.proofs.Valid.{bond-row, first-end, second-end}
 use Rattle.valence.specs.Valence.{delocalized}
 use Rattle.matching.specs.Model.{bondsOf, Shape}
 use Rattle.graph.specs.Graph.{bondSum, flag, elidedFlag, delocalizedFlag, delocalizedFlags, bondOf, graphOf}
-use Rattle.graph.specs.Built.{sumFlag, Built}
+use Rattle.graph.specs.Built.{sumFlag, Wide, Prepared, Built}
 use Rattle.graph.proofs.Sums.{sumsTo}
+
+-- the bonds of valid tables have what one pass over them asks
+pub wide : {atoms bonds : List ℤ} {n m : ℕ} {ea eb el : List ℕ} → Valid atoms bonds n m → m ≤ length ea → m ≤ length eb → m ≤ length el → Wide bonds m ea eb el
+wide v a b e =
+    record {
+      few = v .few-bonds;
+      firsts = a;
+      seconds = b;
+      elided = e;
+      order = λ k l. bond-row v k l .order;
+      second-fits = λ k l. omega (arith, second-end v k l, v .few-atoms);
+    }
 
 -- lists that agree at each number
 upTo-ext : {A : Type 0} (f g : ℕ → A) (k n : ℕ) → ((j : ℕ) → j < k + n → f j ≡ g j) → upTo f k n ≡ upTo g k n
@@ -25,10 +38,18 @@ upTo-ext f g k zero h = refl
 upTo-ext f g k (suc n) h = rw (h k (omega arith), upTo-ext f g (suc k) n (λ j l. h j (omega arith)))
 
 -- the flags from the bond sums are the molecule's
-pub sum-flags : (atoms bonds : List ℤ) (n m len : ℕ) {sums : List ℕ} → sums ≡ sumsTo bonds m len → n ≤ len → upTo (sumFlag atoms sums) 0 n ≡ delocalizedFlags atoms bonds n m
+sum-flags : (atoms bonds : List ℤ) (n m len : ℕ) {sums : List ℕ} → sums ≡ sumsTo bonds m len → n ≤ len → upTo (sumFlag atoms sums) 0 n ≡ delocalizedFlags atoms bonds n m
 sum-flags atoms bonds n m len {sums} e h =
     upTo-ext (sumFlag atoms sums) (delocalizedFlag atoms bonds m) 0 n
     (λ j l. ap (λ (s : ℕ). flag (delocalized (element atoms j) (selected atoms j) s (hydrogens atoms j))) (ap (λ (t : List ℕ). getD t j 0) e ∙ upTo-at (bondSum bonds m) len j 0 (omega arith)))
+
+-- the flags that are filled from the bond sums make the graph whole
+pub flags-built : {atoms bonds : List ℤ} {n m : ℕ} (flags₀ : List ℕ) {sums ea eb el flags : List ℕ} → Prepared atoms bonds n m sums ea eb el → flags ≡ upTo (sumFlag atoms sums) 0 n ++ drop n flags₀ → Built atoms bonds n m flags ea eb el
+flags-built {atoms} {bonds} {n} {m} flags₀ {sums} p e =
+    record {
+      delocalized-part = filled-part (sumFlag atoms sums) n flags₀ e ∙ sum-flags atoms bonds n m maxAtoms (p .summed) (p .valid .few-atoms);
+      bonds-part = p .wired;
+    }
 
 flag-one : (b : Bool) → eqb (flag b) 1 ≡ b
 flag-one true = refl

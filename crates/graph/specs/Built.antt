@@ -8,8 +8,9 @@ use lib.Dec.{eqb}
 use Rattle.loops.specs.Loop.{pick, upTo}
 use Rattle.table.specs.Limits.{maxAtoms, maxBonds}
 use Rattle.table.specs.Cells.{element, selected, hydrogens, end1, end2, kind}
+use Rattle.table.specs.Valid.{Valid}
 use Rattle.valence.specs.Valence.{order, delocalized}
-use Rattle.graph.specs.Graph.{flag, delocalizedFlags, elidedFlag}
+use Rattle.graph.specs.Graph.{bondSum, flag, delocalizedFlags, elidedFlag}
 
 -- one bond sum raised
 abbrev pub bump : List ℕ → ℕ → ℕ → List ℕ
@@ -47,6 +48,12 @@ pub record Wired (bonds : List ℤ) (m : ℕ) (ea eb el : List ℕ) : Type 0 whe
   pub first-part : take m ea ≡ upTo (end1 bonds) 0 m
   pub second-part : take m eb ≡ upTo (end2 bonds) 0 m
   pub elided-part : take m el ≡ upTo (elidedFlag bonds) 0 m
+
+-- valid tables, and the buffers that one pass over their bonds filled
+pub record Prepared (atoms bonds : List ℤ) (n m : ℕ) (sums ea eb el : List ℕ) : Type 0 where
+  pub valid : Valid atoms bonds n m
+  pub wired : Wired bonds m ea eb el
+  pub summed : sums ≡ upTo (bondSum bonds m) 0 maxAtoms
 
 -- four buffers that hold the graph of a molecule in their first cells
 pub record Built (atoms bonds : List ℤ) (n m : ℕ) (flags ea eb el : List ℕ) : Type 0 where

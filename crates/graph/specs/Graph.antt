@@ -1,10 +1,10 @@
 -- 01, Hydrogens and kept atoms: the bond sum, the delocalized ("kept") atoms, and the graph that matchings ("placements") see
 use Prim.Native.Nat.{ℕ, _+_}
 use mathlib.Core.List.{List}
-use mathlib.Core.Bool.{Bool, true, false, _||_}
+use mathlib.Core.Bool.{Bool, true, false, _||_, not}
 use lib.IntN.{ℤ}
 use lib.Dec.{eqb}
-use Rattle.loops.specs.Loop.{pick, run, upTo}
+use Rattle.loops.specs.Loop.{pick, each, run, upTo}
 use Rattle.table.specs.Cells.{element, selected, hydrogens, end1, end2, kind}
 use Rattle.valence.specs.Valence.{order, delocalized}
 use Rattle.matching.specs.Enumeration.{Row, matchings}
@@ -39,6 +39,13 @@ delocalizedFlag atoms bonds m a = flag (delocalizedAt atoms bonds m a)
 
 abbrev pub elidedFlag : List ℤ → ℕ → ℕ
 elidedFlag bonds b = flag (eqb (kind bonds b) 0)
+
+-- none of n atoms is selected
+abbrev pub unselected : List ℤ → ℕ → Bool
+unselected atoms a = not (eqb (selected atoms a) 1)
+
+unfoldable pub noneSelected : List ℤ → ℕ → Bool
+noneSelected atoms n = each (unselected atoms) 0 n
 
 -- the flags of n atoms, and the bonds, as matchings see them
 abbrev pub delocalizedFlags : List ℤ → List ℤ → ℕ → ℕ → List ℕ

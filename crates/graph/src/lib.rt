@@ -8,7 +8,7 @@ ghost use Rattle.table.specs.Limits.{maxAtoms, maxBonds};
 ghost use Rattle.table.specs.Cells.{element, selected, hydrogens};
 ghost use Rattle.table.specs.Valid.{Valid};
 ghost use Rattle.valence.specs.Valence.{delocalized};
-ghost use Rattle.graph.specs.Graph.{bondSum, flag};
+ghost use Rattle.graph.specs.Graph.{bondSum, flag, noneSelected};
 ghost use Rattle.graph.specs.Built.{bump, withBond, sumFlag, Summed, Wide, Wired, Built, Room};
 use ids::AtomId;
 use ids::BondId;
@@ -72,6 +72,21 @@ pub fn fill_sums(bonds: &[i32], m: usize, sums: &mut [u16])
     }
 }
 
+// internal: whether none of n atoms is selected.
+pub fn none_selected(atoms: &[i32], n: usize) -> bool
+    requires { ⌜ n ≤ maxAtoms ⌝ }
+    ensures { λ r. ⌜ r ≡ noneSelected (now (atoms .entry)) n ⌝ }
+{
+    let mut i = 0;
+    while i < n {
+        if cell::atom_number(atoms, AtomId(i), SELECTED) == 1 {
+            return false;
+        }
+        i += 1;
+    }
+    true
+}
+
 // Whether an atom is delocalized, by its bond sum.
 fn is_delocalized(atoms: &[i32], a: AtomId, sum: u16) -> bool
     requires { ⌜ a .0 < maxAtoms ⌝ }
@@ -93,8 +108,8 @@ fn flag(b: bool) -> u8
     if b { 1 } else { 0 }
 }
 
-// 1 for each delocalized atom, from the bond sums.
-fn fill_flags(atoms: &[i32], sums: &[u16], n: usize, flags: &mut [u8])
+// internal: 1 for each delocalized atom, from the bond sums.
+pub fn fill_flags(atoms: &[i32], sums: &[u16], n: usize, flags: &mut [u8])
     requires { ⌜ Summed (now sums) n (now flags) ⌝ }
     ensures { λ _. ⌜ now (flags .exit) ≡ upTo (sumFlag (now (atoms .entry)) (now (sums .entry))) 0 n ++ drop n (now (flags .entry)) ⌝ }
 {
@@ -105,8 +120,8 @@ fn fill_flags(atoms: &[i32], sums: &[u16], n: usize, flags: &mut [u8])
     }
 }
 
-// The ends of each bond, 1 for each elided bond, and the bond sums, in one pass.
-fn fill_bonds(
+// internal: the ends of each bond, 1 for each elided bond, and the bond sums, in one pass.
+pub fn wire(
     bonds: &[i32],
     m: usize,
     ea: &mut [u16],
@@ -151,6 +166,6 @@ pub fn build(
     ensures { λ _. ⌜ Built (now (atoms .entry)) (now (bonds .entry)) n m (now (flags .exit)) (now (ea .exit)) (now (eb .exit)) (now (el .exit)) ⌝ }
 {
     let mut sums = [0u16; MAX_ATOMS];
-    fill_bonds(bonds, m, ea, eb, el, &mut sums);
+    wire(bonds, m, ea, eb, el, &mut sums);
     fill_flags(atoms, &sums, n, flags);
 }

@@ -1,24 +1,26 @@
 -- The first call gives a matching exactly if there is one. Assumes nothing.
 use Prim.Native.Nat.{ℕ}
 use mathlib.Core.Path.{_≡_, refl, ap, _∙_}
-use mathlib.Core.Bool.{Bool}
 use mathlib.Core.List.{List, [], _∷_}
-use lib.ListN.{length}
+use lib.ListN.{length, take}
 use lib.IntN.{ℤ}
-use Rattle.matching.specs.Enumeration.{Row, matchings, orZeroed, rowCall}
-use Rattle.matching.specs.Model.{some?}
+use Rattle.matching.specs.Enumeration.{Row, Reply, matchings, orZeroed, rowFirst, rowCall}
+use Rattle.matching.specs.Graph.{isMatching}
+use Rattle.matching.specs.Model.{bondsOf, some?, reply}
+use Rattle.matching.specs.declared.Answer.{Answer}
 use Rattle.matching.specs.declared.Answer.the-variants.{Absent}
 use Rattle.matching.specs.declared.Call.the-variants.{First}
 use Rattle.graph.specs.Graph.{matchingOf, matchable}
-use Rattle.answers.specs.declared.Found.{Found}
-use Rattle.answers.specs.Answers.{isGiven}
-use Rattle.kekule.specs.Kekule.{Out, out, outOf}
+use Rattle.graph.specs.Built.{Built}
+use Rattle.answers.specs.Answers.{foundOf, isGiven}
+use Rattle.kekule.proofs.Kekule.{first-built}
 
-given-some : (len : ℕ) (es : List Row) → isGiven (outOf (orZeroed len Absent es) .found) ≡ some? es
+given-some : (len : ℕ) (es : List Row) → isGiven (foundOf (orZeroed len Absent es .answer)) ≡ some? es
 given-some len [] = refl
 given-some len (e ∷ es) = refl
 
-pub first-matchable : (atoms bonds : List ℤ) (n m : ℕ) (row : List ℕ) {f : Found} {row′ : List ℕ} → out f row′ ≡ outOf (rowCall (matchingOf atoms bonds n m) m First row)
-    → isGiven f ≡ matchable atoms bonds n m
+pub first-matchable : {atoms bonds : List ℤ} {n m : ℕ} {flags ea eb el : List ℕ} → Built atoms bonds n m flags ea eb el → (row : List ℕ) {a : Answer} {row′ : List ℕ}
+    → reply a row′ ≡ rowFirst (isMatching (take n flags) (bondsOf (take m ea) (take m eb) (take m el))) (length (take m ea)) (length row) → isGiven (foundOf a) ≡ matchable atoms bonds n m
 unfolding rowCall matchable
-first-matchable atoms bonds n m row e = ap (λ (o : Out). isGiven (o .found)) e ∙ given-some (length row) (matchings (matchingOf atoms bonds n m) m)
+first-matchable {atoms} {bonds} {n} {m} b row e =
+    ap (λ (g : Reply). isGiven (foundOf (g .answer))) (first-built b First row refl e) ∙ given-some (length row) (matchings (matchingOf atoms bonds n m) m)

@@ -2,10 +2,10 @@
 use Prim.Native.Nat.{ℕ, _≤_}
 use mathlib.Core.List.{List}
 use mathlib.Core.Bool.{Bool, _&&_}
-use lib.ListN.{length, take, replicate}
+use lib.ListN.{length, take, getD, replicate}
 use lib.IntN.{ℤ}
-use lib.Dec.{leb}
-use Rattle.loops.specs.Loop.{pick}
+use lib.Dec.{eqb, leb}
+use Rattle.loops.specs.Loop.{pick, each}
 use Rattle.refusal.specs.declared.Refusal.the-variants.{Short, NotMatching, Invalid}
 use Rattle.table.specs.Limits.{maxAtoms, maxBonds}
 use Rattle.table.specs.Valid.{valid, enough}
@@ -46,6 +46,10 @@ callOn c atoms bonds n m row =
 -- the row, up to the last bond, is a matching; "in a row handed in, cells past the last bond are not looked at"
 abbrev pub isMatchingOf : List ℤ → List ℤ → ℕ → ℕ → List ℕ → Bool
 isMatchingOf atoms bonds n m row = isRow m (take m row) && matchingOf atoms bonds n m (take m row)
+
+-- m cells of a row are 0
+unfoldable pub allZero : ℕ → List ℕ → Bool
+allZero m row = each (λ b. eqb (getD row b 0) 0) 0 m
 
 -- the question whether a row is a matching
 unfoldable pub askedOf : List ℤ → List ℤ → ℕ → ℕ → List ℕ → Asked

@@ -1,12 +1,15 @@
 // The public calls on tables: the first matching, the next one, whether a row is a matching, kekulizing by a row, and a list of calls.
 ghost use mathlib.Core.Path.{_≡_};
 ghost use Prim.Native.Nat.{_≤_};
+ghost use mathlib.Core.List.{List};
 ghost use lib.ListN.{length};
+ghost use lib.IntN.{ℤ};
 ghost use Rattle.table.specs.Valid.{Valid};
-ghost use Rattle.matching.specs.Enumeration.{rowCall};
+ghost use Rattle.matching.specs.Enumeration.{rowCall, zeroed};
 ghost use Rattle.matching.specs.Model.{reply};
 ghost use Rattle.graph.specs.Graph.{matchingOf, matchable};
-ghost use Rattle.kekule.specs.Kekule.{out, outOf, roomy, callOn, isMatchingOf, askedOf, tables, kekulized, kekulizedOf, Counted};
+ghost use Rattle.graph.specs.Built.{Prepared};
+ghost use Rattle.kekule.specs.Kekule.{out, outOf, roomy, callOn, allZero, isMatchingOf, askedOf, tables, kekulized, kekulizedOf, Counted};
 ghost use Rattle.kekule.specs.Calls.{state, ranOf, replayed, replayedOf};
 use answers::Asked;
 use answers::Found;
@@ -28,8 +31,8 @@ fn roomy(atoms: &[i32], bonds: &[i32], len: usize) -> bool
     (MAX_BONDS <= len) & validity::enough(atoms, bonds)
 }
 
-// The search for one of the two calls, on valid tables.
-fn ask(c: Call, atoms: &[i32], bonds: &[i32], n: usize, m: usize, row: &mut [u8]) -> Answer
+// The search for one of the two calls, on the graph of valid tables.
+fn search_graph(c: Call, atoms: &[i32], bonds: &[i32], n: usize, m: usize, row: &mut [u8]) -> Answer
     requires { ⌜ Valid (now atoms) (now bonds) n m ⌝ }
     requires { ⌜ m ≤ length (now row) ⌝ }
     ensures { λ r. ⌜ reply r (now (row .exit)) ≡ rowCall (matchingOf (now (atoms .entry)) (now (bonds .entry)) n m) m c (now (row .entry)) ⌝ }
@@ -42,6 +45,38 @@ fn ask(c: Call, atoms: &[i32], bonds: &[i32], n: usize, m: usize, row: &mut [u8]
     match c {
         Call::First => engine::first(&ea[..m], &eb[..m], &el[..m], &mut flags[..n], row),
         Call::Next => engine::next(&ea[..m], &eb[..m], &el[..m], &mut flags[..n], row),
+    }
+}
+
+// A zeroed row, which is the matching asked for.
+fn give_zeros(row: &mut [u8]) -> Answer
+    ensures { λ r. ⌜ reply r (now (row .exit)) ≡ zeroed (length (now (row .entry))) Answer.Given ⌝ }
+{
+    search::clear(row, 0);
+    Answer::Given
+}
+
+// The first matching of valid tables: zeros where no atom is selected, and there no graph is built.
+fn ask_first(atoms: &[i32], bonds: &[i32], n: usize, m: usize, row: &mut [u8]) -> Answer
+    requires { ⌜ Valid (now atoms) (now bonds) n m ⌝ }
+    requires { ⌜ m ≤ length (now row) ⌝ }
+    ensures { λ r. ⌜ reply r (now (row .exit)) ≡ rowCall (matchingOf (now (atoms .entry)) (now (bonds .entry)) n m) m Call.First (now (row .entry)) ⌝ }
+{
+    if graph::none_selected(atoms, n) {
+        return give_zeros(row);
+    }
+    search_graph(Call::First, atoms, bonds, n, m, row)
+}
+
+// One of the two calls, on valid tables.
+fn ask(c: Call, atoms: &[i32], bonds: &[i32], n: usize, m: usize, row: &mut [u8]) -> Answer
+    requires { ⌜ Valid (now atoms) (now bonds) n m ⌝ }
+    requires { ⌜ m ≤ length (now row) ⌝ }
+    ensures { λ r. ⌜ reply r (now (row .exit)) ≡ rowCall (matchingOf (now (atoms .entry)) (now (bonds .entry)) n m) m c (now (row .entry)) ⌝ }
+{
+    match c {
+        Call::First => ask_first(atoms, bonds, n, m, row),
+        Call::Next => search_graph(Call::Next, atoms, bonds, n, m, row),
     }
 }
 
@@ -61,13 +96,27 @@ pub fn call_valid(
     found_of(ask(c, atoms, bonds, n, m, row))
 }
 
-// internal: whether valid tables have a matching.
-pub fn matchable(atoms: &[i32], bonds: &[i32], n: usize, m: usize) -> bool
-    requires { ⌜ Valid (now atoms) (now bonds) n m ⌝ }
-    ensures { λ r. ⌜ r ≡ matchable (now (atoms .entry)) (now (bonds .entry)) n m ⌝ }
+// internal: whether valid tables have a matching, from what one pass over their bonds left.
+pub fn matchable(
+    atoms: &[i32],
+    n: usize,
+    m: usize,
+    sums: &[u16],
+    ea: &[u16],
+    eb: &[u16],
+    el: &[u8],
+) -> bool
+    requires { ⌜ ((bonds : List ℤ) × Prepared (now atoms) bonds n m (now sums) (now ea) (now eb) (now el)) ⌝ }
+    ensures { λ r. ⌜ ((bonds : List ℤ) → Prepared (now (atoms .entry)) bonds n m (now (sums .entry)) (now (ea .entry)) (now (eb .entry)) (now (el .entry)) → r ≡ matchable (now (atoms .entry)) bonds n m) ⌝ }
 {
+    if graph::none_selected(atoms, n) {
+        return true;
+    }
+    let mut flags = [0u8; MAX_ATOMS];
     let mut row = [0u8; MAX_BONDS];
-    is_given(call_valid(Call::First, atoms, bonds, n, m, &mut row))
+    graph::fill_flags(atoms, sums, n, &mut flags);
+    let answer = engine::first(&ea[..m], &eb[..m], &el[..m], &mut flags[..n], &mut row);
+    is_given(found_of(answer))
 }
 
 // One of the two calls: refusals 1 and 13, then the search.
@@ -101,12 +150,30 @@ pub fn next(atoms: &[i32], bonds: &[i32], n: usize, m: usize, row: &mut [u8]) ->
     call(Call::Next, atoms, bonds, n, m, row)
 }
 
+// Whether the first m cells of a row are 0.
+fn all_zero(row: &[u8], m: usize) -> bool
+    requires { ⌜ m ≤ length (now row) ⌝ }
+    ensures { λ r. ⌜ r ≡ allZero m (now (row .entry)) ⌝ }
+{
+    let mut i = 0;
+    while i < m {
+        if row[i] != 0 {
+            return false;
+        }
+        i += 1;
+    }
+    true
+}
+
 // internal: whether the row is a matching of valid tables, for callers that know them valid.
 pub fn is_matching_valid(atoms: &[i32], bonds: &[i32], n: usize, m: usize, row: &[u8]) -> bool
     requires { ⌜ Valid (now atoms) (now bonds) n m ⌝ }
     requires { ⌜ m ≤ length (now row) ⌝ }
     ensures { λ r. ⌜ r ≡ isMatchingOf (now (atoms .entry)) (now (bonds .entry)) n m (now (row .entry)) ⌝ }
 {
+    if graph::none_selected(atoms, n) {
+        return all_zero(row, m);
+    }
     let mut flags = [0u8; MAX_ATOMS];
     let mut ea = [0u16; MAX_BONDS];
     let mut eb = [0u16; MAX_BONDS];

@@ -27,6 +27,7 @@ use Rattle.table.specs.Limits.{maxAtoms, HYDROGENS}
 use Rattle.table.specs.Cells.{atomPlace, element, selected}
 use Rattle.table.specs.Valid.{Valid, enough}
 use Rattle.graph.specs.Graph.{bondSum, matchable}
+use Rattle.graph.specs.Built.{Wired, Prepared}
 use Rattle.state.specs.declared.Fields.{Fields}
 use Rattle.state.specs.Limits.{maxText, maxDepth, bridges}
 use Rattle.state.specs.State.{Steering, steering, started}
@@ -44,7 +45,7 @@ use Rattle.reader.specs.declared.piece.Joint.{Joint}
 use Rattle.reader.specs.declared.bridge.Why.{Why}
 use Rattle.reader.specs.declared.ending.Answer as reply
 use Rattle.reader.specs.Went.{Fair, Went, refusedAt, PastFine, Past, Goes, Stops, Sequenced}
-use Rattle.reader.specs.Ending.{told, hydrogensBy, endedOf, answerOf, Unread, TextGoes, TextRead}
+use Rattle.reader.specs.Ending.{told, hydrogensBy, hydrogenatedBy, endedOf, answerOf, Unread, TextGoes, TextRead}
 use Rattle.reader.proofs.Branches.{close-down}
 
 -- ---- the whole text
@@ -123,9 +124,28 @@ module _ (s : List ℕ) (a b : List ℤ) (h : length s ≡ 0 → ⊥) {u : Steer
     }
 
 -- ---- hydrogens
-pub hydrogens-step : (outside : List ℕ) (bonds : List ℤ) (m a : ℕ) (t : List ℤ) {sums : List ℕ} → sums ≡ upTo (bondSum bonds m) 0 maxAtoms → a < maxAtoms
+hydrogens-step : (outside : List ℕ) (bonds : List ℤ) (m a : ℕ) (t : List ℤ) {sums : List ℕ} → sums ≡ upTo (bondSum bonds m) 0 maxAtoms → a < maxAtoms
     → hydrogensBy (getD outside a 0) (getD sums a 0) a t ≡ hydrogenate outside bonds m a t
 hydrogens-step outside bonds m a t e l = rw (e, upTo-at (bondSum bonds m) maxAtoms a 0 l)
+
+-- written from the bond sums, the hydrogens are the molecule's
+hydrogens-by : (outside : List ℕ) (bonds : List ℤ) (n m : ℕ) (t : List ℤ) {sums : List ℕ} → sums ≡ upTo (bondSum bonds m) 0 maxAtoms → n ≤ maxAtoms
+    → hydrogenatedBy outside sums n t ≡ hydrogenated outside bonds m n t
+unfolding hydrogenatedBy hydrogenated run
+hydrogens-by outside bonds n m t {sums} e l = go 0 n t (omega arith)
+  where
+    go : (k c : ℕ) (t : List ℤ) → k + c ≤ maxAtoms → run (λ a. hydrogensBy (getD outside a 0) (getD sums a 0) a) k c t ≡ run (hydrogenate outside bonds m) k c t
+    go k zero t h = refl
+    go k (suc c) t h =
+        ap (run (λ a. hydrogensBy (getD outside a 0) (getD sums a 0) a) (suc k) c) (hydrogens-step outside bonds m k t e (omega arith)) ∙ go (suc k) c (hydrogenate outside bonds m k t) (omega arith)
+
+-- the tables once the hydrogens are written, beside what one pass over the bonds left
+module _ (outside : List ℕ) (atoms bonds : List ℤ) (n m : ℕ) {sums : List ℕ} (e : sums ≡ upTo (bondSum bonds m) 0 maxAtoms) (v : Valid (hydrogenated outside bonds m n atoms) bonds n m) {atoms′ : List ℤ} (h : atoms′ ≡ hydrogenatedBy outside sums n atoms) where
+  pub completed-atoms : atoms′ ≡ hydrogenated outside bonds m n atoms
+  completed-atoms = h ∙ hydrogens-by outside bonds n m atoms e (v .few-atoms)
+
+  pub completed-tables : {ea eb el : List ℕ} → Wired bonds m ea eb el → Prepared atoms′ bonds n m sums ea eb el
+  completed-tables w = record { valid = rw completed-atoms v; wired = w; summed = e }
 
 pub implied-cell : (e s sum : ℕ) → toZ w32 (implied e s sum) ≡ pos (implied e s sum)
 implied-cell e s sum = toZ-pos w32 {n = implied e s sum} (omega (arith, implied-small e s sum))
@@ -239,6 +259,3 @@ pub hydrogens-put : (t : List ℤ) (a x sum : ℕ) {e s h : ℕ} {t′ : List �
 hydrogens-put t a x sum {e} {s} {h} ex ee es eh et =
     et ∙ ap (λ (z : ℕ). set t (atomPlace a HYDROGENS) (toZ w32 z)) (eh ∙ ap (λ (z : ℕ). implied z s sum) ee ∙ ap (λ (z : ℕ). implied (element t a) z sum) es)
     ∙ rw (implied-cell (element t a) (selected t a) sum, eq-eqb x 1 ex)
-
-pub valid-as : {v w b : List ℤ} {n m : ℕ} → v ≡ w → Valid w b n m → Valid v b n m
-valid-as e h = rw e h

@@ -1,22 +1,24 @@
 -- What reading hands back: 01's number and values for each case of the answer
 use Prim.Native.Nat.{ℕ}
 use mathlib.Core.Path.{_≡_}
+use mathlib.Core.Bool.{Bool}
 use mathlib.Core.List.{List}
-use lib.ListN.{set, replicate}
+use lib.ListN.{getD, set, replicate}
 use lib.IntN.{ℤ, pos}
 use lib.Dec.{eqb}
-use Rattle.loops.specs.Loop.{pick}
+use Rattle.loops.specs.Loop.{pick, run}
 use Rattle.refusal.specs.Code.{codeOf}
 use Rattle.valence.specs.Valence.{implied}
 use Rattle.grammar.specs.Fold.{Answer, good, bad, answer}
 use Rattle.table.specs.Limits.{maxAtoms, HYDROGENS}
 use Rattle.table.specs.Cells.{atomPlace, element, selected}
+use Rattle.graph.specs.Graph.{matchable}
 use Rattle.state.specs.State.{Steering}
 use Rattle.state.specs.declared.Fields.{Fields}
 use Rattle.state.specs.Limits.{maxDepth, bridges}
 use Rattle.reading.specs.Memory.{Memory, nothing, blank}
 use Rattle.reading.specs.Act.{act}
-use Rattle.reading.specs.Read.{Told, beginning, ended}
+use Rattle.reading.specs.Read.{Told, beginning, hydrogenated, ended}
 use Rattle.field.specs.Rest.{memory}
 use Rattle.reader.specs.declared.bridge.Why.{Why}
 use Rattle.reader.specs.declared.ending.Answer as reply
@@ -30,6 +32,15 @@ told (reply.Answer.Refused r p) a b = record { code = codeOf r; offset = p; atom
 -- the hydrogens of one atom, by whether it stood outside brackets and by its bond sum
 abbrev pub hydrogensBy : ℕ → ℕ → ℕ → List ℤ → List ℤ
 hydrogensBy x sum a t = pick (eqb x 1) (set t (atomPlace a HYDROGENS) (pos (implied (element t a) (selected t a) sum))) t
+
+-- those of n atoms, by the bond sums
+unfoldable pub hydrogenatedBy : List ℕ → List ℕ → ℕ → List ℤ → List ℤ
+hydrogenatedBy outside sums n t = run (λ a. hydrogensBy (getD outside a 0) (getD sums a 0) a) 0 n t
+
+-- the atoms have their hydrogens, and whether there is a matching is told
+pub record Completed (outside : List ℕ) (atoms bonds : List ℤ) (n m : ℕ) (r : Bool) (atoms′ : List ℤ) : Type 0 where
+  pub hydrogens : atoms′ ≡ hydrogenated outside bonds m n atoms
+  pub matched : r ≡ matchable atoms′ bonds n m
 
 -- what comes after the last byte, in a state and with tables
 abbrev pub endedOf : Steering → List ℤ → List ℤ → Told

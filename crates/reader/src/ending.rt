@@ -9,9 +9,8 @@ ghost use Rattle.table.specs.Limits.{maxAtoms, maxBonds};
 ghost use Rattle.table.specs.Valid.{Valid};
 ghost use Rattle.state.specs.State.{steering};
 ghost use Rattle.reading.specs.Read.{earlier, leftmost, hydrogenated};
-ghost use Rattle.reader.specs.Ending.{hydrogensBy, told, endedOf};
+ghost use Rattle.reader.specs.Ending.{hydrogensBy, hydrogenatedBy, Completed, told, endedOf};
 use edits::clear;
-use graph::fill_sums;
 use ids::AtomId;
 use refusal::Refusal;
 use state::BRIDGES;
@@ -19,6 +18,7 @@ use state::State;
 use table::ELEMENT;
 use table::HYDROGENS;
 use table::MAX_ATOMS;
+use table::MAX_BONDS;
 use table::SELECTED;
 use table::cell;
 
@@ -88,19 +88,36 @@ fn hydrogenate_atom(atoms: &mut [i32], a: AtomId, outside: u8, sum: u16)
     cell::put_atom_cell(atoms, a, HYDROGENS, h as i32);
 }
 
-// Writes the hydrogens of every atom that stood outside brackets.
-fn hydrogenate(st: State, outsides: &[u8; MAX_ATOMS], atoms: &mut [i32], bonds: &[i32])
-    requires { ⌜ (st .atoms ≤ maxAtoms) × (st .bonds ≤ maxBonds) ⌝ }
-    ensures { λ _. ⌜ now (atoms .exit) ≡ hydrogenated (now (outsides .entry)) (now (bonds .entry)) (st .bonds) (st .atoms) (now (atoms .entry)) ⌝ }
+// Writes the hydrogens of every atom that stood outside brackets, from the bond sums.
+fn hydrogenate(n: usize, outsides: &[u8; MAX_ATOMS], sums: &[u16; MAX_ATOMS], atoms: &mut [i32])
+    requires { ⌜ n ≤ maxAtoms ⌝ }
+    ensures { λ _. ⌜ now (atoms .exit) ≡ hydrogenatedBy (now (outsides .entry)) (now (sums .entry)) n (now (atoms .entry)) ⌝ }
 {
-    let mut sums = [0u16; MAX_ATOMS];
-    fill_sums(bonds, st.bonds, &mut sums);
-    let n = st.atoms;
     let mut i = 0;
     while i < n {
         hydrogenate_atom(atoms, AtomId(i), outsides[i], sums[i]);
         i += 1;
     }
+}
+
+// Writes the hydrogens and tells whether a matching exists, in one pass over the bonds.
+fn complete(
+    n: usize,
+    m: usize,
+    outsides: &[u8; MAX_ATOMS],
+    atoms: &mut [i32],
+    bonds: &[i32],
+) -> bool
+    requires { ⌜ Valid (hydrogenated (now outsides) (now bonds) m n (now atoms)) (now bonds) n m ⌝ }
+    ensures { λ r. ⌜ Completed (now (outsides .entry)) (now (atoms .entry)) (now (bonds .entry)) n m r (now (atoms .exit)) ⌝ }
+{
+    let mut ea = [0u16; MAX_BONDS];
+    let mut eb = [0u16; MAX_BONDS];
+    let mut el = [0u8; MAX_BONDS];
+    let mut sums = [0u16; MAX_ATOMS];
+    graph::wire(bonds, m, &mut ea, &mut eb, &mut el, &mut sums);
+    hydrogenate(n, outsides, &sums, atoms);
+    kekule::matchable(atoms, n, m, &sums, &ea, &eb, &el)
 }
 
 // internal: what a text that was read whole answers: 10, 11 or the molecule.
@@ -122,10 +139,9 @@ pub fn end(
         clear(bonds);
         return Answer::Refused(Refusal::OpenBridge, p);
     }
-    hydrogenate(st, outsides, atoms, bonds);
     let n = st.atoms;
     let m = st.bonds;
-    if kekule::matchable(atoms, bonds, n, m) {
+    if complete(n, m, outsides, atoms, bonds) {
         return Answer::Molecule(n, m);
     }
     clear(atoms);

@@ -2,20 +2,16 @@
 use mathlib.Core.Path.{_≡_, refl, sym, ap, _∙_, subst}
 use mathlib.Core.Bool.{Bool, true, false}
 use mathlib.Core.List.{List, [], _∷_, map}
-use Prim.Native.Nat.{ℕ, zero, suc, _+_, _*_, _<_, _≤_}
+use Prim.Native.Nat.{ℕ, zero, suc, _*_, _<_, _≤_}
 use native.Mathlib.Omega.{arith}
 use lib.Dec.{eqb, ltb}
 use lib.ListN.{length, getD}
 use lib.IntN.{ℤ, pos}
 use borrow.Author.Tests.{ltb-true, eqb-true, eqb-false}
-use Rattle.loops.specs.Loop.{pick, upTo}
-use Rattle.loops.proofs.Loops.{and-left, and-right, length-upTo}
+use Rattle.loops.specs.Loop.{pick}
+use Rattle.loops.proofs.Loops.{and-left, and-right}
 use Rattle.valence.specs.Valence.{order, implied}
-use Rattle.matching.specs.Enumeration.{matchings}
-use Rattle.matching.specs.Graph.{noneFlagged}
-use Rattle.matching.proofs.Claims.{one-zero-row}
-use Rattle.matching.specs.Model.{some?}
-use Rattle.graph.specs.Graph.{bondSum, delocalizedAt, delocalizedFlag, delocalizedFlags, flag, bondOf, graphOf, matchingOf, matchable}
+use Rattle.graph.specs.Graph.{bondSum, matchable}
 use Rattle.table.specs.Limits.{maxAtoms, maxBonds, atomCells, bondCells, ELEMENT, SELECTED, ISOTOPE, HYDROGENS, EXTENSION}
 use Rattle.table.specs.Cells.{number, atomCell, bondCell, element, selected, hydrogens}
 use Rattle.table.specs.Valid.{Valid, selectedOk}
@@ -254,16 +250,3 @@ module _ (atoms bonds : List ℤ) (n m : ℕ) (v : Valid atoms bonds n m) where
       selections = λ w l. ap number (M .cells w SELECTED l (omega arith));
       hydrogen-counts = λ w l. ap number (M .cells w HYDROGENS l (omega arith));
     })
-
--- ---- a molecule without a delocalized atom has a matching, the row of zeros
-zero-flags : (f : ℕ → ℕ) (k n : ℕ) → ((j : ℕ) → j < k + n → f j ≡ 0) → noneFlagged (upTo f k n) ≡ true
-unfolding upTo noneFlagged
-zero-flags f k zero h = refl
-zero-flags f k (suc n) h = rw (h k (omega arith)) (zero-flags f (suc k) n (λ j l. h j (omega arith)))
-
-pub localized-matchable : (atoms bonds : List ℤ) (n m : ℕ) → ((a : ℕ) → a < n → delocalizedAt atoms bonds m a ≡ false) → matchable atoms bonds n m ≡ true
-unfolding matchable
-localized-matchable atoms bonds n m h =
-    let F = delocalizedFlags atoms bonds n m in
-    let z = zero-flags (delocalizedFlag atoms bonds m) 0 n (λ j l. ap flag (h j (omega arith))) in
-    subst (λ (k : ℕ). some? (matchings (matchingOf atoms bonds n m) k) ≡ true) (length-upTo (bondOf bonds) 0 m) (ap some? (one-zero-row F (graphOf bonds m) z))

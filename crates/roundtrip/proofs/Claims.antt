@@ -11,6 +11,7 @@ use lib.IntN.{ℤ, pos}
 use Rattle.loops.specs.Loop.{pick}
 use Rattle.loops.proofs.Loops.{length-upTo, upTo-at}
 use Rattle.graph.specs.Graph.{matchable}
+use Rattle.graph.proofs.Localized.{localized-matchable}
 use Rattle.valence.specs.Valence.{delocalized}
 use Rattle.table.specs.Cells.{atomCell, selected}
 use Rattle.table.specs.Valid.{valid, Valid, enough}
@@ -29,7 +30,7 @@ use Rattle.writing.specs.Write.{bondList, tokens, textOf, renumbering, fewBridg
 use Rattle.writing.specs.Write as write
 use Rattle.roundtrip.specs.Claims.{Writable, numbered, renamed, accepted, Same, RoundTrip, Permutes, Demand2}
 use Rattle.roundtrip.proofs.Bonds.{inside}
-use Rattle.roundtrip.proofs.Back.{Molecule, ReadBack, ren, read-back, matchable-same, localized-matchable}
+use Rattle.roundtrip.proofs.Back.{Molecule, ReadBack, ren, read-back, matchable-same}
 use Rattle.roundtrip.proofs.Again.{text-again, identity-again}
 use Rattle.roundtrip.proofs.Rewritten.{valid-again, few-again, shallow-again}
 

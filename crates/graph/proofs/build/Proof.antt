@@ -1,43 +1,30 @@
 use native.Mathlib.Omega.{arith}
-use mathlib.Core.Path.{refl, sym, _∙_}
+use mathlib.Core.Path.{refl, sym}
 use denote.Ref.{now}
-use Rattle.loops.proofs.Loops.{filled-part}
 use Rattle.table.specs.Limits.{maxAtoms}
-use Rattle.table.proofs.Valid.{bond-row, second-end}
-use Rattle.graph.specs.Built.{sumFlag}
 use Rattle.graph.proofs.Sums.{sums-length}
-use Rattle.graph.proofs.Graph.{sum-flags}
+use Rattle.graph.proofs.Graph.{wide, flags-built}
 use borrow.Author.Needs.{needs}
 use Rattle.graph.proofs.build.Statement.{statement}
 use Rattle.graph.proofs.build.Tie as tie
 
-fill-bonds-requires : tie.Need-fill-bonds-requires
-fill-bonds-requires c κs =
+wire-requires : tie.Need-wire-requires
+wire-requires c κs =
     let s = c .before .before .before .before .before .before .before .before in
-    let v = s .pre .0 in
-    let r = s .pre .1 in (
-      record {
-        few = v .few-bonds;
-        firsts = r .firsts;
-        seconds = r .seconds;
-        elided = r .elided;
-        order = λ k l. bond-row v k l .order;
-        second-fits = λ k l. omega (arith, second-end v k l, v .few-atoms);
-      },
-      refl,
-    )
+    let r = s .pre .1 in
+    (wide (s .pre .0) (r .firsts) (r .seconds) (r .elided), refl)
 
 slice-aggregate-fill-flags : tie.Need-slice-aggregate-fill-flags
 slice-aggregate-fill-flags c =
     let f = c .before .before .before .before .before .before .before in
     let a = f .before .before .before .before .before .before .before .before .before .args in
-    sym (sums-length (now (a .bonds)) (a .m) maxAtoms (f .fill-bonds .ensures .1))
+    sym (sums-length (now (a .bonds)) (a .m) maxAtoms (f .wire .ensures .1))
 
 fill-flags-requires : tie.Need-fill-flags-requires
 fill-flags-requires c κs =
     let f = c .before .before .before .before .before .before .before .before in
     let s = f .before .before .before .before .before .before .before .before .before in
-    let w = sums-length (now (s .args .bonds)) (s .args .m) maxAtoms (f .fill-bonds .ensures .1) in
+    let w = sums-length (now (s .args .bonds)) (s .args .m) maxAtoms (f .wire .ensures .1) in
     record { few = s .pre .0 .few-atoms; summed = omega (arith, s .pre .0 .few-atoms); room = s .pre .1 .atoms }
 
 same-length : tie.Need-same-length
@@ -56,20 +43,14 @@ returns : tie.Need-returns
 returns c =
     let f = c .before .before .before .before .before .before .before .before .before .before .before in
     let s = f .before .before .before .before .before .before .before .before .before in
-    let a = s .args in
-    let e = f .fill-bonds .ensures in
-    record {
-      delocalized-part =
-          filled-part (sumFlag (now (a .atoms)) (f .fill-bonds .last .1 .1 .1 .1 .1 .0)) (a .n) (now (a .flags)) (c .before .before .fill-flags .ensures)
-          ∙ sum-flags (now (a .atoms)) (now (a .bonds)) (a .n) (a .m) maxAtoms (e .1) (s .pre .0 .few-atoms);
-      bonds-part = e .0;
-    }
+    let e = f .wire .ensures in
+    flags-built (now (s .args .flags)) (record { valid = s .pre .0; wired = e .0; summed = e .1 }) (c .before .before .fill-flags .ensures)
 
 pub build-spec : {M : Type 1} → statement M
 build-spec =
     tie.close
     (tie.spec
-    fill-bonds-requires
+    wire-requires
     slice-aggregate-fill-flags
     fill-flags-requires
     same-length

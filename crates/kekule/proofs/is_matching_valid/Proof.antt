@@ -2,9 +2,22 @@ use mathlib.Core.Path.{sym, _∙_}
 use denote.Ref.{now}
 use Rattle.graph.proofs.Graph.{built-shape, length-first, length-second, length-elided, length-flags}
 use Rattle.kekule.proofs.Kekule.{matching-built}
+use Rattle.kekule.proofs.Unselected.{unselected-matching}
 use borrow.Author.Needs.{needs}
 use Rattle.kekule.proofs.is_matching_valid.Statement.{statement}
 use Rattle.kekule.proofs.is_matching_valid.Tie as tie
+
+none-selected-requires : tie.Need-none-selected-requires
+none-selected-requires c κs = search needs
+
+all-zero-requires : tie.Need-all-zero-requires
+all-zero-requires c κs = search needs
+
+returns : tie.Need-returns
+returns c =
+    let s = c .before .before .before .before in
+    let a = s .args in
+    c .all-zero .ensures ∙ unselected-matching (now (a .atoms)) (now (a .bonds)) (a .n) (a .m) (now (a .row)) (sym (c .before .before .none-selected .ensures) ∙ c .before .if1 .taken) (s .pre .1)
 
 slice-aggregate-build : tie.Need-slice-aggregate-build
 slice-aggregate-build c = search needs
@@ -47,16 +60,19 @@ slice-aggregate-fits-4 c = sym (length-flags (c .before .before .before .before 
 
 fits-requires : tie.Need-fits-requires
 fits-requires c κs =
-    let s = c .before .before .before .before .before .before .before .before .before .before .before .before .before .before in
+    let s = c .before .before .before .before .before .before .before .before .before .before .before .before .before .before .before .before in
     built-shape (c .before .before .before .before .before .before .before .before .build .ensures) (s .pre .0) (now (s .args .row)) (s .pre .1)
 
-returns : tie.Need-returns
-returns c = c .before .fits2 .ensures ∙ matching-built (c .before .before .before .before .before .before .before .before .before .before .build .ensures) (now (c .before .before .before .before .before .before .before .before .before .before .before .before .before .before .before .before .args .row))
+returns-2 : tie.Need-returns-2
+returns-2 c = c .before .fits2 .ensures ∙ matching-built (c .before .before .before .before .before .before .before .before .before .before .build .ensures) (now (c .before .before .before .before .before .before .before .before .before .before .before .before .before .before .before .before .before .before .args .row))
 
 pub is-matching-valid-spec : {M : Type 1} → statement M
 is-matching-valid-spec =
     tie.close
     (tie.spec
+    none-selected-requires
+    all-zero-requires
+    returns
     slice-aggregate-build
     slice-aggregate-build-2
     slice-aggregate-build-3
@@ -71,4 +87,4 @@ is-matching-valid-spec =
     array-borrow-prefix-flags
     slice-aggregate-fits-4
     fits-requires
-    returns)
+    returns-2)

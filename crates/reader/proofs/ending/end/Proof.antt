@@ -1,5 +1,5 @@
 use mathlib.Core.Path.{sym, _∙_}
-use Rattle.reader.proofs.Ends.{ended-open, ended-matched, ended-unmatched, valid-as}
+use Rattle.reader.proofs.Ends.{ended-open, ended-matched, ended-unmatched}
 use borrow.Author.Needs.{needs}
 use Rattle.reader.proofs.ending.end.Statement.{statement}
 use Rattle.reader.proofs.ending.end.Tie as tie
@@ -22,11 +22,8 @@ same-length-2 c = search needs
 returns : tie.Need-returns
 returns c = λ h k. ended-open _ _ _ (c .before .before .before .before .before .before .before .leftmost .ensures) (c .before .before .before .before .before .before .if1 .taken) (c .before .before .before .before .clear .ensures) (c .before .clear2 .ensures)
 
-hydrogenate-requires : tie.Need-hydrogenate-requires
-hydrogenate-requires c κs = c .before .before .before .before .pre .0
-
-matchable-requires : tie.Need-matchable-requires
-matchable-requires c κs = valid-as (c .before .before .before .hydrogenate .ensures) (c .before .before .before .before .before .before .before .before .pre .1)
+complete-requires : tie.Need-complete-requires
+complete-requires c κs = search needs
 
 same-length-3 : tie.Need-same-length-3
 same-length-3 c = search needs
@@ -35,7 +32,9 @@ same-length-4 : tie.Need-same-length-4
 same-length-4 c = search needs
 
 returns-2 : tie.Need-returns-2
-returns-2 c = λ h k. ended-matched _ _ _ (c .before .before .before .before .before .before .before .before .before .leftmost .ensures) (c .before .before .before .before .before .before .before .before .if1 .left) (c .before .before .before .before .before .hydrogenate .ensures) (sym (c .before .matchable .ensures) ∙ c .if2 .taken)
+returns-2 c =
+    let e = c .before .before .complete .ensures in
+    λ h k. ended-matched _ _ _ (c .before .before .before .before .before .before .leftmost .ensures) (c .before .before .before .before .before .if1 .left) (e .hydrogens) (sym (e .matched) ∙ c .if2 .taken)
 
 clear-requires-3 : tie.Need-clear-requires-3
 clear-requires-3 c κs = search needs
@@ -50,7 +49,9 @@ same-length-6 : tie.Need-same-length-6
 same-length-6 c = search needs
 
 returns-3 : tie.Need-returns-3
-returns-3 c = λ h k. ended-unmatched _ _ _ (c .before .before .before .before .before .before .before .before .before .before .before .before .before .before .before .leftmost .ensures) (c .before .before .before .before .before .before .before .before .before .before .before .before .before .before .if1 .left) (c .before .before .before .before .before .before .before .before .before .before .before .hydrogenate .ensures) (sym (c .before .before .before .before .before .before .before .matchable .ensures) ∙ c .before .before .before .before .before .before .if2 .left) (c .before .before .before .before .clear3 .ensures) (c .before .clear4 .ensures)
+returns-3 c =
+    let e = c .before .before .before .before .before .before .before .before .complete .ensures in
+    λ h k. ended-unmatched _ _ _ (c .before .before .before .before .before .before .before .before .before .before .before .before .leftmost .ensures) (c .before .before .before .before .before .before .before .before .before .before .before .if1 .left) (e .hydrogens) (sym (e .matched) ∙ c .before .before .before .before .before .before .if2 .left) (c .before .before .before .before .clear3 .ensures) (c .before .clear4 .ensures)
 
 pub end-spec : {M : Type 1} → statement M
 end-spec =
@@ -62,8 +63,7 @@ end-spec =
     same-length
     same-length-2
     returns
-    hydrogenate-requires
-    matchable-requires
+    complete-requires
     same-length-3
     same-length-4
     returns-2

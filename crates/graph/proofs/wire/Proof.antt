@@ -7,8 +7,8 @@ use Rattle.table.specs.Limits.{maxAtoms}
 use Rattle.table.specs.Cells.{end1, end2}
 use Rattle.graph.specs.Graph.{elidedFlag}
 use Rattle.graph.proofs.Sums.{row-cells, order-small, sumsTo, sums-none, sums-bound, second-bound, sums-step, two-ends}
-use Rattle.graph.proofs.fill_bonds.Statement.{statement}
-use Rattle.graph.proofs.fill_bonds.Tie as tie
+use Rattle.graph.proofs.wire.Statement.{statement}
+use Rattle.graph.proofs.wire.Tie as tie
 
 abbrev Inv-loop : tie.InvT-loop
 Inv-loop bonds m ea₀ eb₀ el₀ sums₀ i₀ ea eb el sums i =
@@ -226,8 +226,8 @@ returns c =
       v .3 ∙ simp d,
     )
 
-pub fill-bonds-spec : {M : Type 1} → statement M
-fill-bonds-spec =
+pub wire-spec : {M : Type 1} → statement M
+wire-spec =
     tie.close
     (tie.spec
     Inv-loop
