@@ -54,12 +54,22 @@ fn atom_row_ok(
 ) -> bool
     ensures { λ r. ⌜ r ≡ atomRowOk element selected isotope hydrogens charge extension ⌝ }
 {
-    cell::within(element, 0, 118)
-        & cell::within(isotope, 0, 999)
-        & cell::within(hydrogens, 0, 9)
-        & cell::within(charge, -9, 9)
-        & cell::within(extension, 0, 9999)
-        & selected_ok(element, selected)
+    if !cell::within(element, 0, 118) {
+        return false;
+    }
+    if !cell::within(isotope, 0, 999) {
+        return false;
+    }
+    if !cell::within(hydrogens, 0, 9) {
+        return false;
+    }
+    if !cell::within(charge, -9, 9) {
+        return false;
+    }
+    if !cell::within(extension, 0, 9999) {
+        return false;
+    }
+    selected_ok(element, selected)
 }
 
 // The row of an atom that the table may end before is valid.
