@@ -1,19 +1,18 @@
 -- One law for each way through the code of bridges. Assumes nothing.
-use Prim.Native.Nat.{ℕ, zero, suc, _+_, _-_, _<_, _≤_}
+use Prim.Native.Nat.{ℕ, _+_, _-_, _<_, _≤_}
 use native.Mathlib.Omega.{arith}
 use native.Mathlib.Numerals.{add-one}
 use mathlib.Core.Path.{_≡_, refl, sym, ap, _∙_, subst}
-use mathlib.Core.Bool.{Bool, true, false, not, _&&_, _||_}
+use mathlib.Core.Bool.{Bool, true, false}
 use mathlib.Core.List.{List, [], _∷_, _++_}
 use lib.ListN.{length, getD, set}
-use lib.Dec.{eqb, ltb}
+use lib.Dec.{eqb}
 use borrow.Author.Tests.{eqb-true, eqb-false, lt-ltb, le-ltb}
-use Rattle.loops.specs.Loop.{upTo}
 use Rattle.walk.specs.Token.{Bond, eqBond}
 use Rattle.walk.specs.Emit.{Slot, find, release, lowest, insert, closeAll, openAll}
 use Rattle.walk.proofs.Count.{count}
 use Rattle.walk.proofs.Read.{openOf, Within, first-in, close-within}
-use Rattle.pen.specs.Pen.{Pen, pen, Wrote}
+use Rattle.pen.specs.Pen.{Pen, Wrote}
 use Rattle.pen.proofs.Laws.{also, as-is, nothing}
 use Rattle.writing.specs.Spell.{kindBytes, bridgeBytes}
 use Rattle.rings.specs.Unused.{Marked}

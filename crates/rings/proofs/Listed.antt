@@ -1,9 +1,9 @@
 -- The arrays of unused bonds hold them in order. Assumes nothing.
-use Prim.Native.Nat.{ℕ, zero, suc, _+_, _-_, _<_, _≤_}
+use Prim.Native.Nat.{ℕ, zero, suc, _+_, _<_, _≤_}
 use native.Mathlib.Omega.{arith}
-use mathlib.Core.Path.{_≡_, refl, sym, ap, _∙_, subst}
-use mathlib.Core.Bool.{Bool, true, false, not, _&&_}
-use mathlib.Core.List.{List, [], _∷_, _++_, map}
+use mathlib.Core.Path.{_≡_, refl, sym, ap, _∙_}
+use mathlib.Core.Bool.{Bool, true, false, not}
+use mathlib.Core.List.{List, [], _∷_, map}
 use lib.ListN.{length, getD, set}
 use lib.Dec.{eqb}
 use borrow.Author.Tests.{eq-eqb}
@@ -15,7 +15,6 @@ use Rattle.walk.specs.Walk.{forestOf, renumber, renumbered, unused, keepIf, kee
 use Rattle.walk.specs.Check.{ends}
 use Rattle.walk.specs.Flat.{ups}
 use Rattle.walk.proofs.Count.{bit, count, All, none, more, all-map}
-use Rattle.walk.proofs.Walk.{Inside}
 use Rattle.walk.proofs.Trip.{inside-renumbered, inside-unused}
 use Rattle.walk.proofs.Twice.{Distinct}
 use Rattle.tour.specs.Tour.{lay, BondsFit}

@@ -1,13 +1,13 @@
 -- The bonds that the walk does not use, in three arrays (01, Writing: they become bridges)
-use Prim.Native.Nat.{ℕ, zero, suc, _+_, _<_, _≤_}
+use Prim.Native.Nat.{ℕ, suc, _<_, _≤_}
 use mathlib.Core.Path.{_≡_}
-use mathlib.Core.Bool.{Bool, true, false, not}
-use mathlib.Core.List.{List, [], _∷_}
+use mathlib.Core.Bool.{Bool}
+use mathlib.Core.List.{List}
 use lib.ListN.{length, getD, set}
 use lib.Dec.{eqb}
 use Rattle.loops.specs.Loop.{pick, upTo}
 use Rattle.table.specs.Limits.{maxAtoms, maxBonds}
-use Rattle.walk.specs.Token.{Bond, bond}
+use Rattle.walk.specs.Token.{Bond}
 use Rattle.walk.specs.Emit.{pre}
 use Rattle.walk.specs.Walk.{forestOf, place, renumber}
 use Rattle.walk.specs.Flat.{ups}

@@ -1,9 +1,9 @@
 // Bridges: the bonds that the walk does not use, the numbers that are open, and what is written of them at an atom.
 ghost use mathlib.Core.Path.{_≡_};
-ghost use mathlib.Core.List.{[], _∷_, _++_};
+ghost use mathlib.Core.List.{_++_};
 ghost use Prim.Native.Nat.{_+_, _<_, _≤_};
 ghost use lib.ListN.{length, set};
-ghost use Rattle.table.specs.Limits.{maxAtoms, maxBonds};
+ghost use Rattle.table.specs.Limits.{maxBonds};
 ghost use Rattle.pen.specs.Pen.{pen, Wrote};
 ghost use Rattle.writing.specs.Spell.{kindBytes, bridgeBytes};
 ghost use Rattle.rings.specs.Slots.{indexOf, Near, Closed, Opened};

@@ -5,21 +5,19 @@ use native.Mathlib.Numerals.{add-one}
 use mathlib.Core.Path.{_≡_, refl, sym, ap, _∙_, subst}
 use mathlib.Core.Bool.{Bool, true, false, cond}
 use mathlib.Core.List.{List, [], _∷_, _++_, append-assoc, append-nil}
-use lib.ListN.{length, getD, set, replicate, length-append, length-set, length-replicate}
+use lib.ListN.{length, getD, set, replicate, length-append, length-set}
 use lib.Seq.{getD-set-same, getD-set-other}
-use lib.Dec.{eqb}
-use borrow.Author.Tests.{eqb-true, eqb-false}
 use Rattle.loops.specs.Loop.{pick, upTo}
 use Rattle.walk.specs.Token.{Bond}
 use Rattle.walk.specs.Emit.{Forest, leaf, node, size, pre}
 use Rattle.walk.specs.Walk.{Way, way, member, ways, tour, walk, roots, forestOf, place}
 use Rattle.walk.specs.Flat.{kinds, ups}
-use Rattle.walk.proofs.Count.{All, none, more}
+use Rattle.walk.proofs.Count.{none}
 use Rattle.walk.proofs.Walk.{times, same-fuel, absent}
 use Rattle.walk.proofs.Trip.{size-length, renumbering}
-use Rattle.tour.specs.Tour.{lay, grow, unseen, markOf, BondsFit, Room, Stands, Sheet, sheet, Laid, Grown, rootForest, Walked}
+use Rattle.tour.specs.Tour.{lay, grow, markOf, BondsFit, Room, Stands, Sheet, sheet, Laid, Grown, rootForest, Walked}
 use Rattle.tour.proofs.Ways.{bonds-inside}
-use Rattle.tour.proofs.Seen.{unmarked, marked, room-left, stands-add, stands-cast, unseen-set}
+use Rattle.tour.proofs.Seen.{unmarked, marked, room-left, stands-add, stands-cast}
 use Rattle.tour.proofs.Laws.{lay-append, length-kinds, length-ups, laid-leaf, laid-node, seen-less}
 
 record Split (R F G : Forest) : Type 0 where

@@ -1,15 +1,15 @@
 -- The walk as it fills arrays: what stands in them after a part of the walk (01, Writing)
-use Prim.Native.Nat.{ℕ, zero, suc, _+_, _-_, _<_, _≤_}
+use Prim.Native.Nat.{ℕ, zero, suc, _-_, _<_, _≤_}
 use mathlib.Core.Path.{_≡_}
-use mathlib.Core.Bool.{Bool, true, false, _&&_, _||_}
+use mathlib.Core.Bool.{Bool, _||_}
 use mathlib.Core.List.{List, [], _∷_, _++_}
 use lib.ListN.{length, getD, set}
 use lib.Dec.{eqb}
 use Rattle.loops.specs.Loop.{pick, upTo}
 use Rattle.table.specs.Limits.{maxAtoms, maxBonds}
 use Rattle.walk.specs.Token.{Bond}
-use Rattle.walk.specs.Emit.{Forest, leaf, node, size, pre}
-use Rattle.walk.specs.Walk.{Way, way, member, ways, tour, walk, roots, forestOf, place}
+use Rattle.walk.specs.Emit.{Forest, pre}
+use Rattle.walk.specs.Walk.{Way, way, member, ways, tour, walk, forestOf, place}
 use Rattle.walk.specs.Flat.{kinds, ups}
 use Rattle.walk.proofs.Count.{All}
 use Rattle.walk.proofs.Walk.{Once}

@@ -1,14 +1,14 @@
 -- From the arrays to the definition of writing. Assumes nothing.
-use Prim.Native.Nat.{ℕ, zero, suc, _+_, _-_, _<_, _≤_}
+use Prim.Native.Nat.{ℕ, zero, suc, _+_, _<_, _≤_}
 use native.Mathlib.Omega.{arith}
 use mathlib.Core.Path.{_≡_, refl, sym, ap, _∙_, subst}
-use mathlib.Core.Bool.{Bool, true, false, not, _&&_}
+use mathlib.Core.Bool.{Bool, true, false, _&&_}
 use mathlib.Core.List.{List, [], _∷_, _++_}
 use lib.ListN.{length, getD, set, replicate, drop, length-replicate}
-use lib.IntN.{ℤ, pos, negsuc}
+use lib.IntN.{ℤ}
 use lib.Dec.{eqb, leb, lit≤}
 use borrow.Author.Tests.{eqb-true, eq-eqb}
-use Rattle.loops.specs.Loop.{pick, upTo, run}
+use Rattle.loops.specs.Loop.{upTo, run}
 use Rattle.loops.proofs.Loops.{length-upTo, upTo-at}
 use Rattle.table.specs.Limits.{maxAtoms, maxBonds, ISOTOPE, EXTENSION, ELEMENT}
 use Rattle.table.specs.Cells.{number, atomCell, end1, end2}
@@ -18,18 +18,17 @@ use Rattle.graph.specs.Graph.{bondSum}
 use Rattle.state.specs.Limits.{maxDepth}
 use Rattle.walk.specs.Token.{Bond, Tok}
 use Rattle.walk.specs.Emit.{Forest, leaf, node, size, pre, Slot, text, closeAll}
-use Rattle.walk.specs.Walk.{forestOf, place, member, relabel, closing, opening, unused, write}
+use Rattle.walk.specs.Walk.{forestOf, member, relabel, closing, opening, unused, write}
 use Rattle.walk.specs.Check.{ends, nests}
 use Rattle.walk.specs.Flat.{kinds, ups, flat, rowsOf}
 use Rattle.walk.proofs.Count.{bit, count, All, none, more, all-append, and-left, and-right}
-use Rattle.walk.proofs.Read.{openOf, pending}
 use Rattle.walk.proofs.Whole.{inv-start}
 use Rattle.walk.proofs.Trip.{renumbering, place-lt, size-length, back-of}
 use Rattle.walk.proofs.Twice.{Distinct}
 use Rattle.walk.proofs.Rows.{rows-text}
 use Rattle.writing.specs.Spell.{atomBytes, unbracketed, tokensBytes}
-use Rattle.writing.specs.Write.{bondAt, bondList, tokens, textOf, fewBridges, shallow}
-use Rattle.pen.specs.Pen.{Pen, Wrote}
+use Rattle.writing.specs.Write.{bondAt, bondList, tokens, textOf, fewBridges}
+use Rattle.pen.specs.Pen.{Pen}
 use Rattle.pen.proofs.Laws.{as-is}
 use Rattle.spell.specs.Fields.{AtomFits, outside, spelledAtom}
 use Rattle.tour.specs.Tour.{BondsFit, Room, Kept, Walked}
@@ -37,7 +36,7 @@ use Rattle.tour.specs.Wires.{wires, Wired}
 use Rattle.tour.proofs.Ways.{bonds-inside}
 use Rattle.tour.proofs.Wires.{fit-same, wired-at, wired-list}
 use Rattle.tour.proofs.Laws.{length-kinds, length-ups, room-kept}
-use Rattle.rings.specs.Slots.{Bridged, Slots, end, rest, closesFrom, opensFrom, closeBytes, openBytes}
+use Rattle.rings.specs.Slots.{Slots, end, rest, closesFrom, opensFrom, closeBytes, openBytes}
 use Rattle.rings.specs.Unused.{bag, addBond, inWalk, Numbered, BagRoom}
 use Rattle.rings.proofs.Listed.{Listed, listed}
 use Rattle.writer.specs.Emit.{Ready, headBytes, moreAt, leadBytes, Texted, Pending, bytesFrom, nextSlots}

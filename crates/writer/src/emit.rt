@@ -1,7 +1,6 @@
 // The bytes of a walk, one atom after the other.
-ghost use mathlib.Core.Path.{_≡_};
 ghost use mathlib.Core.Bool.{true};
-ghost use Prim.Native.Nat.{ℕ, _<_, _≤_};
+ghost use Prim.Native.Nat.{ℕ, _<_};
 ghost use lib.ListN.{length, replicate};
 ghost use Rattle.pen.specs.Pen.{pen, Wrote};
 ghost use Rattle.rings.specs.Unused.{Marked};
