@@ -32,7 +32,7 @@ wide v a b e =
     }
 
 -- lists that agree at each number
-upTo-ext : {A : Type 0} (f g : ℕ → A) (k n : ℕ) → ((j : ℕ) → j < k + n → f j ≡ g j) → upTo f k n ≡ upTo g k n
+pub upTo-ext : {A : Type 0} (f g : ℕ → A) (k n : ℕ) → ((j : ℕ) → j < k + n → f j ≡ g j) → upTo f k n ≡ upTo g k n
 unfolding upTo
 upTo-ext f g k zero h = refl
 upTo-ext f g k (suc n) h = rw (h k (omega arith), upTo-ext f g (suc k) n (λ j l. h j (omega arith)))

@@ -58,7 +58,7 @@ order-small k = go (eqb k 0) (leb k 3) refl
     go false true e = leb-true k 3 e
     go false false e = omega arith
 
-share-small : (bonds : List ℤ) (a b : ℕ) → share bonds a b ≤ 3
+pub share-small : (bonds : List ℤ) (a b : ℕ) → share bonds a b ≤ 3
 unfolding share
 share-small bonds a b = go (touches bonds a b)
   where
@@ -118,7 +118,7 @@ ends-two e f i x n = go (eqb e i) (eqb f i) refl refl
     go true false p q = add-zero x
     go false z p q = omega arith
 
-bond-at : (bonds : List ℤ) (b i : ℕ) (s : List ℕ) → i < length s → getD (withBond bonds b s) i 0 ≡ getD s i 0 + share bonds i b
+pub bond-at : (bonds : List ℤ) (b i : ℕ) (s : List ℕ) → i < length s → getD (withBond bonds b s) i 0 ≡ getD s i 0 + share bonds i b
 unfolding withBond share touches
 bond-at bonds b i s l = go (eqb e f) refl
   where
@@ -137,7 +137,7 @@ bond-at bonds b i s l = go (eqb e f) refl
         let w : i < length (bump s e x) = simp length-set l in
         omega (arith, bump-at (bump s e x) f x i w, bump-at s e x i l, ends-two e f i x (eqb-false e f h))
 
-bond-length : (bonds : List ℤ) (b : ℕ) (s : List ℕ) → length (withBond bonds b s) ≡ length s
+pub bond-length : (bonds : List ℤ) (b : ℕ) (s : List ℕ) → length (withBond bonds b s) ≡ length s
 unfolding withBond
 bond-length bonds b s = go (eqb (end1 bonds b) (end2 bonds b))
   where

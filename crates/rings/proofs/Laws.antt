@@ -1,23 +1,22 @@
 -- One law for each way through the code of bridges. Assumes nothing.
-use Prim.Native.Nat.{ℕ, zero, suc, _+_, _-_, _<_, _≤_}
+use Prim.Native.Nat.{ℕ, _+_, _-_, _<_, _≤_}
 use native.Mathlib.Omega.{arith}
 use native.Mathlib.Numerals.{add-one}
 use mathlib.Core.Path.{_≡_, refl, sym, ap, _∙_, subst}
-use mathlib.Core.Bool.{Bool, true, false, not, _&&_, _||_}
+use mathlib.Core.Bool.{Bool, true, false}
 use mathlib.Core.List.{List, [], _∷_, _++_}
 use lib.ListN.{length, getD, set}
-use lib.Dec.{eqb, ltb}
-use borrow.Author.Tests.{eqb-true, eqb-false, lt-ltb, le-ltb, not-false}
-use Rattle.loops.specs.Loop.{each, upTo}
-use Rattle.loops.proofs.Loops.{each-at}
+use lib.Dec.{eqb}
+use borrow.Author.Tests.{eqb-true, eqb-false, lt-ltb, le-ltb}
 use Rattle.walk.specs.Token.{Bond, eqBond}
 use Rattle.walk.specs.Emit.{Slot, find, release, lowest, insert, closeAll, openAll}
 use Rattle.walk.proofs.Count.{count}
 use Rattle.walk.proofs.Read.{openOf, Within, first-in, close-within}
-use Rattle.pen.specs.Pen.{Pen, pen, Wrote}
+use Rattle.pen.specs.Pen.{Pen, Wrote}
 use Rattle.pen.proofs.Laws.{also, as-is, nothing}
 use Rattle.writing.specs.Spell.{kindBytes, bridgeBytes}
-use Rattle.rings.specs.Slots.{indexOf, Near, offBond, isEnd, Bridged, Slots, closesFrom, opensFrom, closeBytes, openBytes, fits, Closed, Opened}
+use Rattle.rings.specs.Unused.{Marked}
+use Rattle.rings.specs.Slots.{indexOf, Near, Bridged, Slots, closesFrom, opensFrom, closeBytes, openBytes, fits, Closed, Opened}
 use Rattle.rings.proofs.Slots.{same-number, lowest-index, slots-insert, find-index, slots-release}
 use Rattle.rings.proofs.Sweep.{sweep-none, sweep-first}
 
@@ -136,21 +135,18 @@ module _ (los his kinds : List ℕ) (k x y i : ℕ) (near : Near los his x y k k
             );
       }
 
--- at an atom that is no end nothing closes and nothing opens
-off-ends : (a b : Bool) → not (a || b) ≡ true → (a ≡ false) × (b ≡ false)
-off-ends false false h = (refl, refl)
-off-ends false true h = (refl, sym h)
-off-ends true b h = (sym h, cc)
-
-module _ (los his : List ℕ) (k x : ℕ) (off : isEnd los his k x ≡ false) where
-  off-bond : (i : ℕ) → i < k → (eqb (getD los i 0) x ≡ false) × (eqb (getD his i 0) x ≡ false)
-  off-bond i h = off-ends (eqb (getD los i 0) x) (eqb (getD his i 0) x) (each-at (offBond los his x) k i (not-false (each (offBond los his x) 0 k) off) h)
-
-  near-none : (ends keys : List ℕ) → ((i : ℕ) → i < k → eqb (getD ends i 0) x ≡ false) → Near ends keys x 0 k k k
-  near-none ends keys n = record { within = omega arith; here = λ h. absurd (omega arith); least = λ i h e. absurd (eqb-false (getD ends i 0) x (n i h) e) }
+-- at an atom that is not marked nothing closes and nothing opens
+module _ (marks los his : List ℕ) (k x : ℕ) (m : Marked marks los his k) (off : getD marks x 0 ≡ 0) where
+  near-none : (ends keys : List ℕ) → ((i : ℕ) → i < k → 0 < getD marks (getD ends i 0) 0) → Near ends keys x 0 k k k
+  near-none ends keys n =
+      record {
+        within = omega arith;
+        here = λ h. absurd (omega arith);
+        least = λ i h e. absurd (let y : getD marks (getD ends i 0) 0 ≡ 0 = ap (λ (j : ℕ). getD marks j 0) e ∙ off in let z = n i h in omega arith);
+      }
 
   pub close-off : (a : List ℕ) (p : Pen) → Closed los his k x 0 a a p p
-  close-off a p = close-end los his k x 0 k (near-none his los (λ i h. off-bond i h .1)) a p (omega arith)
+  close-off a p = close-end los his k x 0 k (near-none his los (m .his)) a p (omega arith)
 
   pub open-off : (kinds a : List ℕ) (p : Pen) → Opened los his kinds k x 0 a a true p p
-  open-off kinds a p = open-end los his kinds k x 0 k (near-none los his (λ i h. off-bond i h .0)) a p (omega arith)
+  open-off kinds a p = open-end los his kinds k x 0 k (near-none los his (m .los)) a p (omega arith)

@@ -1,11 +1,10 @@
 -- The arrays of unused bonds hold them in order. Assumes nothing.
-use Prim.Native.Nat.{ℕ, zero, suc, _+_, _-_, _<_, _≤_}
+use Prim.Native.Nat.{ℕ, zero, suc, _+_, _<_, _≤_}
 use native.Mathlib.Omega.{arith}
-use mathlib.Core.Path.{_≡_, refl, sym, ap, _∙_, subst}
-use mathlib.Core.Bool.{Bool, true, false, not, _&&_}
-use mathlib.Core.List.{List, [], _∷_, _++_, map}
+use mathlib.Core.Path.{_≡_, refl, sym, ap, _∙_}
+use mathlib.Core.Bool.{Bool, true, false, not}
+use mathlib.Core.List.{List, [], _∷_, map}
 use lib.ListN.{length, getD, set}
-use lib.IntN.{ℤ}
 use lib.Dec.{eqb}
 use borrow.Author.Tests.{eq-eqb}
 use Rattle.loops.specs.Loop.{pick, run, upTo}
@@ -16,10 +15,8 @@ use Rattle.walk.specs.Walk.{forestOf, renumber, renumbered, unused, keepIf, kee
 use Rattle.walk.specs.Check.{ends}
 use Rattle.walk.specs.Flat.{ups}
 use Rattle.walk.proofs.Count.{bit, count, All, none, more, all-map}
-use Rattle.walk.proofs.Walk.{Inside}
 use Rattle.walk.proofs.Trip.{inside-renumbered, inside-unused}
 use Rattle.walk.proofs.Twice.{Distinct}
-use Rattle.writing.specs.Write.{bondAt, bondList}
 use Rattle.tour.specs.Tour.{lay, BondsFit}
 use Rattle.tour.proofs.Ways.{bonds-inside}
 use Rattle.tour.proofs.Roots.{laid-at}
@@ -127,29 +124,29 @@ field-at g U t t2 k e w r j y =
     sym (ap (λ (x : List ℕ). getD x j 0) w ∙ laid-at (map g U) t j (omega arith) (omega arith) ∙ map-place g U j (omega arith))
 
 -- the arrays, place by place
-pub record Listed (bonds : List ℤ) (n m : ℕ) (los his kinds : List ℕ) (k : ℕ) : Type 0 where
+pub record Listed (bs : List Bond) (n : ℕ) (los his kinds : List ℕ) (k : ℕ) : Type 0 where
   pub bond-at : ℕ → Bond
   pub few : k ≤ maxBonds
   pub bridged : Bridged bond-at n k los his
   pub kind-at : (i : ℕ) → i < k → bond-at i .kind ≡ getD kinds i 0
-  pub all : upTo bond-at 0 k ≡ unused n (bondList bonds m)
+  pub all : upTo bond-at 0 k ≡ unused n bs
 
-module _ {bonds : List ℤ} {n m : ℕ} {v u : List ℕ} (fit : BondsFit bonds n m) (distinct : Distinct (bondList bonds m)) (num : Numbered bonds n m v u) where
+module _ {bonds : ℕ → Bond} {n m : ℕ} {v u : List ℕ} (fit : BondsFit bonds n m) (distinct : Distinct (upTo bonds 0 m)) (num : Numbered (upTo bonds 0 m) n v u) where
   abbrev bs : List Bond
-  bs = bondList bonds m
+  bs = upTo bonds 0 m
 
   spare-list : keep (spare u (inWalk bonds n m)) (upTo (inWalk bonds n m) 0 m) ≡ unused n bs
   unfolding inWalk renumbered
   spare-list =
       let i = bonds-inside fit in
-      let e : map (renumber (pre (forestOf n bs))) bs ≡ upTo (λ b. renumber (pre (forestOf n bs)) (bondAt bonds b)) 0 m = upTo-map (renumber (pre (forestOf n bs))) (bondAt bonds) 0 m in
+      let e : map (renumber (pre (forestOf n bs))) bs ≡ upTo (λ b. renumber (pre (forestOf n bs)) (bonds b)) 0 m = upTo-map (renumber (pre (forestOf n bs))) bonds 0 m in
       sym (unused-is n bs i distinct
       ∙ keep-same (λ b. not (eqb (getD (ups (forestOf n bs) 0 0) (b .hi) 0) (suc (b .lo)))) (λ b. not (treeBond u b)) (renumbered n bs)
       (all-map (λ b. (b .lo < b .hi) × (b .hi < n)) (λ b. not (eqb (getD (ups (forestOf n bs) 0 0) (b .hi) 0) (suc (b .lo))) ≡ not (treeBond u b)) (λ b h. ap (λ (x : ℕ). not (eqb x (suc (b .lo)))) (sym (num .up (b .hi) (h .1)))) (renumbered n bs) (inside-renumbered n bs i))
       ∙ ap (keep (λ b. not (treeBond u b))) e)
 
   -- THE STATEMENT
-  pub listed : (l h q l2 h2 q2 : List ℕ) (k : ℕ) → BagRoom l h q → bag l2 h2 q2 k ≡ run (λ b. addBond u (inWalk bonds n m b)) 0 m (bag l h q 0) → Listed bonds n m l2 h2 q2 k
+  pub listed : (l h q l2 h2 q2 : List ℕ) (k : ℕ) → BagRoom l h q → bag l2 h2 q2 k ≡ run (λ b. addBond u (inWalk bonds n m b)) 0 m (bag l h q 0) → Listed (upTo bonds 0 m) n l2 h2 q2 k
   unfolding laid
   listed l h q l2 h2 q2 k room e =
       let U = unused n bs in

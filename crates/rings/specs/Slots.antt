@@ -1,11 +1,11 @@
 -- The bridges that are open, in an array: a slot holds 0, or the number of a bridge bond plus 1 (01, Writing)
-use Prim.Native.Nat.{ℕ, zero, suc, _+_, _-_, _<_, _≤_}
+use Prim.Native.Nat.{ℕ, suc, _-_, _<_, _≤_}
 use mathlib.Core.Path.{_≡_}
-use mathlib.Core.Bool.{Bool, true, false, not, _&&_, _||_}
+use mathlib.Core.Bool.{Bool, true, _&&_}
 use mathlib.Core.List.{List, [], _∷_, _++_}
 use lib.Dec.{eqb, ltb}
 use lib.ListN.{length, getD}
-use Rattle.loops.specs.Loop.{pick, each, upTo}
+use Rattle.loops.specs.Loop.{pick, upTo}
 use Rattle.walk.specs.Token.{Bond}
 use Rattle.walk.specs.Emit.{Slot, free, held, find, release, lowest, insert, closeAll, openAll}
 use Rattle.walk.specs.Walk.{keep, sweep}
@@ -23,14 +23,6 @@ pub record Near (ends keys : List ℕ) (x from k j r : ℕ) : Type 0 where
   pub within : r ≤ k
   pub here : r < k → (getD ends r 0 ≡ x) × (from ≤ getD keys r 0)
   pub least : (i : ℕ) → i < j → getD ends i 0 ≡ x → from ≤ getD keys i 0 → (r < k) × (getD keys r 0 ≤ getD keys i 0)
-
--- x is no end of the bond i
-abbrev pub offBond : List ℕ → List ℕ → ℕ → ℕ → Bool
-offBond los his x i = not (eqb (getD los i 0) x || eqb (getD his i 0) x)
-
--- x is an end of one of the first k bonds
-abbrev pub isEnd : List ℕ → List ℕ → ℕ → ℕ → Bool
-isEnd los his k x = not (each (offBond los his x) 0 k)
 
 -- k bonds between n atoms, by number: their ends stand in two arrays, and no two have the same ends
 pub record Bridged (f : ℕ → Bond) (n k : ℕ) (los his : List ℕ) : Type 0 where

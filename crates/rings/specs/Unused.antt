@@ -1,18 +1,16 @@
 -- The bonds that the walk does not use, in three arrays (01, Writing: they become bridges)
-use Prim.Native.Nat.{ℕ, zero, suc, _+_, _<_, _≤_}
+use Prim.Native.Nat.{ℕ, suc, _<_, _≤_}
 use mathlib.Core.Path.{_≡_}
-use mathlib.Core.Bool.{Bool, true, false, not}
-use mathlib.Core.List.{List, [], _∷_}
+use mathlib.Core.Bool.{Bool}
+use mathlib.Core.List.{List}
 use lib.ListN.{length, getD, set}
-use lib.IntN.{ℤ}
 use lib.Dec.{eqb}
-use Rattle.loops.specs.Loop.{pick, run}
+use Rattle.loops.specs.Loop.{pick, upTo}
 use Rattle.table.specs.Limits.{maxAtoms, maxBonds}
-use Rattle.walk.specs.Token.{Bond, bond}
+use Rattle.walk.specs.Token.{Bond}
 use Rattle.walk.specs.Emit.{pre}
 use Rattle.walk.specs.Walk.{forestOf, place, renumber}
 use Rattle.walk.specs.Flat.{ups}
-use Rattle.writing.specs.Write.{bondAt, bondList}
 
 -- three arrays, and how many of their places are used
 pub record Bag : Type 0 where
@@ -33,14 +31,14 @@ unfoldable pub addBond : List ℕ → Bond → Bag → Bag
 addBond up b g = pick (treeBond up b) g (bag (set (g .los) (g .used) (b .lo)) (set (g .his) (g .used) (b .hi)) (set (g .kinds) (g .used) (b .kind)) (suc (g .used)))
 
 -- the bond b in walk numbers
-unfoldable pub inWalk : List ℤ → ℕ → ℕ → ℕ → Bond
-inWalk bonds n m b = renumber (pre (forestOf n (bondList bonds m))) (bondAt bonds b)
+unfoldable pub inWalk : (ℕ → Bond) → ℕ → ℕ → ℕ → Bond
+inWalk bonds n m b = renumber (pre (forestOf n (upTo bonds 0 m))) (bonds b)
 
--- the walk numbers plus 1, and the parents' walk numbers plus 1
-pub record Numbered (bonds : List ℤ) (n m : ℕ) (v u : List ℕ) : Type 0 where
-  pub number : (a : ℕ) → a < n → getD v a 0 ≡ suc (place (pre (forestOf n (bondList bonds m))) a)
-  pub up : (x : ℕ) → x < n → getD u x 0 ≡ getD (ups (forestOf n (bondList bonds m)) 0 0) x 0
-  pub below : (a : ℕ) → a < n → place (pre (forestOf n (bondList bonds m))) a < n
+-- the walk numbers plus 1, and the parents' walk numbers plus 1, of a walk along a list of bonds
+pub record Numbered (bs : List Bond) (n : ℕ) (v u : List ℕ) : Type 0 where
+  pub number : (a : ℕ) → a < n → getD v a 0 ≡ suc (place (pre (forestOf n bs)) a)
+  pub up : (x : ℕ) → x < n → getD u x 0 ≡ getD (ups (forestOf n bs) 0 0) x 0
+  pub below : (a : ℕ) → a < n → place (pre (forestOf n bs)) a < n
   pub numbers : maxAtoms ≤ length v
   pub ups : maxAtoms ≤ length u
 
@@ -49,3 +47,9 @@ pub record BagRoom (l h k : List ℕ) : Type 0 where
   pub los : maxBonds ≤ length l
   pub his : maxBonds ≤ length h
   pub kinds : maxBonds ≤ length k
+
+-- the ends of the first k bonds are marked in an array by walk number
+pub record Marked (marks l h : List ℕ) (k : ℕ) : Type 0 where
+  pub room : maxAtoms ≤ length marks
+  pub los : (i : ℕ) → i < k → 0 < getD marks (getD l i 0) 0
+  pub his : (i : ℕ) → i < k → 0 < getD marks (getD h i 0) 0

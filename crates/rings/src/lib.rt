@@ -1,12 +1,12 @@
 // Bridges: the bonds that the walk does not use, the numbers that are open, and what is written of them at an atom.
 ghost use mathlib.Core.Path.{_≡_};
-ghost use mathlib.Core.List.{[], _∷_, _++_};
+ghost use mathlib.Core.List.{_++_};
 ghost use Prim.Native.Nat.{_+_, _<_, _≤_};
 ghost use lib.ListN.{length, set};
-ghost use Rattle.table.specs.Limits.{maxAtoms, maxBonds};
+ghost use Rattle.table.specs.Limits.{maxBonds};
 ghost use Rattle.pen.specs.Pen.{pen, Wrote};
 ghost use Rattle.writing.specs.Spell.{kindBytes, bridgeBytes};
-ghost use Rattle.rings.specs.Slots.{indexOf, Near, isEnd, Closed, Opened};
+ghost use Rattle.rings.specs.Slots.{indexOf, Near, Closed, Opened};
 
 pub mod unused;
 
@@ -72,21 +72,6 @@ fn nearest(ends: &[u16], keys: &[u16], k: usize, x: usize, from: usize) -> usize
         i += 1;
     }
     best
-}
-
-// internal: whether the atom x is an end of one of the first k bonds.
-pub fn is_end(los: &[u16], his: &[u16], k: usize, x: usize) -> bool
-    requires { ⌜ (k ≤ length (now los)) × (k ≤ length (now his)) ⌝ }
-    ensures { λ r. ⌜ r ≡ isEnd (now (los .entry)) (now (his .entry)) k x ⌝ }
-{
-    let mut i = 0;
-    while i < k {
-        if (los[i] as usize == x) | (his[i] as usize == x) {
-            return true;
-        }
-        i += 1;
-    }
-    false
 }
 
 // A bridge number is written, and its slot gets x.

@@ -2,22 +2,23 @@
 ghost use mathlib.Core.Path.{_≡_};
 ghost use Prim.Native.Nat.{_-_, _<_, _≤_};
 ghost use lib.ListN.{length};
-ghost use Rattle.loops.specs.Loop.{run};
+ghost use Rattle.loops.specs.Loop.{run, upTo};
 ghost use Rattle.table.specs.Limits.{maxAtoms, maxBonds};
 ghost use Rattle.walk.specs.Token.{bond};
 ghost use Rattle.tour.specs.Tour.{BondsFit};
-ghost use Rattle.rings.specs.Unused.{bag, addBond, inWalk, Numbered, BagRoom};
+ghost use Rattle.tour.specs.Wires.{wires};
+ghost use Rattle.rings.specs.Unused.{bag, addBond, inWalk, Numbered, BagRoom, Marked};
 use ids::BondId;
-use table::FIRST;
-use table::KIND;
-use table::SECOND;
+use table::MAX_ATOMS;
+use table::MAX_BONDS;
 
-// A bond between two atoms, by their walk numbers plus 1, is added unless it joins an atom to its parent.
+// A bond between two atoms, by their walk numbers plus 1, is added, and its ends are marked, unless it joins an atom to its parent.
 fn add_bond(
     up: &[u16],
     los: &mut [u16],
     his: &mut [u16],
     kinds: &mut [u8],
+    marks: &mut [u8; MAX_ATOMS],
     p: usize,
     q: usize,
     kind: usize,
@@ -25,24 +26,31 @@ fn add_bond(
 ) -> usize
     requires { ⌜ maxAtoms ≤ length (now up) ⌝ }
     requires { ⌜ BagRoom (now los) (now his) (now kinds) ⌝ }
+    requires { ⌜ Marked (now marks) (now los) (now his) used ⌝ }
     requires { ⌜ (0 < p) × (p < q) ⌝ }
     requires { ⌜ (q ≤ maxAtoms) × (used < maxBonds) ⌝ }
     requires { ⌜ kind < 4 ⌝ }
     ensures { λ r. ⌜ bag (now (los .exit)) (now (his .exit)) (now (kinds .exit)) r ≡ addBond (now (up .entry)) (bond (p - 1) (q - 1) kind) (bag (now (los .entry)) (now (his .entry)) (now (kinds .entry)) used) ⌝ }
+    ensures { λ r. ⌜ Marked (now (marks .exit)) (now (los .exit)) (now (his .exit)) r ⌝ }
 {
+    let low = p - 1;
     let high = q - 1;
     if up[high] as usize == p {
         return used;
     }
-    los[used] = (p - 1) as u16;
+    los[used] = low as u16;
     his[used] = high as u16;
     kinds[used] = kind as u8;
+    marks[low] = 1;
+    marks[high] = 1;
     used + 1
 }
 
 // A bond, in walk numbers, is added unless the walk uses it.
 fn add_unused(
-    bonds: &[i32],
+    ea: &[u16; MAX_BONDS],
+    eb: &[u16; MAX_BONDS],
+    ks: &[u8; MAX_BONDS],
     n: usize,
     m: usize,
     number: &[u16],
@@ -50,29 +58,35 @@ fn add_unused(
     los: &mut [u16],
     his: &mut [u16],
     kinds: &mut [u8],
+    marks: &mut [u8; MAX_ATOMS],
     b: BondId,
     used: usize,
 ) -> usize
-    requires { ⌜ BondsFit (now bonds) n m ⌝ }
-    requires { ⌜ Numbered (now bonds) n m (now number) (now up) ⌝ }
+    requires { ⌜ BondsFit (wires (now ea) (now eb) (now ks)) n m ⌝ }
+    requires { ⌜ Numbered (upTo (wires (now ea) (now eb) (now ks)) 0 m) n (now number) (now up) ⌝ }
     requires { ⌜ BagRoom (now los) (now his) (now kinds) ⌝ }
+    requires { ⌜ Marked (now marks) (now los) (now his) used ⌝ }
     requires { ⌜ (b .0 < m) × (used < maxBonds) ⌝ }
-    ensures { λ r. ⌜ bag (now (los .exit)) (now (his .exit)) (now (kinds .exit)) r ≡ addBond (now (up .entry)) (inWalk (now (bonds .entry)) n m (b .0)) (bag (now (los .entry)) (now (his .entry)) (now (kinds .entry)) used) ⌝ }
+    ensures { λ r. ⌜ bag (now (los .exit)) (now (his .exit)) (now (kinds .exit)) r ≡ addBond (now (up .entry)) (inWalk (wires (now (ea .entry)) (now (eb .entry)) (now (ks .entry))) n m (b .0)) (bag (now (los .entry)) (now (his .entry)) (now (kinds .entry)) used) ⌝ }
+    ensures { λ r. ⌜ Marked (now (marks .exit)) (now (los .exit)) (now (his .exit)) r ⌝ }
 {
-    let e = table::cell::bond_number(bonds, b, FIRST);
-    let f = table::cell::bond_number(bonds, b, SECOND);
-    let kind = table::cell::bond_number(bonds, b, KIND);
+    let i = b.0;
+    let e = ea[i] as usize;
+    let f = eb[i] as usize;
+    let kind = ks[i] as usize;
     let p = number[e] as usize;
     let q = number[f] as usize;
     if p < q {
-        return add_bond(up, los, his, kinds, p, q, kind, used);
+        return add_bond(up, los, his, kinds, marks, p, q, kind, used);
     }
-    add_bond(up, los, his, kinds, q, p, kind, used)
+    add_bond(up, los, his, kinds, marks, q, p, kind, used)
 }
 
-// internal: the bonds that the walk does not use, in walk numbers, by ascending number. How many there are.
+// internal: the bonds that the walk does not use, in walk numbers, by ascending number, and a mark at each walk number that is an end of one. How many there are.
 pub fn unused(
-    bonds: &[i32],
+    ea: &[u16; MAX_BONDS],
+    eb: &[u16; MAX_BONDS],
+    ks: &[u8; MAX_BONDS],
     n: usize,
     m: usize,
     number: &[u16],
@@ -80,16 +94,33 @@ pub fn unused(
     los: &mut [u16],
     his: &mut [u16],
     kinds: &mut [u8],
+    marks: &mut [u8; MAX_ATOMS],
 ) -> usize
-    requires { ⌜ BondsFit (now bonds) n m ⌝ }
-    requires { ⌜ Numbered (now bonds) n m (now number) (now up) ⌝ }
+    requires { ⌜ BondsFit (wires (now ea) (now eb) (now ks)) n m ⌝ }
+    requires { ⌜ Numbered (upTo (wires (now ea) (now eb) (now ks)) 0 m) n (now number) (now up) ⌝ }
     requires { ⌜ BagRoom (now los) (now his) (now kinds) ⌝ }
-    ensures { λ r. ⌜ bag (now (los .exit)) (now (his .exit)) (now (kinds .exit)) r ≡ run (λ b. addBond (now (up .entry)) (inWalk (now (bonds .entry)) n m b)) 0 m (bag (now (los .entry)) (now (his .entry)) (now (kinds .entry)) 0) ⌝ }
+    requires { ⌜ maxAtoms ≤ length (now marks) ⌝ }
+    ensures { λ r. ⌜ bag (now (los .exit)) (now (his .exit)) (now (kinds .exit)) r ≡ run (λ b. addBond (now (up .entry)) (inWalk (wires (now (ea .entry)) (now (eb .entry)) (now (ks .entry))) n m b)) 0 m (bag (now (los .entry)) (now (his .entry)) (now (kinds .entry)) 0) ⌝ }
+    ensures { λ r. ⌜ Marked (now (marks .exit)) (now (los .exit)) (now (his .exit)) r ⌝ }
 {
     let mut used = 0;
     let mut b = 0;
     while b < m {
-        used = add_unused(bonds, n, m, number, up, los, his, kinds, BondId(b), used);
+        used = add_unused(
+            ea,
+            eb,
+            ks,
+            n,
+            m,
+            number,
+            up,
+            los,
+            his,
+            kinds,
+            marks,
+            BondId(b),
+            used,
+        );
         b += 1;
     }
     used

@@ -6,8 +6,7 @@ use mathlib.Core.Path.{_≡_, refl, sym, ap, _∙_, subst}
 use mathlib.Core.Bool.{true, false}
 use mathlib.Core.List.{List, [], _∷_, _++_, append-assoc, append-nil}
 use lib.ListN.{length, getD, set, length-append, length-set}
-use lib.IntN.{ℤ}
-use Rattle.table.specs.Cells.{kind}
+use Rattle.walk.specs.Token.{Bond}
 use Rattle.walk.specs.Emit.{Forest, leaf, node, size, pre}
 use Rattle.walk.specs.Walk.{member}
 use Rattle.walk.specs.Flat.{kinds, ups}
@@ -63,7 +62,7 @@ seen-less v1 v2 a count h e q =
 laid-cast : (n p : ℕ) (F G : Forest) (s : List ℕ) (x y : Sheet) → F ≡ G → Laid n p G s x y → Laid n p F s x y
 laid-cast n p F G s x y e l = subst (λ (H : Forest). Laid n p H s x y) (sym e) l
 
-module _ {bonds : List ℤ} {n m : ℕ} (fit : BondsFit bonds n m) where
+module _ {bonds : ℕ → Bond} {n m : ℕ} (fit : BondsFit bonds n m) where
   -- from the next bond at an atom, so from any number before it
   pub grown-from : (p v from r : ℕ) (x y : Sheet) → from ≤ m → r ≡ firstFrom (touching bonds v) from (m - from) → Grown n p (grow bonds n m v r) x y → Grown n p (grow bonds n m v from) x y
   grown-from p v from r x y h e g =
@@ -107,7 +106,7 @@ module _ {bonds : List ℤ} {n m : ℕ} (fit : BondsFit bonds n m) where
       at-full l = record { fewer = omega arith; laid = λ s st. absurd (let g = room-left n a count s v1 st below (apart s st) in omega arith) }
 
       -- the other end is visited, then the rest
-      pub at-new : (k : ℕ) (o2 v2 u2 q2 : List ℕ) (y z : Sheet) → k ≡ kind bonds b → n ≤ length v1
+      pub at-new : (k : ℕ) (o2 v2 u2 q2 : List ℕ) (y z : Sheet) → k ≡ bonds b .kind → n ≤ length v1
           → o2 ≡ set o count a → v2 ≡ set v1 a (count + 1) → u2 ≡ set u count (hub + 1) → q2 ≡ set q count k
           → Grown n (suc count) (grow bonds n m a 0) (sheet o2 v2 u2 q2 (count + 1)) y → Grown n (suc hub) (grow bonds n m v r) y z
           → Grown n (suc hub) (grow bonds n m v b) (sheet o v1 u q count) z
@@ -137,16 +136,16 @@ module _ {bonds : List ℤ} {n m : ℕ} (fit : BondsFit bonds n m) where
               (laid-node n (suc hub) a k f g s o v1 v2 u q count y z (st .long) l1′ l2)
 
 -- the walk at v stands at the bond b: what is left from there is what is left from the start
-pub record Left (bonds : List ℤ) (n m v hub from b : ℕ) (x y : Sheet) : Type 0 where
+pub record Left (bonds : ℕ → Bond) (n m v hub from b : ℕ) (x y : Sheet) : Type 0 where
   pub within : b ≤ m
   pub here : b < m → touching bonds v b ≡ true
   pub fewer : unseen (y .number) ≤ unseen (x .number)
   pub rest : (z : Sheet) → Grown n (suc hub) (grow bonds n m v b) y z → Grown n (suc hub) (grow bonds n m v from) x z
 
-pub left-start : (bonds : List ℤ) (n m v hub from : ℕ) (x : Sheet) → from ≤ m → (from < m → touching bonds v from ≡ true) → Left bonds n m v hub from from x x
+pub left-start : (bonds : ℕ → Bond) (n m v hub from : ℕ) (x : Sheet) → from ≤ m → (from < m → touching bonds v from ≡ true) → Left bonds n m v hub from from x x
 left-start bonds n m v hub from x h here = record { within = h; here = here; fewer = omega arith; rest = λ z g. g }
 
-module _ {bonds : List ℤ} {n m : ℕ} (fit : BondsFit bonds n m) {v hub from b : ℕ} where
+module _ {bonds : ℕ → Bond} {n m : ℕ} (fit : BondsFit bonds n m) {v hub from b : ℕ} where
   pub left-end : (x y : Sheet) → Left bonds n m v hub from b x y → m ≤ b → Grown n (suc hub) (grow bonds n m v from) x y
   left-end x y l h = l .rest y (at-end fit (suc hub) v b y h)
 
@@ -157,7 +156,7 @@ module _ {bonds : List ℤ} {n m : ℕ} (fit : BondsFit bonds n m) {v hub from b
         record { within = after .high; here = after .here; fewer = l .fewer; rest = λ t g. l .rest t (at-seen fit v b r h (l .here h) found (suc hub) y t z e k g) }
 
     pub left-new : (x : Sheet) (o v1 u q : List ℕ) (count : ℕ) → Left bonds n m v hub from b x (sheet o v1 u q count)
-        → (a k hd : ℕ) → a ≡ otherEnd bonds b v → getD v1 a 0 ≡ 0 → k ≡ kind bonds b → hd ≡ firstFrom (touching bonds a) 0 (m - 0) → n ≤ length v1
+        → (a k hd : ℕ) → a ≡ otherEnd bonds b v → getD v1 a 0 ≡ 0 → k ≡ bonds b .kind → hd ≡ firstFrom (touching bonds a) 0 (m - 0) → n ≤ length v1
         → (o2 v2 u2 q2 : List ℕ) → o2 ≡ set o count a → v2 ≡ set v1 a (count + 1) → u2 ≡ set u count (hub + 1) → q2 ≡ set q count k
         → (y : Sheet) → Grown n (suc count) (grow bonds n m a hd) (sheet o2 v2 u2 q2 (count + 1)) y
         → Left bonds n m v hub from r x y

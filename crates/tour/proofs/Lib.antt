@@ -1,5 +1,6 @@
 pub mod Ways
 pub mod Lists
+pub mod Wires
 pub mod Seen
 pub mod Laws
 pub mod Roots

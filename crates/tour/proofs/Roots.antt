@@ -5,23 +5,19 @@ use native.Mathlib.Numerals.{add-one}
 use mathlib.Core.Path.{_≡_, refl, sym, ap, _∙_, subst}
 use mathlib.Core.Bool.{Bool, true, false, cond}
 use mathlib.Core.List.{List, [], _∷_, _++_, append-assoc, append-nil}
-use lib.ListN.{length, getD, set, replicate, length-append, length-set, length-replicate}
+use lib.ListN.{length, getD, set, replicate, length-append, length-set}
 use lib.Seq.{getD-set-same, getD-set-other}
-use lib.IntN.{ℤ}
-use lib.Dec.{eqb}
-use borrow.Author.Tests.{eqb-true, eqb-false}
 use Rattle.loops.specs.Loop.{pick, upTo}
 use Rattle.walk.specs.Token.{Bond}
 use Rattle.walk.specs.Emit.{Forest, leaf, node, size, pre}
 use Rattle.walk.specs.Walk.{Way, way, member, ways, tour, walk, roots, forestOf, place}
 use Rattle.walk.specs.Flat.{kinds, ups}
-use Rattle.walk.proofs.Count.{All, none, more}
+use Rattle.walk.proofs.Count.{none}
 use Rattle.walk.proofs.Walk.{times, same-fuel, absent}
 use Rattle.walk.proofs.Trip.{size-length, renumbering}
-use Rattle.writing.specs.Write.{bondAt, bondList}
-use Rattle.tour.specs.Tour.{lay, grow, unseen, markOf, BondsFit, Room, Stands, Sheet, sheet, Laid, Grown, rootForest, Walked}
+use Rattle.tour.specs.Tour.{lay, grow, markOf, BondsFit, Room, Stands, Sheet, sheet, Laid, Grown, rootForest, Walked}
 use Rattle.tour.proofs.Ways.{bonds-inside}
-use Rattle.tour.proofs.Seen.{unmarked, marked, room-left, stands-add, stands-cast, unseen-set}
+use Rattle.tour.proofs.Seen.{unmarked, marked, room-left, stands-add, stands-cast}
 use Rattle.tour.proofs.Laws.{lay-append, length-kinds, length-ups, laid-leaf, laid-node, seen-less}
 
 record Split (R F G : Forest) : Type 0 where
@@ -29,24 +25,24 @@ record Split (R F G : Forest) : Type 0 where
   pub kind : kinds F ≡ kinds R ++ kinds G
   pub up : (c : ℕ) → ups F 0 c ≡ ups R 0 c ++ ups G 0 (c + size R)
 
-module _ (bonds : List ℤ) (n m : ℕ) where
+module _ (bonds : ℕ → Bond) (n m : ℕ) where
   -- the roots that are left, after the first of them
   abbrev left : ℕ → List ℕ → Forest
-  left a s = tour (walk (bondList bonds m) n) (roots a (n - a)) s
+  left a s = tour (walk (upTo bonds 0 m) n) (roots a (n - a)) s
 
   -- the loop stands before the root a
   pub record Sofar (x : Sheet) (a : ℕ) (y : Sheet) : Type 0 where
     pub within : a ≤ n
     pub seen : List ℕ
     pub stands : Stands n seen (y .count) (y .number)
-    pub whole : seen ++ pre (left a seen) ≡ pre (forestOf n (bondList bonds m))
-    pub order : lay (y .count) (pre (left a seen)) (y .order) ≡ lay 0 (pre (forestOf n (bondList bonds m))) (x .order)
-    pub kind : lay (y .count) (kinds (left a seen)) (y .kind) ≡ lay 0 (kinds (forestOf n (bondList bonds m))) (x .kind)
-    pub up : lay (y .count) (ups (left a seen) 0 (y .count)) (y .up) ≡ lay 0 (ups (forestOf n (bondList bonds m)) 0 0) (x .up)
+    pub whole : seen ++ pre (left a seen) ≡ pre (forestOf n (upTo bonds 0 m))
+    pub order : lay (y .count) (pre (left a seen)) (y .order) ≡ lay 0 (pre (forestOf n (upTo bonds 0 m))) (x .order)
+    pub kind : lay (y .count) (kinds (left a seen)) (y .kind) ≡ lay 0 (kinds (forestOf n (upTo bonds 0 m))) (x .kind)
+    pub up : lay (y .count) (ups (left a seen) 0 (y .count)) (y .up) ≡ lay 0 (ups (forestOf n (upTo bonds 0 m)) 0 0) (x .up)
 
-module _ {bonds : List ℤ} {n m : ℕ} (fit : BondsFit bonds n m) where
+module _ {bonds : ℕ → Bond} {n m : ℕ} (fit : BondsFit bonds n m) where
   abbrev bs : List Bond
-  bs = bondList bonds m
+  bs = upTo bonds 0 m
 
   root-seen : (a : ℕ) (s : List ℕ) → member a s ≡ true → rootForest bonds n m a s ≡ leaf
   unfolding rootForest
@@ -56,7 +52,7 @@ module _ {bonds : List ℤ} {n m : ℕ} (fit : BondsFit bonds n m) where
   unfolding rootForest grow
   root-fresh a s e =
       let z : m - 0 ≡ m = omega arith in
-      let g : walk bs n a (s ++ (a ∷ [])) ≡ tour (walk bs n) (ways a (upTo (bondAt bonds) 0 (m - 0))) (s ++ (a ∷ [])) = same-fuel n bs (bonds-inside fit) a (s ++ (a ∷ [])) ∙ simp z in
+      let g : walk bs n a (s ++ (a ∷ [])) ≡ tour (walk bs n) (ways a (upTo bonds 0 (m - 0))) (s ++ (a ∷ [])) = same-fuel n bs (bonds-inside fit) a (s ++ (a ∷ [])) ∙ simp z in
       rw (e, g)
 
   module _ (o v u q : List ℕ) (count a : ℕ) (h : a < n) where
@@ -175,11 +171,11 @@ lay-at (y ∷ l) k t (suc x) h g =
 pub laid-at : (l t : List ℕ) (x : ℕ) → x < length l → length l ≤ length t → getD (lay 0 l t) x 0 ≡ getD l x 0
 laid-at l t x h g = let z : 0 + x ≡ x = omega arith in rw z at (lay-at l 0 t x h (omega arith))
 
-module _ {bonds : List ℤ} {n m : ℕ} (fit : BondsFit bonds n m) where
-  pub sofar-end : (o v u k : List ℕ) (y : Sheet) (a : ℕ) → n ≤ a → Room o v u k → Sofar bonds n m (sheet o v u k 0) a y → Walked bonds n m (y .order) (y .number) (y .up) (y .kind)
+module _ {bonds : ℕ → Bond} {n m : ℕ} (fit : BondsFit bonds n m) where
+  pub sofar-end : (o v u k : List ℕ) (y : Sheet) (a : ℕ) → n ≤ a → Room o v u k → Sofar bonds n m (sheet o v u k 0) a y → Walked (upTo bonds 0 m) n (y .order) (y .number) (y .up) (y .kind)
   unfolding markOf lay
   sofar-end o v u k y a h room b =
-      let bs = bondList bonds m in
+      let bs = upTo bonds 0 m in
       let F = forestOf n bs in
       let z : n - a ≡ 0 = omega arith in
       let r = renumbering n bs (bonds-inside fit) in

@@ -1,24 +1,22 @@
 -- The walk as it fills arrays: what stands in them after a part of the walk (01, Writing)
-use Prim.Native.Nat.{ℕ, zero, suc, _+_, _-_, _<_, _≤_}
+use Prim.Native.Nat.{ℕ, zero, suc, _-_, _<_, _≤_}
 use mathlib.Core.Path.{_≡_}
-use mathlib.Core.Bool.{Bool, true, false, _&&_, _||_}
+use mathlib.Core.Bool.{Bool, _||_}
 use mathlib.Core.List.{List, [], _∷_, _++_}
 use lib.ListN.{length, getD, set}
-use lib.IntN.{ℤ}
 use lib.Dec.{eqb}
 use Rattle.loops.specs.Loop.{pick, upTo}
 use Rattle.table.specs.Limits.{maxAtoms, maxBonds}
-use Rattle.table.specs.Cells.{end1, end2, kind}
-use Rattle.walk.specs.Emit.{Forest, leaf, node, size, pre}
-use Rattle.walk.specs.Walk.{Way, way, member, ways, tour, walk, roots, forestOf, place}
+use Rattle.walk.specs.Token.{Bond}
+use Rattle.walk.specs.Emit.{Forest, pre}
+use Rattle.walk.specs.Walk.{Way, way, member, ways, tour, walk, forestOf, place}
 use Rattle.walk.specs.Flat.{kinds, ups}
 use Rattle.walk.proofs.Count.{All}
 use Rattle.walk.proofs.Walk.{Once}
-use Rattle.writing.specs.Write.{bondAt, bondList}
 
 -- a bond has the atom v as an end
-unfoldable pub touching : List ℤ → ℕ → ℕ → Bool
-touching bonds v b = eqb (end1 bonds b) v || eqb (end2 bonds b) v
+unfoldable pub touching : (ℕ → Bond) → ℕ → ℕ → Bool
+touching bonds v b = eqb (bonds b .lo) v || eqb (bonds b .hi) v
 
 -- the first of d numbers from k on that passes, or k + d
 unfoldable pub firstFrom : (ℕ → Bool) → ℕ → ℕ → ℕ
@@ -26,12 +24,12 @@ firstFrom p k zero = k
 firstFrom p k (suc d) = pick (p k) k (firstFrom p (suc k) d)
 
 -- the other end of the bond b, seen from v
-unfoldable pub otherEnd : List ℤ → ℕ → ℕ → ℕ
-otherEnd bonds b v = pick (eqb (end1 bonds b) v) (end2 bonds b) (end1 bonds b)
+abbrev pub otherEnd : (ℕ → Bond) → ℕ → ℕ → ℕ
+otherEnd bonds b v = pick (eqb (bonds b .lo) v) (bonds b .hi) (bonds b .lo)
 
 -- the next bond at v behind the bond b, told by two arrays: at the first end and at the second end of each bond
-unfoldable pub nextAfter : List ℤ → List ℕ → List ℕ → ℕ → ℕ → ℕ
-nextAfter bonds after behind b v = pick (eqb (end1 bonds b) v) (getD after b 0) (getD behind b 0)
+abbrev pub nextAfter : (ℕ → Bond) → List ℕ → List ℕ → ℕ → ℕ → ℕ
+nextAfter bonds after behind b v = pick (eqb (bonds b .lo) v) (getD after b 0) (getD behind b 0)
 
 -- a list laid over an array from the place k on
 unfoldable pub lay : ℕ → List ℕ → List ℕ → List ℕ
@@ -39,12 +37,12 @@ lay k [] t = t
 lay k (x ∷ l) t = lay (suc k) l (set t k x)
 
 -- the bonds at v from the number b on, in ascending number
-abbrev pub waysFrom : List ℤ → ℕ → ℕ → ℕ → List Way
-waysFrom bonds m v b = ways v (upTo (bondAt bonds) b (m - b))
+abbrev pub waysFrom : (ℕ → Bond) → ℕ → ℕ → ℕ → List Way
+waysFrom bonds m v b = ways v (upTo bonds b (m - b))
 
 -- the forest that the walk adds at the atom v from the bond number b on, s being visited
-unfoldable pub grow : List ℤ → ℕ → ℕ → ℕ → ℕ → List ℕ → Forest
-grow bonds n m v b s = tour (walk (bondList bonds m) n) (waysFrom bonds m v b) s
+unfoldable pub grow : (ℕ → Bond) → ℕ → ℕ → ℕ → ℕ → List ℕ → Forest
+grow bonds n m v b s = tour (walk (upTo bonds 0 m) n) (waysFrom bonds m v b) s
 
 -- the walk number of an atom plus 1, 0 before it is visited
 unfoldable pub markOf : List ℕ → ℕ → ℕ
@@ -56,17 +54,17 @@ unseen [] = 0
 unseen (x ∷ t) = pick (eqb x 0) (suc (unseen t)) (unseen t)
 
 -- the bonds join atoms below n, and their kinds are small
-pub record BondsFit (bonds : List ℤ) (n m : ℕ) : Type 0 where
+pub record BondsFit (bonds : ℕ → Bond) (n m : ℕ) : Type 0 where
   pub few-atoms : n ≤ maxAtoms
   pub few-bonds : m ≤ maxBonds
-  pub ends : (b : ℕ) → b < m → (end1 bonds b < end2 bonds b) × (end2 bonds b < n)
-  pub kinds : (b : ℕ) → b < m → kind bonds b < 4
+  pub ends : (b : ℕ) → b < m → (bonds b .lo < bonds b .hi) × (bonds b .hi < n)
+  pub kinds : (b : ℕ) → b < m → bonds b .kind < 4
 
 -- the bonds from b on as lists: the first one at each atom, and behind each bond the next one at either end; m where there is none
-pub record Linked (bonds : List ℤ) (m b : ℕ) (head after behind : List ℕ) : Type 0 where
+pub record Linked (bonds : ℕ → Bond) (m b : ℕ) (head after behind : List ℕ) : Type 0 where
   pub heads : (v : ℕ) → v < maxAtoms → getD head v 0 ≡ firstFrom (touching bonds v) b (m - b)
-  pub afters : (c : ℕ) → b ≤ c → c < m → getD after c 0 ≡ firstFrom (touching bonds (end1 bonds c)) (suc c) (m - suc c)
-  pub behinds : (c : ℕ) → b ≤ c → c < m → getD behind c 0 ≡ firstFrom (touching bonds (end2 bonds c)) (suc c) (m - suc c)
+  pub afters : (c : ℕ) → b ≤ c → c < m → getD after c 0 ≡ firstFrom (touching bonds (bonds c .lo)) (suc c) (m - suc c)
+  pub behinds : (c : ℕ) → b ≤ c → c < m → getD behind c 0 ≡ firstFrom (touching bonds (bonds c .hi)) (suc c) (m - suc c)
 
 -- the arrays have room
 pub record Room (o v u k : List ℕ) : Type 0 where
@@ -113,12 +111,12 @@ pub record Grown (n p : ℕ) (F : List ℕ → Forest) (x y : Sheet) : Type 0 wh
   pub laid : (s : List ℕ) → Stands n s (x .count) (x .number) → Laid n p (F s) s x y
 
 -- a root: the atom a, if it was not visited
-unfoldable pub rootForest : List ℤ → ℕ → ℕ → ℕ → List ℕ → Forest
-rootForest bonds n m a s = tour (walk (bondList bonds m) n) (way a 0 ∷ []) s
+unfoldable pub rootForest : (ℕ → Bond) → ℕ → ℕ → ℕ → List ℕ → Forest
+rootForest bonds n m a s = tour (walk (upTo bonds 0 m) n) (way a 0 ∷ []) s
 
--- the arrays of a whole walk
-pub record Walked (bonds : List ℤ) (n m : ℕ) (o v u k : List ℕ) : Type 0 where
-  pub order : (x : ℕ) → x < n → getD o x 0 ≡ getD (pre (forestOf n (bondList bonds m))) x 0
-  pub number : (a : ℕ) → a < n → getD v a 0 ≡ suc (place (pre (forestOf n (bondList bonds m))) a)
-  pub up : (x : ℕ) → x < n → getD u x 0 ≡ getD (ups (forestOf n (bondList bonds m)) 0 0) x 0
-  pub kind : (x : ℕ) → x < n → getD k x 0 ≡ getD (kinds (forestOf n (bondList bonds m))) x 0
+-- the arrays of a whole walk along a list of bonds
+pub record Walked (bs : List Bond) (n : ℕ) (o v u k : List ℕ) : Type 0 where
+  pub order : (x : ℕ) → x < n → getD o x 0 ≡ getD (pre (forestOf n bs)) x 0
+  pub number : (a : ℕ) → a < n → getD v a 0 ≡ suc (place (pre (forestOf n bs)) a)
+  pub up : (x : ℕ) → x < n → getD u x 0 ≡ getD (ups (forestOf n bs) 0 0) x 0
+  pub kind : (x : ℕ) → x < n → getD k x 0 ≡ getD (kinds (forestOf n bs)) x 0

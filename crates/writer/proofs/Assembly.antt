@@ -1,15 +1,15 @@
 -- From the arrays to the definition of writing. Assumes nothing.
-use Prim.Native.Nat.{ℕ, zero, suc, _+_, _-_, _<_, _≤_}
+use Prim.Native.Nat.{ℕ, zero, suc, _+_, _<_, _≤_}
 use native.Mathlib.Omega.{arith}
 use mathlib.Core.Path.{_≡_, refl, sym, ap, _∙_, subst}
-use mathlib.Core.Bool.{Bool, true, false, not, _&&_}
+use mathlib.Core.Bool.{Bool, true, false, _&&_}
 use mathlib.Core.List.{List, [], _∷_, _++_}
-use lib.ListN.{length, getD, set, replicate, drop}
-use lib.IntN.{ℤ, pos, negsuc}
+use lib.ListN.{length, getD, set, replicate, drop, length-replicate}
+use lib.IntN.{ℤ}
 use lib.Dec.{eqb, leb, lit≤}
 use borrow.Author.Tests.{eqb-true, eq-eqb}
-use Rattle.loops.specs.Loop.{pick, upTo, run}
-use Rattle.loops.proofs.Loops.{upTo-at}
+use Rattle.loops.specs.Loop.{upTo, run}
+use Rattle.loops.proofs.Loops.{length-upTo, upTo-at}
 use Rattle.table.specs.Limits.{maxAtoms, maxBonds, ISOTOPE, EXTENSION, ELEMENT}
 use Rattle.table.specs.Cells.{number, atomCell, end1, end2}
 use Rattle.table.specs.Valid.{Valid, sameEnds}
@@ -18,29 +18,30 @@ use Rattle.graph.specs.Graph.{bondSum}
 use Rattle.state.specs.Limits.{maxDepth}
 use Rattle.walk.specs.Token.{Bond, Tok}
 use Rattle.walk.specs.Emit.{Forest, leaf, node, size, pre, Slot, text, closeAll}
-use Rattle.walk.specs.Walk.{forestOf, place, member, relabel, closing, opening, unused, write}
+use Rattle.walk.specs.Walk.{forestOf, member, relabel, closing, opening, unused, write}
 use Rattle.walk.specs.Check.{ends, nests}
 use Rattle.walk.specs.Flat.{kinds, ups, flat, rowsOf}
 use Rattle.walk.proofs.Count.{bit, count, All, none, more, all-append, and-left, and-right}
-use Rattle.walk.proofs.Read.{openOf, pending}
 use Rattle.walk.proofs.Whole.{inv-start}
 use Rattle.walk.proofs.Trip.{renumbering, place-lt, size-length, back-of}
 use Rattle.walk.proofs.Twice.{Distinct}
 use Rattle.walk.proofs.Rows.{rows-text}
 use Rattle.writing.specs.Spell.{atomBytes, unbracketed, tokensBytes}
-use Rattle.writing.specs.Write.{bondAt, bondList, tokens, textOf, fewBridges, shallow}
-use Rattle.pen.specs.Pen.{Pen, Wrote}
+use Rattle.writing.specs.Write.{bondAt, bondList, tokens, textOf, fewBridges}
+use Rattle.pen.specs.Pen.{Pen}
 use Rattle.pen.proofs.Laws.{as-is}
 use Rattle.spell.specs.Fields.{AtomFits, outside, spelledAtom}
-use Rattle.tour.specs.Tour.{BondsFit, Room, Walked}
+use Rattle.tour.specs.Tour.{BondsFit, Room, Kept, Walked}
+use Rattle.tour.specs.Wires.{wires, Wired}
 use Rattle.tour.proofs.Ways.{bonds-inside}
-use Rattle.tour.proofs.Laws.{length-kinds, length-ups}
-use Rattle.rings.specs.Slots.{Bridged, Slots, end, rest, closesFrom, opensFrom, closeBytes, openBytes}
-use Rattle.rings.specs.Unused.{Numbered, BagRoom}
-use Rattle.rings.proofs.Listed.{Listed}
+use Rattle.tour.proofs.Wires.{fit-same, wired-at, wired-list}
+use Rattle.tour.proofs.Laws.{length-kinds, length-ups, room-kept}
+use Rattle.rings.specs.Slots.{Slots, end, rest, closesFrom, opensFrom, closeBytes, openBytes}
+use Rattle.rings.specs.Unused.{bag, addBond, inWalk, Numbered, BagRoom}
+use Rattle.rings.proofs.Listed.{Listed, listed}
 use Rattle.writer.specs.Emit.{Ready, headBytes, moreAt, leadBytes, Texted, Pending, bytesFrom, nextSlots}
 use Rattle.writer.specs.Nest.{nestFrom, depthAfter}
-use Rattle.writer.specs.Told.{Said}
+use Rattle.writer.specs.Told.{Held, Counted, Said}
 use Rattle.writer.proofs.Emission.{bridges-inside}
 use Rattle.writer.proofs.Tokens.{laterOne, headAt, text-bytes, few-from}
 use Rattle.writer.proofs.Nesting.{more-at}
@@ -71,7 +72,7 @@ module _ {A : Type 0} (p : A → Bool) (f : ℕ → A) where
 
 -- what valid tables give
 module _ {atoms bonds : List ℤ} {n m : ℕ} (v : Valid atoms bonds n m) where
-  pub fit : BondsFit bonds n m
+  pub fit : BondsFit (bondAt bonds) n m
   fit = record { few-atoms = v .few-atoms; few-bonds = v .few-bonds; ends = λ b h. (let r = bond-row v b h in (r .order, r .second)); kinds = λ b h. (let r = kind-small v b h in omega arith) }
 
   pub distinct : Distinct (bondList bonds m)
@@ -98,7 +99,7 @@ module _ {atoms bonds : List ℤ} {n m : ℕ} (v : Valid atoms bonds n m) where
   pub long-walk : length (pre F) ≡ n
   long-walk = renumbering n (bondList bonds m) (bonds-inside fit) .long
 
-  pub numbered : {o w u k : List ℕ} → Room o w u k → Walked bonds n m o w u k → Numbered bonds n m w u
+  pub numbered : {o w u k : List ℕ} → Room o w u k → Walked (bondList bonds m) n o w u k → Numbered (bondList bonds m) n w u
   numbered r d =
       record {
         number = d .number;
@@ -151,7 +152,7 @@ nest-same u w p q n (suc d) x depth l e g =
     let z : depthAfter depth (getD u x 0) (p x) x ≡ depthAfter depth (getD w x 0) (q x) x = λ i. depthAfter depth (e x (omega arith) i) (g x (omega arith) i) x in
     (λ i. leb (z i) maxDepth && nestFrom u p (suc x) d (z i)) ∙ ap (λ (b : Bool). leb (depthAfter depth (getD w x 0) (q x) x) maxDepth && b) (nest-same u w p q n d (suc x) (depthAfter depth (getD w x 0) (q x) x) (omega arith) e g)
 
-module _ {atoms bonds : List ℤ} {n m : ℕ} (v : Valid atoms bonds n m) {o w u kd : List ℕ} (room : Room o w u kd) (walked : Walked bonds n m o w u kd) where
+module _ {atoms bonds : List ℤ} {n m : ℕ} (v : Valid atoms bonds n m) {o w u kd : List ℕ} (room : Room o w u kd) (walked : Walked (bondList bonds m) n o w u kd) where
   abbrev G : Forest
   G = forestOf n (bondList bonds m)
 
@@ -191,7 +192,7 @@ module _ {atoms bonds : List ℤ} {n m : ℕ} (v : Valid atoms bonds n m) {o w u
       }
 
   -- THE STATEMENT
-  pub said : (last sums los his kds l0 : List ℕ) (k : ℕ) (few flat? : Bool) (p q : Pen) → Listed bonds n m los his kds k → ((a : ℕ) → a < n → getD sums a 0 ≡ bondSum bonds m a)
+  pub said : (last sums los his kds l0 : List ℕ) (k : ℕ) (few flat? : Bool) (p q : Pen) → Listed (bondList bonds m) n los his kds k → ((a : ℕ) → a < n → getD sums a 0 ≡ bondSum bonds m a)
       → maxAtoms < length l0 → last ≡ run (λ x l. set l (getD u x 0) x) 0 n l0
       → Texted (headBytes atoms o u kd last sums) los his kds n k (replicate 99 0) few p q → flat? ≡ nestFrom u (moreAt u last) 0 n 0 → Said atoms bonds n m few flat? p q
   unfolding tokens write textOf
@@ -225,6 +226,22 @@ module _ {atoms bonds : List ℤ} {n m : ℕ} (v : Valid atoms bonds n m) {o w u
         text = λ y. as-is tb (T .1 y);
       }
 
+-- the same from the arrays of the bonds
+module _ {atoms bonds : List ℤ} {n m : ℕ} {o w u kd ea eb ks sums : List ℕ} (h : Held atoms bonds n m o w u kd ea eb ks sums) where
+  pub held-fit : BondsFit (wires ea eb ks) n m
+  held-fit = fit-same (wired-at (h .wired)) (fit (h .valid))
+
+  pub held-numbered : Numbered (upTo (wires ea eb ks) 0 m) n w u
+  held-numbered = subst (λ (bs : List Bond). Numbered bs n w u) (sym (wired-list (h .wired))) (numbered (h .valid) (h .room) (h .walked))
+
+  pub held-sums : length sums ≡ maxAtoms
+  held-sums = ap length (h .summed) ∙ length-upTo (bondSum bonds m) 0 maxAtoms
+
+  pub held-listed : {l j q l2 h2 q2 : List ℕ} {k : ℕ} → BagRoom l j q → bag l2 h2 q2 k ≡ run (λ b. addBond u (inWalk (wires ea eb ks) n m b)) 0 m (bag l j q 0) → Listed (bondList bonds m) n l2 h2 q2 k
+  held-listed {l} {j} {q} {l2} {h2} {q2} {k} r e =
+      let d : Distinct (upTo (wires ea eb ks) 0 m) = subst Distinct (sym (wired-list (h .wired))) (distinct (h .valid)) in
+      subst (λ (bs : List Bond). Listed bs n l2 h2 q2 k) (wired-list (h .wired)) (listed held-fit d held-numbered l j q l2 h2 q2 k r e)
+
 -- the arrays that writing makes have room
 pub bag-zeros : BagRoom (replicate 250 0) (replicate 250 0) (replicate 250 0)
 bag-zeros = record { los = lit≤ tt; his = lit≤ tt; kinds = lit≤ tt }
@@ -232,5 +249,21 @@ bag-zeros = record { los = lit≤ tt; his = lit≤ tt; kinds = lit≤ tt }
 pub sums-at : (sums : List ℕ) (g : ℕ → ℕ) (n l : ℕ) → sums ≡ upTo g 0 l → n ≤ l → (a : ℕ) → a < n → getD sums a 0 ≡ g a
 sums-at sums g n l e h a i = ap (λ (s : List ℕ). getD s a 0) e ∙ upTo-at g l a 0 (omega arith)
 
-pub room-zeros : Room (replicate 200 0) (replicate 200 0) (replicate 200 0) (replicate 200 0)
-room-zeros = record { order = lit≤ tt; number = lit≤ tt; up = lit≤ tt; kind = lit≤ tt }
+-- the numbers begin as zeros
+module _ {number : List ℕ} (e : number ≡ replicate maxAtoms 0) where
+  long-zeros : length number ≡ maxAtoms
+  long-zeros = ap length e ∙ length-replicate {A = ℕ} maxAtoms 0
+
+  pub same-zeros : number ≡ replicate (length number) 0
+  same-zeros = e ∙ ap (λ (k : ℕ). replicate k 0) (sym long-zeros)
+
+  pub room-zeros : Room (replicate maxAtoms 0) number (replicate maxAtoms 0) (replicate maxAtoms 0)
+  room-zeros = record { order = lit≤ tt; number = omega (arith, long-zeros); up = lit≤ tt; kind = lit≤ tt }
+
+  -- what the walk leaves
+  module _ {bonds : List ℤ} {n m : ℕ} {o w u k : List ℕ} (kept : Kept (replicate maxAtoms 0) number (replicate maxAtoms 0) (replicate maxAtoms 0) o w u k) (walked : Walked (bondList bonds m) n o w u k) where
+    pub held : {atoms : List ℤ} {ea eb ks sums : List ℕ} → Valid atoms bonds n m → Wired bonds m 0 ea eb ks → sums ≡ upTo (bondSum bonds m) 0 maxAtoms → Held atoms bonds n m o w u k ea eb ks sums
+    held v wired summed = record { valid = v; room = room-kept room-zeros kept; walked = walked; wired = wired; summed = summed }
+
+    pub counted : Counted bonds n m w
+    counted = record { long = kept .number ∙ long-zeros; place-at = walked .number }

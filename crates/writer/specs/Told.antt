@@ -1,12 +1,21 @@
 -- 01, When a call says no: the code and the values of each answer of writing
-use Prim.Native.Nat.{ℕ}
 use mathlib.Core.Path.{_≡_}
 use mathlib.Core.Bool.{Bool, true}
 use mathlib.Core.List.{List}
+use Prim.Native.Nat.{ℕ, suc, _<_}
+use lib.ListN.{length, getD}
 use lib.IntN.{ℤ}
+use Rattle.loops.specs.Loop.{upTo}
 use Rattle.refusal.specs.Code.{codeOf}
+use Rattle.table.specs.Limits.{maxAtoms}
+use Rattle.table.specs.Valid.{Valid}
+use Rattle.graph.specs.Graph.{bondSum}
+use Rattle.walk.specs.Emit.{pre}
+use Rattle.walk.specs.Walk.{forestOf, place}
 use Rattle.pen.specs.Pen.{Pen, Wrote}
-use Rattle.writing.specs.Write.{Told, tokens, textOf, fewBridges, shallow}
+use Rattle.writing.specs.Write.{Told, bondList, tokens, textOf, fewBridges, shallow}
+use Rattle.tour.specs.Tour.{Room, Walked}
+use Rattle.tour.specs.Wires.{Wired}
 use Rattle.writer.specs.declared.Written.{Written}
 use Rattle.writer.specs.declared.Written.the-variants.{Text, Refused}
 
@@ -20,3 +29,16 @@ pub record Said (atoms bonds : List ℤ) (n m : ℕ) (few flat : Bool) (p q : Pe
   pub numbers : few ≡ fewBridges (tokens bonds n m)
   pub depth : flat ≡ shallow (tokens bonds n m)
   pub text : few ≡ true → Wrote (textOf atoms bonds n m) p q
+
+-- arrays hold the walk of a molecule, its bonds and its bond sums
+pub record Held (atoms bonds : List ℤ) (n m : ℕ) (order number up kind ea eb ks sums : List ℕ) : Type 0 where
+  pub valid : Valid atoms bonds n m
+  pub room : Room order number up kind
+  pub walked : Walked (bondList bonds m) n order number up kind
+  pub wired : Wired bonds m 0 ea eb ks
+  pub summed : sums ≡ upTo (bondSum bonds m) 0 maxAtoms
+
+-- an array holds each atom's walk number plus 1
+pub record Counted (bonds : List ℤ) (n m : ℕ) (number : List ℕ) : Type 0 where
+  pub long : length number ≡ maxAtoms
+  pub place-at : (a : ℕ) → a < n → getD number a 0 ≡ suc (place (pre (forestOf n (bondList bonds m))) a)

@@ -1,12 +1,13 @@
 // The bytes of a walk, one atom after the other.
-ghost use mathlib.Core.Path.{_≡_};
 ghost use mathlib.Core.Bool.{true};
-ghost use Prim.Native.Nat.{ℕ, _<_, _≤_};
-ghost use lib.ListN.{length};
+ghost use Prim.Native.Nat.{ℕ, _<_};
+ghost use lib.ListN.{length, replicate};
 ghost use Rattle.pen.specs.Pen.{pen, Wrote};
+ghost use Rattle.rings.specs.Unused.{Marked};
 ghost use Rattle.writer.specs.Emit.{leaveBytes, enterBytes, leadBytes, headBytes, Ready, Emitted, Texted};
 use ids::AtomId;
 use rings::Spot;
+use table::MAX_ATOMS;
 
 // A branch is left before a child that is not the first.
 fn leave(out: &mut [u8], at: usize, up: usize, x: usize) -> usize
@@ -54,6 +55,7 @@ fn emit_atom(
     los: &[u16],
     his: &[u16],
     kinds: &[u8],
+    marks: &[u8; MAX_ATOMS],
     k: usize,
     slots: &mut [u16],
     x: usize,
@@ -61,6 +63,7 @@ fn emit_atom(
     at: usize,
 ) -> Spot
     requires { ⌜ Ready (now atoms) (now order) (now up) (now kind) (now last) (now sums) (now los) (now his) (now kinds) k x ⌝ }
+    requires { ⌜ Marked (now marks) (now los) (now his) k ⌝ }
     requires { ⌜ length (now slots) < 100 ⌝ }
     ensures { λ r. ⌜ Emitted (now (atoms .entry)) (now (order .entry)) (now (up .entry)) (now (kind .entry)) (now (last .entry)) (now (sums .entry)) (now (los .entry)) (now (his .entry)) (now (kinds .entry)) k x (now (slots .entry)) (now (slots .exit)) (r .few) (pen (now (out .entry)) at) (pen (now (out .exit)) (r .at)) ⌝ }
 {
@@ -69,7 +72,7 @@ fn emit_atom(
     let more = last[u] as usize != x;
     let at = lead(out, at, x, u, more, kind[x] as usize);
     let at = spell::fields::atom(atoms, AtomId(a), sums[a] as usize, out, at);
-    if !rings::is_end(los, his, k, x) {
+    if marks[x] == 0 {
         return Spot { few: true, at };
     }
     let at = rings::close_from(los, his, k, x, 0, slots, out, at);
@@ -88,14 +91,15 @@ pub fn emit(
     los: &[u16],
     his: &[u16],
     kinds: &[u8],
+    marks: &[u8; MAX_ATOMS],
     k: usize,
-    slots: &mut [u16],
     out: &mut [u8],
 ) -> Spot
     requires { ⌜ ((x : ℕ) → x < n → Ready (now atoms) (now order) (now up) (now kind) (now last) (now sums) (now los) (now his) (now kinds) k x) ⌝ }
-    requires { ⌜ length (now slots) < 100 ⌝ }
-    ensures { λ r. ⌜ Texted (headBytes (now (atoms .entry)) (now (order .entry)) (now (up .entry)) (now (kind .entry)) (now (last .entry)) (now (sums .entry))) (now (los .entry)) (now (his .entry)) (now (kinds .entry)) n k (now (slots .entry)) (r .few) (pen (now (out .entry)) 0) (pen (now (out .exit)) (r .at)) ⌝ }
+    requires { ⌜ Marked (now marks) (now los) (now his) k ⌝ }
+    ensures { λ r. ⌜ Texted (headBytes (now (atoms .entry)) (now (order .entry)) (now (up .entry)) (now (kind .entry)) (now (last .entry)) (now (sums .entry))) (now (los .entry)) (now (his .entry)) (now (kinds .entry)) n k (replicate 99 0) (r .few) (pen (now (out .entry)) 0) (pen (now (out .exit)) (r .at)) ⌝ }
 {
+    let mut slots = [0u16; 99];
     let mut at = 0;
     let mut x = 0;
     while x < n {
@@ -109,8 +113,9 @@ pub fn emit(
             los,
             his,
             kinds,
+            marks,
             k,
-            slots,
+            &mut slots,
             x,
             out,
             at,

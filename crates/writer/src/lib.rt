@@ -1,16 +1,16 @@
 // Writing: the public call, and the bytes of a walk.
 ghost use mathlib.Core.Path.{_≡_};
-ghost use mathlib.Core.List.{_++_};
+ghost use mathlib.Core.List.{List, _++_};
 ghost use Prim.Native.Nat.{ℕ, _-_, _<_, _≤_};
 ghost use lib.ListN.{length, getD, take, drop, replicate};
+ghost use lib.IntN.{ℤ};
 ghost use Rattle.loops.specs.Loop.{upTo};
 ghost use Rattle.table.specs.Limits.{maxAtoms};
 ghost use Rattle.state.specs.Limits.{maxText};
 ghost use Rattle.writing.specs.Write.{writeValid, writeOf};
 ghost use Rattle.table.specs.Valid.{Valid};
-ghost use Rattle.tour.specs.Tour.{Walked, Room};
 ghost use Rattle.pen.specs.Pen.{pen};
-ghost use Rattle.writer.specs.Told.{Said, told};
+ghost use Rattle.writer.specs.Told.{Held, Counted, Said, told};
 use refusal::Refusal;
 use table::MAX_ATOMS;
 use table::MAX_BONDS;
@@ -34,32 +34,43 @@ struct Verdict {
     at: usize,
 }
 
-// The text of a walk, into a buffer from its start.
-fn text(
+// The text of a walk that stands in arrays, into a buffer from its start.
+fn draw(
     atoms: &[i32],
-    bonds: &[i32],
     n: usize,
     m: usize,
     order: &[u16],
     number: &[u16],
     up: &[u16],
     kind: &[u8],
+    ea: &[u16; MAX_BONDS],
+    eb: &[u16; MAX_BONDS],
+    ks: &[u8; MAX_BONDS],
+    sums: &[u16],
     out: &mut [u8],
 ) -> Verdict
-    requires { ⌜ Valid (now atoms) (now bonds) n m ⌝ }
-    requires { ⌜ Room (now order) (now number) (now up) (now kind) ⌝ }
-    requires { ⌜ Walked (now bonds) n m (now order) (now number) (now up) (now kind) ⌝ }
-    ensures { λ r. ⌜ Said (now (atoms .entry)) (now (bonds .entry)) n m (r .few) (r .flat) (pen (now (out .entry)) 0) (pen (now (out .exit)) (r .at)) ⌝ }
+    requires { ⌜ ((bonds : List ℤ) × Held (now atoms) bonds n m (now order) (now number) (now up) (now kind) (now ea) (now eb) (now ks) (now sums)) ⌝ }
+    ensures { λ r. ⌜ ((bonds : List ℤ) → Held (now (atoms .entry)) bonds n m (now (order .entry)) (now (number .entry)) (now (up .entry)) (now (kind .entry)) (now (ea .entry)) (now (eb .entry)) (now (ks .entry)) (now (sums .entry)) → Said (now (atoms .entry)) bonds n m (r .few) (r .flat) (pen (now (out .entry)) 0) (pen (now (out .exit)) (r .at))) ⌝ }
 {
     let mut los = [0u16; MAX_BONDS];
     let mut his = [0u16; MAX_BONDS];
     let mut kinds = [0u8; MAX_BONDS];
-    let k = rings::unused::unused(bonds, n, m, number, up, &mut los, &mut his, &mut kinds);
-    let mut sums = [0u16; MAX_ATOMS];
-    graph::fill_sums(bonds, m, &mut sums);
+    let mut marks = [0u8; MAX_ATOMS];
+    let k = rings::unused::unused(
+        ea,
+        eb,
+        ks,
+        n,
+        m,
+        number,
+        up,
+        &mut los,
+        &mut his,
+        &mut kinds,
+        &mut marks,
+    );
     let mut last = [0u16; MAX_ATOMS + 1];
     nest::last_children(up, n, &mut last);
-    let mut slots = [0u16; 99];
     let spot = emit::emit(
         atoms,
         n,
@@ -67,20 +78,69 @@ fn text(
         up,
         kind,
         &last,
-        &sums,
+        sums,
         &los,
         &his,
         &kinds,
+        &marks,
         k,
-        &mut slots,
         out,
     );
-    let flat = nest::is_shallow(up, &last, n);
     Verdict {
         few: spot.few,
-        flat,
+        flat: nest::is_shallow(up, &last, n),
         at: spot.at,
     }
+}
+
+// The text of a molecule, into a buffer from its start, and each atom's walk number plus 1.
+fn text(
+    atoms: &[i32],
+    bonds: &[i32],
+    n: usize,
+    m: usize,
+    number: &mut [u16; MAX_ATOMS],
+    out: &mut [u8],
+) -> Verdict
+    requires { ⌜ Valid (now atoms) (now bonds) n m ⌝ }
+    requires { ⌜ now number ≡ replicate maxAtoms 0 ⌝ }
+    ensures { λ r. ⌜ Said (now (atoms .entry)) (now (bonds .entry)) n m (r .few) (r .flat) (pen (now (out .entry)) 0) (pen (now (out .exit)) (r .at)) ⌝ }
+    ensures { λ _. ⌜ Counted (now (bonds .entry)) n m (now (number .exit)) ⌝ }
+{
+    let mut order = [0u16; MAX_ATOMS];
+    let mut up = [0u16; MAX_ATOMS];
+    let mut kind = [0u8; MAX_ATOMS];
+    let mut ea = [0u16; MAX_BONDS];
+    let mut eb = [0u16; MAX_BONDS];
+    let mut ks = [0u8; MAX_BONDS];
+    let mut sums = [0u16; MAX_ATOMS];
+    tour::walk(
+        bonds,
+        n,
+        m,
+        &mut order,
+        number,
+        &mut up,
+        &mut kind,
+        &mut ea,
+        &mut eb,
+        &mut ks,
+        &mut sums,
+    );
+    draw(
+        atoms,
+        n,
+        m,
+        &order,
+        number,
+        &up,
+        &kind,
+        &ea,
+        &eb,
+        &ks,
+        &sums,
+        out,
+    )
 }
 
 // Zeros from a place on.
@@ -152,22 +212,8 @@ pub fn write_valid(
     requires { ⌜ (maxText ≤ length (now out)) × (maxAtoms ≤ length (now ren)) ⌝ }
     ensures { λ r. ⌜ told r (now (out .exit)) (now (ren .exit)) ≡ writeValid (now (atoms .entry)) (now (bonds .entry)) n m (now (out .entry)) (now (ren .entry)) ⌝ }
 {
-    let mut order = [0u16; MAX_ATOMS];
     let mut number = [0u16; MAX_ATOMS];
-    let mut up = [0u16; MAX_ATOMS];
-    let mut kind = [0u8; MAX_ATOMS];
-    tour::walk(bonds, n, m, &mut order, &mut number, &mut up, &mut kind);
-    let verdict = text(
-        atoms,
-        bonds,
-        n,
-        m,
-        &order,
-        &number,
-        &up,
-        &kind,
-        &mut out[..MAX_TEXT],
-    );
+    let verdict = text(atoms, bonds, n, m, &mut number, &mut out[..MAX_TEXT]);
     let few = verdict.few;
     let flat = verdict.flat;
     let at = verdict.at;

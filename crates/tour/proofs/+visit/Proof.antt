@@ -3,36 +3,35 @@ use Prim.Native.Nat.{ℕ, _+_, _-_, _<_}
 use native.Mathlib.Omega.{arith}
 use borrow.Fn.Kinds.{In}
 use borrow.Fn.PlainCycle.{Measures, is, falls, and}
+use mathlib.Core.Path.{refl}
 use lib.ListN.{getD}
 use Rattle.table.specs.Limits.{maxAtoms}
 use Rattle.tour.specs.Tour.{unseen, Kept, sheet}
+use Rattle.tour.specs.Wires.{wires}
 use Rattle.tour.proofs.Ways.{other-below}
 use Rattle.tour.proofs.Lists.{head-within, head-here, after-within, next-after-is, next-after-later}
 use Rattle.tour.proofs.Laws.{Left, left-start, left-end, left-seen, left-new, left-full, seen-less, kept-same, kept-then, kept-set, room-kept}
 use Rattle.tour.proofs.visit.Reads as visit
 use Rattle.tour.proofs.visit.Kinds as visit-kinds
 use Rattle.tour.proofs.+visit.Lts-visit as visit-lts
-use Rattle.table.proofs.cell.bond_number.Reads as bond-number-reads
 use Rattle.tour.proofs.add.Reads as add-reads
 use Rattle.tour.proofs.follow.Reads as follow-reads
 use Rattle.tour.proofs.+visit.{statement}
 use Rattle.tour.proofs.+visit.Tie.{close}
 
-abbrev μ-visit : Measures 8 visit-kinds.ps ℕ
-μ-visit κs a = unseen (a .1 .1 .1 .1 .1 .1 .1 .0 .now)
+abbrev μ-visit : Measures 10 visit-kinds.ps ℕ
+μ-visit κs a = unseen (a .1 .1 .1 .1 .1 .1 .1 .1 .1 .0 .now)
 
-abbrev visit-at : ℕ → In 8 visit-kinds.ps
-visit-at t = and 8 visit-kinds.ps (is 8 visit-kinds.ps μ-visit t) visit.Pre
+abbrev visit-at : ℕ → In 10 visit-kinds.ps
+visit-at t = and 10 visit-kinds.ps (is 10 visit-kinds.ps μ-visit t) visit.Pre
 
-abbrev visit-below : ℕ → In 8 visit-kinds.ps
-visit-below t = and 8 visit-kinds.ps (falls 8 visit-kinds.ps _<_ μ-visit t) visit.Pre
+abbrev visit-below : ℕ → In 10 visit-kinds.ps
+visit-below t = and 10 visit-kinds.ps (falls 10 visit-kinds.ps _<_ μ-visit t) visit.Pre
 
 abbrev visit-claims : ℕ → visit-lts.Claims
 visit-claims t = (
   follow-reads.Asked,
   follow-reads.Learnt,
-  bond-number-reads.Asked,
-  bond-number-reads.Learnt,
   add-reads.Asked,
   add-reads.Learnt,
   visit-below t,
@@ -40,11 +39,11 @@ visit-claims t = (
 )
 
 abbrev visit-Inv-loop : visit-lts.InvT-loop
-visit-Inv-loop bonds n m head after behind order₀ number₀ up₀ kind₀ v hub from count b₀ next₀ order number up kind b next =
-    Left bonds n m (v .0) hub from b (sheet order₀ number₀ up₀ kind₀ count) (sheet order number up kind next) × Kept order₀ number₀ up₀ kind₀ order number up kind
+visit-Inv-loop ea eb ks n m head after behind order₀ number₀ up₀ kind₀ v hub from count b₀ next₀ order number up kind b next =
+    Left (wires ea eb ks) n m (v .0) hub from b (sheet order₀ number₀ up₀ kind₀ count) (sheet order number up kind next) × Kept order₀ number₀ up₀ kind₀ order number up kind
 
 abbrev visit-μ-loop : visit-lts.MeasureT-loop
-visit-μ-loop bonds n m head after behind order₀ number₀ up₀ kind₀ v hub from count b₀ next₀ order number up kind b next = m - b
+visit-μ-loop ea eb ks n m head after behind order₀ number₀ up₀ kind₀ v hub from count b₀ next₀ order number up kind b next = m - b
 
 visit-loop-holds : (t : ℕ) → visit-lts.Need-loop-holds (visit-claims t) (visit-at t) visit.Post visit-Inv-loop visit-μ-loop
 visit-loop-holds t c =
@@ -60,7 +59,9 @@ visit-follow-requires t c κs =
     let at = c .before .loop in
     let h = c .loop-test .taken in
     let z = after-within lk (at .b) h in
-    (omega arith, (omega (arith, z .0), omega (arith, z .1)))
+    let w = fit .ends (at .b) h in
+    let x = fit .few-atoms in
+    (omega arith, ((omega (arith, w .0, w .1), omega (arith, w .1)), (omega (arith, z .0), omega (arith, z .1))))
 
 visit-mul-if1 : (t : ℕ) → visit-lts.Need-mul-if1 (visit-claims t) (visit-at t) visit.Post visit-Inv-loop visit-μ-loop
 visit-mul-if1 t c =
@@ -126,13 +127,21 @@ visit-returns t c =
     let f = c .before .before .before .follow in
     (left-full fit _ _ _ _ _ _ (i .0) h (f .result .other) (f .ensures .0) (c .before .if1 .left) (c .if2 .taken), i .1)
 
-visit-bond-number-requires : (t : ℕ) → visit-lts.Need-bond-number-requires (visit-claims t) (visit-at t) visit.Post visit-Inv-loop visit-μ-loop
-visit-bond-number-requires t c κs =
+visit-element-copy-out-k : (t : ℕ) → visit-lts.Need-element-copy-out-k (visit-claims t) (visit-at t) visit.Post visit-Inv-loop visit-μ-loop
+visit-element-copy-out-k t c =
     let s = c .before .before .before .before .before .before in
     let fit = s .pre .1 .0 in
     let y = fit .few-bonds in
     let h = c .before .before .before .before .loop-test .taken in
     omega arith
+
+visit-cast-k : (t : ℕ) → visit-lts.Need-cast-k (visit-claims t) (visit-at t) visit.Post visit-Inv-loop visit-μ-loop
+visit-cast-k t c =
+    let s = c .before .before .before .before .before .before .before in
+    let fit = s .pre .1 .0 in
+    let at = c .before .before .before .before .before .before .loop in
+    let h = c .before .before .before .before .before .loop-test .taken in
+    omega (arith, fit .kinds (at .b) h)
 
 visit-add-add : (t : ℕ) → visit-lts.Need-add-add (visit-claims t) (visit-at t) visit.Post visit-Inv-loop visit-μ-loop
 visit-add-add t c =
@@ -152,7 +161,7 @@ visit-add-requires t c κs =
     let q = other-below fit (a .v .0) (at .b) h in
     let wn : w < maxAtoms = omega (arith, q, f .ensures .0, x) in
     let k = c .before .before .before .before .before .if2 .left in
-    ((omega arith, omega arith), (omega (arith, s .pre .1 .1 .1 .1 .0 .0), rw (c .before .before .before .before .bond-number .ensures) (fit .kinds (at .b) h)))
+    ((omega arith, omega arith), (omega (arith, s .pre .1 .1 .1 .1 .0 .0), fit .kinds (at .b) h))
 
 visit-mul-visit : (t : ℕ) → visit-lts.Need-mul-visit (visit-claims t) (visit-at t) visit.Post visit-Inv-loop visit-μ-loop
 visit-mul-visit t c =
@@ -226,7 +235,7 @@ visit-visit-requires t c κs =
     let k = c .before .before .before .before .before .before .before .before .before .before .before .if2 .left in
     let d = c .before .before .before .before .before .add in
     let z = seen-less (at .number) (d .last .1 .0) w (at .next) (omega arith) (c .before .before .before .before .before .before .before .before .before .before .before .before .if1 .left) (d .ensures .1 .0) in
-    let kept = kept-set (i .1) (at .next) w (a .hub + 1) (c .before .before .before .before .before .before .before .before .before .before .bond-number .result) (d .ensures .0) (d .ensures .1 .0) (d .ensures .1 .1 .0) (d .ensures .1 .1 .1) in
+    let kept = kept-set (i .1) (at .next) w (a .hub + 1) (getD (a .ks .now) (at .b) 0) (d .ensures .0) (d .ensures .1 .0) (d .ensures .1 .1 .0) (d .ensures .1 .1 .1) in
     (omega (arith, z, i .0 .fewer, s .pre .0), (fit, (lk, (room-kept (s .pre .1 .1 .1 .0) kept, ((omega arith, head-within lk w wn), head-here lk w wn)))))
 
 visit-loop-less-2 : (t : ℕ) → visit-lts.Need-loop-less-2 (visit-claims t) (visit-at t) visit.Post visit-Inv-loop visit-μ-loop
@@ -260,10 +269,9 @@ visit-loop-again-2 t c =
     let room = room-kept (s .pre .1 .1 .1 .0) (i .1) in
     let l = room .number in
     let d = c .before .before .before .before .before .before .add in
-    let kept = kept-set (i .1) (at .next) w (a .hub + 1) (c .before .before .before .before .before .before .before .before .before .before .before .bond-number .result) (d .ensures .0) (d .ensures .1 .0) (d .ensures .1 .1 .0) (d .ensures .1 .1 .1) in
-    let b = c .before .before .before .before .before .before .before .before .before .before .before .bond-number in
+    let kept = kept-set (i .1) (at .next) w (a .hub + 1) (getD (a .ks .now) (at .b) 0) (d .ensures .0) (d .ensures .1 .0) (d .ensures .1 .1 .0) (d .ensures .1 .1 .1) in
     let v = c .visit in
-    (left-new fit (f .result .next) h r _ _ _ _ _ _ (i .0) w (b .result) (getD (a .head .now) w 0) (f .ensures .0) (c .before .before .before .before .before .before .before .before .before .before .before .before .before .if1 .left) (b .ensures) (lk .heads w wn) (omega arith) _ _ _ _ (d .ensures .0) (d .ensures .1 .0) (d .ensures .1 .1 .0) (d .ensures .1 .1 .1) _ (v .ensures .0), kept-then kept (v .ensures .1))
+    (left-new fit (f .result .next) h r _ _ _ _ _ _ (i .0) w (getD (a .ks .now) (at .b) 0) (getD (a .head .now) w 0) (f .ensures .0) (c .before .before .before .before .before .before .before .before .before .before .before .before .before .if1 .left) refl (lk .heads w wn) (omega arith) _ _ _ _ (d .ensures .0) (d .ensures .1 .0) (d .ensures .1 .1 .0) (d .ensures .1 .1 .1) _ (v .ensures .0), kept-then kept (v .ensures .1))
 
 visit-returns-2 : (t : ℕ) → visit-lts.Need-returns-2 (visit-claims t) (visit-at t) visit.Post visit-Inv-loop visit-μ-loop
 visit-returns-2 t c =
@@ -286,7 +294,8 @@ pub +visit-spec : {M : Type 1} → statement M
     (visit-loop-less t)
     (visit-loop-again t)
     (visit-returns t)
-    (visit-bond-number-requires t)
+    (visit-element-copy-out-k t)
+    (visit-cast-k t)
     (visit-add-add t)
     (visit-add-requires t)
     (visit-mul-visit t)

@@ -1,58 +1,65 @@
-use Rattle.tour.specs.Tour.{otherEnd, nextAfter}
-use mathlib.Core.Path.{sym, _∙_}
 use borrow.Author.Tests.{eq-eqb, ne-eqb}
 use borrow.Author.Needs.{needs}
 use Rattle.tour.proofs.follow.Statement.{statement}
 use Rattle.tour.proofs.follow.Tie as tie
 
-bond-number-requires : tie.Need-bond-number-requires
-bond-number-requires c κs = search needs
+mul-first : tie.Need-mul-first
+mul-first c = search needs
 
-bond-number-requires-2 : tie.Need-bond-number-requires-2
-bond-number-requires-2 c κs = search needs
+element-copy-out-first : tie.Need-element-copy-out-first
+element-copy-out-first c = search needs
 
-mul-t10 : tie.Need-mul-t10
-mul-t10 c = search needs
+cast-first : tie.Need-cast-first
+cast-first c = search needs
 
-element-copy-out-t13 : tie.Need-element-copy-out-t13
-element-copy-out-t13 c = search needs
+mul-t14 : tie.Need-mul-t14
+mul-t14 c = search needs
 
-cast-t14 : tie.Need-cast-t14
-cast-t14 c = search needs
+element-copy-out-t17 : tie.Need-element-copy-out-t17
+element-copy-out-t17 c = search needs
+
+cast-t18 : tie.Need-cast-t18
+cast-t18 c = search needs
+
+mul-t19 : tie.Need-mul-t19
+mul-t19 c = search needs
+
+element-copy-out-t22 : tie.Need-element-copy-out-t22
+element-copy-out-t22 c = search needs
+
+cast-t23 : tie.Need-cast-t23
+cast-t23 c = search needs
 
 returns : tie.Need-returns
-unfolding otherEnd nextAfter
-returns c =
-    let e = eq-eqb _ _ (sym (c .before .before .before .before .bond-number .ensures) ∙ c .before .before .if1 .taken) in
-    (c .before .bond-number2 .ensures ∙ simp e, simp e)
+returns c = let e = eq-eqb _ _ (c .before .before .if1 .taken) in (simp e, simp e)
 
-mul-t15 : tie.Need-mul-t15
-mul-t15 c = search needs
+mul-t9 : tie.Need-mul-t9
+mul-t9 c = search needs
 
-element-copy-out-t18 : tie.Need-element-copy-out-t18
-element-copy-out-t18 c = search needs
+element-copy-out-t12 : tie.Need-element-copy-out-t12
+element-copy-out-t12 c = search needs
 
-cast-t19 : tie.Need-cast-t19
-cast-t19 c = search needs
+cast-t26 : tie.Need-cast-t26
+cast-t26 c = search needs
 
 returns-2 : tie.Need-returns-2
-unfolding otherEnd nextAfter
-returns-2 c =
-    let b = c .before .before .before .bond-number in
-    let e = ne-eqb _ _ (λ i. c .before .if1 .left (b .ensures ∙ i)) in
-    (b .ensures ∙ simp e, simp e)
+returns-2 c = let e = ne-eqb _ _ (c .before .if1 .left) in (simp e, simp e)
 
 pub follow-spec : {M : Type 1} → statement M
 follow-spec =
     tie.close
     (tie.spec
-    bond-number-requires
-    bond-number-requires-2
-    mul-t10
-    element-copy-out-t13
-    cast-t14
+    mul-first
+    element-copy-out-first
+    cast-first
+    mul-t14
+    element-copy-out-t17
+    cast-t18
+    mul-t19
+    element-copy-out-t22
+    cast-t23
     returns
-    mul-t15
-    element-copy-out-t18
-    cast-t19
+    mul-t9
+    element-copy-out-t12
+    cast-t26
     returns-2)

@@ -1,63 +1,76 @@
-use Rattle.tour.proofs.Lists.{linked-start, linked-cast, linked-step}
-use Rattle.tour.specs.Tour.{Linked}
-use Rattle.table.specs.Limits.{maxAtoms, maxBonds}
-use Prim.Native.Nat.{ℕ, suc, _-_, _≤_}
-use mathlib.Core.Path.{_≡_, ap, _∙_}
+use Rattle.tour.proofs.Wires.{sums-bound, Noted, noted-start, noted-step, noted-end}
 use native.Mathlib.Omega.{arith}
-use lib.ListN.{length, length-set, length-replicate}
+use Prim.Native.Nat.{_-_}
+use denote.Ref.{now}
 use Rattle.tour.proofs.link.Statement.{statement}
 use Rattle.tour.proofs.link.Tie as tie
 
 abbrev Inv-loop : tie.InvT-loop
-Inv-loop bonds m head₀ after₀ behind₀ b₀ head after behind b = Linked bonds m b head after behind × (b ≤ m) × (length head ≡ maxAtoms) × (maxBonds ≤ length after) × (maxBonds ≤ length behind)
+Inv-loop bonds m head₀ after₀ behind₀ ea₀ eb₀ ks₀ sums₀ b₀ head after behind ea eb ks sums b = Noted bonds m b head after behind ea eb ks sums
 
 abbrev μ-loop : tie.MeasureT-loop
-μ-loop bonds m head₀ after₀ behind₀ b₀ head after behind b = b
+μ-loop bonds m head₀ after₀ behind₀ ea₀ eb₀ ks₀ sums₀ b₀ head after behind ea eb ks sums b = b
 
 loop-holds : tie.Need-loop-holds Inv-loop μ-loop
-loop-holds c =
-    let e = c .pre .1 .0 in
-    (linked-start _ _ _ e, omega arith, ap length e ∙ length-replicate maxAtoms (c .args .m), c .pre .1 .1 .0, c .pre .1 .1 .1)
+loop-holds c = noted-start (c .pre .1 .0 .0) (c .pre .1 .0 .1) (c .pre .1 .1)
 
 sub-b : tie.Need-sub-b Inv-loop μ-loop
 sub-b c = omega arith
 
+read-bond-requires : tie.Need-read-bond-requires Inv-loop μ-loop
+read-bond-requires c κs = let fit = c .before .before .pre .0 in omega (arith, fit .few-bonds)
+
+note-bond-requires : tie.Need-note-bond-requires Inv-loop μ-loop
+note-bond-requires c κs =
+    let s = c .before .before .before .before .before .before .before in
+    let at = c .before .before .before .before .before .before .loop in
+    let t = c .before .before .before .before .before .loop-test .taken in
+    let i = at .inv in
+    let r = c .before .before .before .before .read-bond .ensures in
+    let fit = s .pre .0 in
+    let w = fit .ends (at .b - 1) (omega (arith, i .within)) in
+    let q = fit .kinds (at .b - 1) (omega (arith, i .within)) in
+    (omega (arith, fit .few-bonds, i .within), ((omega (arith, w .0), omega (arith, w .1)), (omega arith, sums-bound (now (s .args .bonds)) (s .args .m) (at .b) (fit .few-bonds) (i .summed))))
+
 link-bond-requires : tie.Need-link-bond-requires Inv-loop μ-loop
 link-bond-requires c κs =
-    let s = c .before .before .before .before .before in
+    let s = c .before .before .before .before .before .before .before .before .before .before .before in
+    let at = c .before .before .before .before .before .before .before .before .before .before .loop in
+    let t = c .before .before .before .before .before .before .before .before .before .loop-test .taken in
+    let i = at .inv in
+    let r = c .before .before .before .before .before .before .before .before .read-bond .ensures in
     let fit = s .pre .0 in
-    let i = c .before .before .before .before .loop .inv .1 in
-    let k = c .before .before .before .loop-test .taken in
-    let q = fit .ends (c .before .before .before .before .loop .b - 1) (omega arith) in
-    let g = fit .few-bonds in
-    (omega arith, (omega arith, omega arith))
+    let w = fit .ends (at .b - 1) (omega (arith, i .within)) in
+    (omega (arith, fit .few-bonds, i .within), (omega (arith, w .0, w .1, r .0 .0), omega (arith, w .1, r .0 .1)))
 
 loop-less : tie.Need-loop-less Inv-loop μ-loop
-loop-less c = omega arith
+loop-less c = omega (arith, c .before .before .before .before .before .before .before .before .before .before .loop-test .taken)
 
 loop-again : tie.Need-loop-again Inv-loop μ-loop
 loop-again c =
-    let s = c .before .before .before .before .before .before in
-    let fit = s .pre .0 in
-    let i = c .before .before .before .before .before .loop .inv in
-    let b : ℕ = c .before .before .before .before .before .loop .b in
-    let t = c .before .before .before .before .loop-test .taken in
-    let e : b ≡ suc (b - 1) = omega arith in
-    let l = linked-cast b (suc (b - 1)) _ _ _ e (i .0) in
-    let x = c .link-bond .ensures in
-    let g = fit .few-bonds in
-    let w = i .1 in
-    let rh = i .2 in
-    let ra = i .3 in
-    let rb = i .4 in
-    (linked-step fit (b - 1) (omega arith) _ _ _ l rh (omega arith) (omega arith) _ _ _ (x .0) (x .1 .0) (x .1 .1), omega arith, rw (x .0, length-set, length-set) rh, rw (x .1 .0, length-set) ra, rw (x .1 .1, length-set) rb)
+    let s = c .before .before .before .before .before .before .before .before .before .before .before .before in
+    let at = c .before .before .before .before .before .before .before .before .before .before .before .loop in
+    let r = c .before .before .before .before .before .before .before .before .before .read-bond in
+    let y = c .before .before .before .before .note-bond .ensures in
+    let z = c .link-bond .ensures in
+    noted-step (s .pre .0) (at .inv) (c .before .before .before .before .before .before .before .before .before .before .loop-test .taken)
+    (r .result .first) (r .result .second) (r .result .kind) (r .ensures .0 .0) (r .ensures .0 .1) (r .ensures .1)
+    _ _ _ _ _ _ _ (z .0) (z .1 .0) (z .1 .1) (y .0) (y .1 .0) (y .1 .1 .0) (y .1 .1 .1)
 
 returns : tie.Need-returns Inv-loop μ-loop
-returns c =
-    let e : c .before .loop .b ≡ 0 = omega (arith, c .loop-test .left) in
-    linked-cast (c .before .loop .b) 0 _ _ _ e (c .before .loop .inv .0)
+returns c = let r = noted-end (c .before .loop .inv) (c .loop-test .left) in (r .0, (r .1, r .2))
 
 pub link-spec : {M : Type 1} → statement M
 link-spec =
     tie.close
-    (tie.spec Inv-loop μ-loop loop-holds sub-b link-bond-requires loop-less loop-again returns)
+    (tie.spec
+    Inv-loop
+    μ-loop
+    loop-holds
+    sub-b
+    read-bond-requires
+    note-bond-requires
+    link-bond-requires
+    loop-less
+    loop-again
+    returns)

@@ -1,9 +1,12 @@
-use Rattle.rings.proofs.Bag.{left-out, taken-in}
+use Rattle.rings.proofs.Bag.{left-out, taken-in, marked-add}
 use Prim.Native.Nat.{_-_}
 use native.Mathlib.Omega.{arith}
 use borrow.Author.Needs.{needs}
 use Rattle.rings.proofs.unused.add_bond.Statement.{statement}
 use Rattle.rings.proofs.unused.add_bond.Tie as tie
+
+sub-low : tie.Need-sub-low
+sub-low c = search needs
 
 sub-high : tie.Need-sub-high
 sub-high c = search needs
@@ -18,10 +21,11 @@ cast-if1 : tie.Need-cast-if1
 cast-if1 c = omega (arith, c .shared-slice-known .given (c .before .args .q - 1))
 
 returns : tie.Need-returns
-returns c = let s = c .before .before in let a = s .args in left-out _ _ _ _ (a .p) (a .q) (a .kind) (a .used) (s .pre .1 .1 .0 .0) (omega (arith, s .pre .1 .1 .0 .0, s .pre .1 .1 .0 .1)) (c .if1 .taken)
-
-sub-los : tie.Need-sub-los
-sub-los c = search needs
+returns c =
+    let s = c .before .before in
+    let a = s .args in
+    let w = s .pre .1 .1 .1 .0 in
+    (left-out _ _ _ _ (a .p) (a .q) (a .kind) (a .used) (w .0) (omega (arith, w .0, w .1)) (c .if1 .taken), s .pre .1 .1 .0)
 
 cast-los : tie.Need-cast-los
 cast-los c = search needs
@@ -47,6 +51,12 @@ cast-kinds c = search needs
 slice-write-kinds : tie.Need-slice-write-kinds
 slice-write-kinds c = search needs
 
+element-write-marks : tie.Need-element-write-marks
+element-write-marks c = search needs
+
+element-write-marks-2 : tie.Need-element-write-marks-2
+element-write-marks-2 c = search needs
+
 add-result : tie.Need-add-result
 add-result c = search needs
 
@@ -60,18 +70,24 @@ same-length-3 : tie.Need-same-length-3
 same-length-3 c = search needs
 
 returns-2 : tie.Need-returns-2
-returns-2 c = let s = c .before .before in let a = s .args in taken-in _ _ _ _ (a .p) (a .q) (a .kind) (a .used) (s .pre .1 .1 .0 .0) (c .if1 .left)
+returns-2 c =
+    let s = c .before .before in
+    let a = s .args in
+    let room = s .pre .1 .0 in
+    let w = s .pre .1 .1 .1 .0 in
+    let z = s .pre .1 .1 .1 .1 .0 in
+    (taken-in _ _ _ _ (a .p) (a .q) (a .kind) (a .used) (w .0) (c .if1 .left), marked-add (a .p - 1) (a .q - 1) (s .pre .1 .1 .0) (omega (arith, w .0, w .1, z .0)) (omega (arith, w .0, w .1, z .0)) (omega (arith, room .los, z .1)) (omega (arith, room .his, z .1)))
 
 pub add-bond-spec : {M : Type 1} → statement M
 add-bond-spec =
     tie.close
     (tie.spec
+    sub-low
     sub-high
     mul-if1
     shared-slice-read-if1
     cast-if1
     returns
-    sub-los
     cast-los
     mul-los
     slice-write-los
@@ -80,6 +96,8 @@ add-bond-spec =
     slice-write-his
     cast-kinds
     slice-write-kinds
+    element-write-marks
+    element-write-marks-2
     add-result
     same-length
     same-length-2

@@ -2,51 +2,64 @@ use Rattle.writer.proofs.Emission.{Onward, onward-start, onward-stop, o
 use Rattle.writer.specs.Emit.{headBytes}
 use Rattle.pen.specs.Pen.{pen}
 use borrow.Author.Tests.{not-true, not-false}
-use mathlib.Core.Path.{_≡_, refl, _∙_}
-use lib.ListN.{length}
+use mathlib.Core.Path.{_≡_, refl, sym, _∙_}
+use lib.ListN.{length, replicate}
 use Prim.Native.Nat.{_-_, _≤_}
 use native.Mathlib.Omega.{arith}
 use Rattle.writer.proofs.emit.emit.Statement.{statement}
 use Rattle.writer.proofs.emit.emit.Tie as tie
 
 abbrev Inv-loop : tie.InvT-loop
-Inv-loop atoms n order up kind last sums los his kinds k slots₀ out₀ at₀ x₀ slots out at x = Onward (headBytes atoms order up kind last sums) los his kinds n k slots₀ (pen out₀ 0) x slots (pen out at) × (x ≤ n) × (length slots ≡ length slots₀) × (length out ≡ length out₀)
+Inv-loop atoms n order up kind last sums los his kinds marks k out₀ slots₀ at₀ x₀ out slots at x =
+    Onward (headBytes atoms order up kind last sums) los his kinds n k (replicate 99 0) (pen out₀ 0) x slots (pen out at) × (x ≤ n) × (length slots ≡ 99) × (length out ≡ length out₀)
 
 abbrev μ-loop : tie.MeasureT-loop
-μ-loop atoms n order up kind last sums los his kinds k slots₀ out₀ at₀ x₀ slots out at x = n - x
+μ-loop atoms n order up kind last sums los his kinds marks k out₀ slots₀ at₀ x₀ out slots at x = n - x
 
 loop-holds : tie.Need-loop-holds Inv-loop μ-loop
-loop-holds c = (onward-start _ _ _ _ _ _ _ _, omega arith, refl, refl)
+loop-holds c =
+    (onward-start _ _ _ _ _ _ _ _, omega arith, refl, refl)
+
+slice-aggregate-emit-atom : tie.Need-slice-aggregate-emit-atom Inv-loop μ-loop
+slice-aggregate-emit-atom c =
+    sym (c .before .before .loop .inv .2)
 
 emit-atom-requires : tie.Need-emit-atom-requires Inv-loop μ-loop
-emit-atom-requires c κs = let s = c .before .before .before .before .before .before .before .before .before .before .before .before .before .before in let a = s .args in (s .pre .0 _ (c .before .before .loop-test .taken), omega (arith, s .pre .1, c .before .before .before .loop .inv .2))
+emit-atom-requires c κs =
+    let p = c .before .before .before .before .before .before .before .before .before .before .before .before .before .pre in
+    (p .0 _ (c .before .before .loop-test .taken), (p .1, omega (arith, c .before .before .before .loop .inv .2)))
 
 same-length : tie.Need-same-length Inv-loop μ-loop
-same-length c = c .before .before .before .before .before .emit-atom .kept .1 .1 .1 .1 .1 .1 .1 .1 .1 .1 .0 ∙ c .before .before .before .before .before .before .before .before .before .loop .inv .2
-
-same-length-2 : tie.Need-same-length-2 Inv-loop μ-loop
-same-length-2 c = c .before .before .before .before .before .emit-atom .kept .1 .1 .1 .1 .1 .1 .1 .1 .1 .1 .1 .1 .0 ∙ c .before .before .before .before .before .before .before .before .before .loop .inv .3
+same-length c =
+    c .before .before .before .before .emit-atom .kept .1 .1 .1 .1 .1 .1 .1 .1 .1 .1 .1 .1 .1 .0 ∙ c .before .before .before .before .before .before .before .before .loop .inv .3
 
 returns : tie.Need-returns Inv-loop μ-loop
-returns c = onward-stop _ _ _ _ _ _ _ _ _ _ _ _ _ _ _ _ _ _ _ (c .before .before .before .before .before .before .before .before .before .loop .inv .0) (c .before .before .before .before .before .before .before .before .loop-test .taken) (c .before .before .before .before .before .emit-atom .ensures) (not-true _ (c .if1 .taken))
+returns c =
+    onward-stop _ _ _ _ _ _ _ _ _ _ _ _ _ _ _ _ _ _ _ (c .before .before .before .before .before .before .before .before .loop .inv .0) (c .before .before .before .before .before .before .before .loop-test .taken) (c .before .before .before .before .emit-atom .ensures) (not-true _ (c .if1 .taken))
 
 add-x : tie.Need-add-x Inv-loop μ-loop
-add-x c = let s = c .before .before .before .before .before .before .before .before .before .before .before .before .before .before .before .before .before .before .before .before in let a = s .args in omega (arith, c .before .before .before .before .before .before .before .before .loop-test .taken, s .fits .n)
+add-x c =
+    let s = c .before .before .before .before .before .before .before .before .before .before .before .before .before .before .before .before .before .before in
+    omega (arith, c .before .before .before .before .before .before .before .loop-test .taken, s .fits .n)
 
 loop-less : tie.Need-loop-less Inv-loop μ-loop
-loop-less c = omega (arith, c .before .before .before .before .before .before .before .before .loop-test .taken)
+loop-less c =
+    omega (arith, c .before .before .before .before .before .before .before .loop-test .taken)
 
 loop-again : tie.Need-loop-again Inv-loop μ-loop
-loop-again c = (onward-step _ _ _ _ _ _ _ _ _ _ _ _ _ _ _ _ _ _ _ (c .before .before .before .before .before .before .before .before .before .loop .inv .0) (c .before .before .before .before .before .before .before .before .loop-test .taken) (c .before .before .before .before .before .emit-atom .ensures) (not-false _ (c .if1 .left)) (c .before .before .before .before .before .emit-atom .kept .1 .1 .1 .1 .1 .1 .1 .1 .1 .1 .0), omega (arith, c .before .before .before .before .before .before .before .before .loop-test .taken), c .before .before .before .before .before .emit-atom .kept .1 .1 .1 .1 .1 .1 .1 .1 .1 .1 .0 ∙ c .before .before .before .before .before .before .before .before .before .loop .inv .2, c .before .before .before .before .before .emit-atom .kept .1 .1 .1 .1 .1 .1 .1 .1 .1 .1 .1 .1 .0 ∙ c .before .before .before .before .before .before .before .before .before .loop .inv .3)
+loop-again c =
+    let i = c .before .before .before .before .before .before .before .before .loop .inv in
+    let t = c .before .before .before .before .before .before .before .loop-test .taken in
+    let e = c .before .before .before .before .emit-atom in
+    (onward-step _ _ _ _ _ _ _ _ _ _ _ _ _ _ _ _ _ _ _ (i .0) t (e .ensures) (not-false _ (c .if1 .left)) (e .kept .1 .1 .1 .1 .1 .1 .1 .1 .1 .1 .1 .0), omega (arith, t), e .kept .1 .1 .1 .1 .1 .1 .1 .1 .1 .1 .1 .0 ∙ i .2, e .kept .1 .1 .1 .1 .1 .1 .1 .1 .1 .1 .1 .1 .1 .0 ∙ i .3)
 
-same-length-3 : tie.Need-same-length-3 Inv-loop μ-loop
-same-length-3 c = c .before .loop .inv .2
-
-same-length-4 : tie.Need-same-length-4 Inv-loop μ-loop
-same-length-4 c = c .before .loop .inv .3
+same-length-2 : tie.Need-same-length-2 Inv-loop μ-loop
+same-length-2 c =
+    c .before .loop .inv .3
 
 returns-2 : tie.Need-returns-2 Inv-loop μ-loop
-returns-2 c = onward-end _ _ _ _ _ _ _ _ _ _ _ (c .before .loop .inv .0) (c .loop-test .left)
+returns-2 c =
+    onward-end _ _ _ _ _ _ _ _ _ _ _ (c .before .loop .inv .0) (c .loop-test .left)
 
 pub emit-spec : {M : Type 1} → statement M
 emit-spec =
@@ -55,13 +68,12 @@ emit-spec =
     Inv-loop
     μ-loop
     loop-holds
+    slice-aggregate-emit-atom
     emit-atom-requires
     same-length
-    same-length-2
     returns
     add-x
     loop-less
     loop-again
-    same-length-3
-    same-length-4
+    same-length-2
     returns-2)

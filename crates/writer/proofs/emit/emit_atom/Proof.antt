@@ -1,9 +1,8 @@
 use Rattle.writer.proofs.Emission.{emitted}
-use mathlib.Core.Path.{refl, sym, _∙_}
+use mathlib.Core.Path.{refl}
 use lib.ListN.{getD}
 use native.Mathlib.Omega.{arith}
 use borrow.Author.Needs.{needs}
-use borrow.Author.Tests.{not-true}
 use Rattle.rings.proofs.Laws.{close-off, open-off}
 use Rattle.writer.proofs.emit.emit_atom.Statement.{statement}
 use Rattle.writer.proofs.emit.emit_atom.Tie as tie
@@ -56,22 +55,23 @@ cast-atom c = let s = c .before .before .before .before .before .before .before 
 atom-requires : tie.Need-atom-requires
 atom-requires c κs = search needs
 
-is-end-requires : tie.Need-is-end-requires
-is-end-requires c κs = search needs
+element-copy-out-if1 : tie.Need-element-copy-out-if1
+element-copy-out-if1 c = search needs
 
 same-length : tie.Need-same-length
 same-length c = search needs
 
 returns : tie.Need-returns
 returns c =
-    let off = sym (c .before .is-end .ensures) ∙ not-true (c .before .is-end .result) (c .if1 .taken) in
-    emitted _ _ _ _ _ _ _ _ _ _ _ _ _ _ _ _ _ _ _ _ _ refl refl (c .before .before .before .before .before .before .before .before .before .lead .ensures) (c .before .before .before .before .atom .ensures) (close-off _ _ _ _ off _ _) (open-off _ _ _ _ off _ _ _)
+    let m = c .before .before .before .before .before .before .before .before .before .before .before .before .before .before .before .before .before .before .before .before .before .before .before .before .before .pre .1 .0 in
+    let off = c .if1 .taken in
+    emitted _ _ _ _ _ _ _ _ _ _ _ _ _ _ _ _ _ _ _ _ _ refl refl (c .before .before .before .before .before .before .before .before .before .lead .ensures) (c .before .before .before .before .atom .ensures) (close-off _ _ _ _ _ m off _ _) (open-off _ _ _ _ _ m off _ _ _)
 
 close-from-requires : tie.Need-close-from-requires
 close-from-requires c κs = search needs
 
 open-from-requires : tie.Need-open-from-requires
-open-from-requires c κs = let s = c .before .before .before .before .before .before .before .before .before .before .before .before .before .before .before .before .before .before .before .before .before .before .before .before .before .before .before .before .before .before .before .before .before .before in let r = s .pre .0 in ((r .lower, r .higher), ((r .bridges, omega (arith, s .pre .1, c .before .before .before .before .before .before .close-from .kept .1 .1 .1 .1 .1 .0)), r .opened))
+open-from-requires c κs = let s = c .before .before .before .before .before .before .before .before .before .before .before .before .before .before .before .before .before .before .before .before .before .before .before .before .before .before .before .before .before .before .before .before .before .before in let r = s .pre .0 in ((r .lower, r .higher), ((r .bridges, omega (arith, s .pre .1 .1, c .before .before .before .before .before .before .close-from .kept .1 .1 .1 .1 .1 .0)), r .opened))
 
 same-length-2 : tie.Need-same-length-2
 same-length-2 c = search needs
@@ -102,7 +102,7 @@ emit-atom-spec =
     shared-slice-read-atom
     cast-atom
     atom-requires
-    is-end-requires
+    element-copy-out-if1
     same-length
     returns
     close-from-requires
