@@ -6,8 +6,8 @@
 // to the second, and 2 j + 1 back. `head` has 1 more than the first half at each atom, `link` that of the next; 0 ends a list.
 use ids::AtomId;
 use ids::BondId;
-use matching::MAX_ATOMS;
-use matching::MAX_BONDS;
+use ids::MAX_ATOMS;
+use ids::MAX_BONDS;
 
 // internal: no atom.
 pub const NONE: usize = MAX_ATOMS;

@@ -5,7 +5,7 @@ use blossom::NONE;
 use blossom::OUTSIDE;
 use ids::AtomId;
 use ids::BondId;
-use matching::MAX_ATOMS;
+use ids::MAX_ATOMS;
 ghost use mathlib.Core.Path.{_≡_};
 ghost use mathlib.Core.Bool.{Bool, true, false, _&&_, _||_, not};
 ghost use mathlib.Core.List.{[], _++_};

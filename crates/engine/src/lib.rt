@@ -3,8 +3,8 @@
 // contracts are those of `search`.
 use ids::AtomId;
 use ids::BondId;
+use ids::MAX_ATOMS;
 use matching::Answer;
-use matching::MAX_ATOMS;
 ghost use mathlib.Core.Path.{_≡_};
 ghost use mathlib.Core.Bool.{true};
 ghost use mathlib.Core.List.{[]};

@@ -1,15 +1,15 @@
 // The graph that matchings see, from valid tables: bond sums, delocalized flags, ends and elided flags.
 ghost use mathlib.Core.Path.{_≡_};
 ghost use mathlib.Core.List.{_++_};
-ghost use Prim.Native.Nat.{ℕ, _+_, _*_, _≤_, _<_, _^_};
-ghost use lib.ListN.{length, drop, getD, replicate};
+ghost use Prim.Native.Nat.{_≤_, _<_};
+ghost use lib.ListN.{drop, replicate};
 ghost use Rattle.loops.specs.Loop.{upTo};
 ghost use Rattle.table.specs.Limits.{maxAtoms, maxBonds};
 ghost use Rattle.table.specs.Cells.{element, selected, hydrogens};
 ghost use Rattle.table.specs.Valid.{Valid};
 ghost use Rattle.valence.specs.Valence.{delocalized};
 ghost use Rattle.graph.specs.Graph.{bondSum, flag, noneSelected};
-ghost use Rattle.graph.specs.Built.{bump, withBond, sumFlag, Summed, Wide, Wired, Built, Room};
+ghost use Rattle.graph.specs.Built.{sumFlag, Summed, Wide, Wired, Built, Room};
 use ids::AtomId;
 use ids::BondId;
 use table::ELEMENT;
@@ -18,59 +18,6 @@ use table::MAX_ATOMS;
 use table::SELECTED;
 use table::cell;
 use table::row;
-
-// Adds to the bond sum of an atom; nothing past the end.
-fn add(sums: &mut [u16], a: AtomId, x: usize)
-    requires { ⌜ getD (now sums) (a .0) 0 + x < 2 ^ 16 ⌝ }
-    ensures { λ _. ⌜ now (sums .exit) ≡ bump (now (sums .entry)) (a .0) x ⌝ }
-{
-    let i = a.0;
-    if sums.len() <= i {
-        return;
-    }
-    let s = sums[i] as usize;
-    sums[i] = (s + x) as u16;
-}
-
-// Adds a bond's order to the bond sums of its ends.
-fn add_bond(bonds: &[i32], b: BondId, sums: &mut [u16])
-    requires { ⌜ b .0 < maxBonds ⌝ }
-    requires { ⌜ ((a : ℕ) → getD (now sums) a 0 ≤ 3 * b .0) ⌝ }
-    ensures { λ _. ⌜ now (sums .exit) ≡ withBond (now (bonds .entry)) (b .0) (now (sums .entry)) ⌝ }
-{
-    let row = row::get_bond(bonds, b);
-    let e = cell::number(row.first);
-    let f = cell::number(row.second);
-    let x = valence::order(cell::number(row.kind));
-    add(sums, AtomId(e), x);
-    if e != f {
-        add(sums, AtomId(f), x);
-    }
-}
-
-// Zeroes bond sums.
-fn clear(sums: &mut [u16])
-    ensures { λ _. ⌜ now (sums .exit) ≡ replicate (length (now (sums .entry))) 0 ⌝ }
-{
-    let mut i = 0;
-    while i < sums.len() {
-        sums[i] = 0;
-        i += 1;
-    }
-}
-
-// internal: the bond sum of every atom that the buffer has a cell for, in one pass over m bonds.
-pub fn fill_sums(bonds: &[i32], m: usize, sums: &mut [u16])
-    requires { ⌜ m ≤ maxBonds ⌝ }
-    ensures { λ _. ⌜ now (sums .exit) ≡ upTo (bondSum (now (bonds .entry)) m) 0 (length (now (sums .entry))) ⌝ }
-{
-    clear(sums);
-    let mut i = 0;
-    while i < m {
-        add_bond(bonds, BondId(i), sums);
-        i += 1;
-    }
-}
 
 // internal: whether none of n atoms is selected.
 pub fn none_selected(atoms: &[i32], n: usize) -> bool

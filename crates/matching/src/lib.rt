@@ -1,10 +1,5 @@
 // Matchings of the delocalized atoms: what the two calls answer. Their definitions and laws stand in specs/ and proofs/.
 
-// 01, The tables: at most this many atoms.
-pub const MAX_ATOMS: usize = 200;
-// 01, The tables: at most this many bonds.
-pub const MAX_BONDS: usize = 250;
-
 // Given: the row is a matching; Absent: there is none (code 11); Refused: the row handed in is no matching (code 12); Ended: none follows.
 pub enum Answer {
     Given,

@@ -14,6 +14,7 @@ use edits::clear;
 use ids::AtomId;
 use refusal::Refusal;
 use state::BRIDGES;
+use state::MAX_TEXT;
 use state::State;
 use table::ELEMENT;
 use table::HYDROGENS;
@@ -27,9 +28,6 @@ pub enum Answer {
     Molecule(usize, usize),
     Refused(Refusal, usize),
 }
-
-// The most bytes of a text.
-pub const MAX_TEXT: usize = 4096;
 
 // The lower of two offsets of openings; the second counts if its opener is not 0.
 fn earlier(p: usize, opener: u16, offset: u16) -> usize

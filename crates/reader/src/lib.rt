@@ -10,13 +10,13 @@ use crate::bridge::Out;
 use crate::bridge::Why;
 use crate::bridge::refuse;
 use crate::ending::Answer;
-use crate::ending::MAX_TEXT;
 use crate::piece::Joint;
 use crate::sequence::sequence;
 use edits::clear;
 use refusal::Refusal;
 use state::BRIDGES;
 use state::MAX_DEPTH;
+use state::MAX_TEXT;
 use state::State;
 use table::MAX_ATOMS;
 

@@ -8,6 +8,9 @@ ghost use Rattle.table.specs.Limits.{maxAtoms};
 ghost use Rattle.state.specs.Limits.{maxDepth, bridges};
 ghost use Rattle.state.specs.State.{steering, started, opened, closed, joined};
 
+// The most bytes of a text.
+pub const MAX_TEXT: usize = 4096;
+
 // The most branches that are open inside one another.
 pub const MAX_DEPTH: usize = 64;
 

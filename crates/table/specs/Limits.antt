@@ -1,12 +1,7 @@
 -- 01, The tables: limits, row widths and fields, each with its `const` in src/lib.rt
 use Prim.Native.Nat.{ℕ}
-
 -- at most 200 atoms and 250 bonds
-abbrev pub maxAtoms : ℕ
-maxAtoms = 200
-
-abbrev pub maxBonds : ℕ
-maxBonds = 250
+pub use Rattle.ids.specs.Limits.{maxAtoms, maxBonds}
 
 -- an atom row has six cells, a bond row three
 abbrev pub atomCells : ℕ

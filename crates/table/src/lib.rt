@@ -5,9 +5,9 @@ pub mod cell;
 pub mod row;
 
 // The limits of a molecule.
-pub const MAX_ATOMS: usize = 200;
+pub const MAX_ATOMS: usize = ids::MAX_ATOMS;
 
-pub const MAX_BONDS: usize = 250;
+pub const MAX_BONDS: usize = ids::MAX_BONDS;
 
 // The cells of an atom row and of a bond row.
 pub const ATOM_CELLS: usize = 6;

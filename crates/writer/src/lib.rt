@@ -12,14 +12,12 @@ ghost use Rattle.table.specs.Valid.{Valid};
 ghost use Rattle.pen.specs.Pen.{pen};
 ghost use Rattle.writer.specs.Told.{Held, Counted, Said, told};
 use refusal::Refusal;
+use state::MAX_TEXT;
 use table::MAX_ATOMS;
 use table::MAX_BONDS;
 
 pub mod emit;
 pub mod nest;
-
-// The bytes of the longest text.
-pub const MAX_TEXT: usize = 4096;
 
 // What writing answers: the length of the text, or a refusal.
 pub enum Written {
