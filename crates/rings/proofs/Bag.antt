@@ -1,11 +1,11 @@
 -- Laws of the arrays of unused bonds. Assumes nothing.
-use Prim.Native.Nat.{ℕ, suc, _+_, _-_, _<_, _≤_}
+use Prim.Native.Nat.{ℕ, zero, suc, _+_, _-_, _<_, _≤_}
 use native.Mathlib.Omega.{arith}
 use native.Mathlib.Numerals.{add-one}
 use mathlib.Core.Path.{_≡_, refl, sym, ap, _∙_}
 use mathlib.Core.Bool.{Bool, true, false}
 use mathlib.Core.List.{List}
-use lib.ListN.{length, getD, set, length-set}
+use lib.ListN.{length, getD, set, replicate, length-set, length-replicate}
 use lib.Seq.{getD-set-same, getD-set-other}
 use lib.Dec.{eqb}
 use borrow.Author.Tests.{eq-eqb, ne-eqb, eqb-true, eqb-false, lt-ltb, le-ltb}
@@ -17,7 +17,7 @@ use Rattle.walk.specs.Walk.{forestOf, place}
 use Rattle.walk.proofs.Trip.{renumbering, place-inj}
 use Rattle.tour.specs.Tour.{BondsFit}
 use Rattle.tour.proofs.Ways.{bonds-inside}
-use Rattle.rings.specs.Unused.{Bag, bag, treeBond, addBond, inWalk, Numbered, BagRoom, Marked}
+use Rattle.rings.specs.Unused.{Bag, bag, treeBond, addBond, inWalk, Numbered, BagRoom, many, markOf, Mark, Single, Marked}
 
 -- the bond of a tree is left out; another is added
 pub left-out : (up l h k : List ℕ) (p q kd c : ℕ) → 0 < p → 0 < q → getD up (q - 1) 0 ≡ p → bag l h k c ≡ addBond up (bond (p - 1) (q - 1) kd) (bag l h k c)
@@ -89,37 +89,121 @@ strictly x y h l = go (eqb x y) refl
     go true e = absurd (h (eqb-true x y e))
     go false e = let z = eqb-false x y e in omega arith
 
--- the marks: none yet, and the two ends of one bond more
-pub marked-start : {marks l h : List ℕ} → maxAtoms ≤ length marks → Marked marks l h 0
-marked-start r = record { room = r; los = λ i a. absurd (omega arith); his = λ i a. absurd (omega arith) }
+-- the marks: none yet
+zeros : (n x : ℕ) → _≡_ {A = ℕ} (getD (replicate n 0) x 0) 0
+zeros zero x = refl
+zeros (suc n) zero = refl
+zeros (suc n) (suc x) = zeros n x
 
-mark-here : (t : List ℕ) (x : ℕ) → x < length t → 0 < getD (set t x 1) x 0
-mark-here t x r = rw (getD-set-same t x 1 0 r) (omega arith)
+pub marked-start : {marks l h : List ℕ} → marks ≡ replicate maxAtoms 0 → Marked marks l h 0
+marked-start {marks} e =
+    record {
+      room = (let z = length-replicate {A = ℕ} maxAtoms 0 in rw e (omega arith));
+      los = λ i a. absurd (omega arith);
+      his = λ i a. absurd (omega arith);
+      single = λ x a. absurd (let z : getD marks x 0 ≡ 0 = rw e (zeros maxAtoms x) in omega arith);
+    }
 
-mark-kept : (t : List ℕ) (p x : ℕ) → p < length t → 0 < getD t x 0 → 0 < getD (set t p 1) x 0
-mark-kept t p x r m = go (eqb x p) refl
+-- a mark after one end more
+pub mark-first : (m i : ℕ) → m ≡ 0 → i + 1 ≡ markOf m i
+unfolding markOf
+mark-first m i e = rw (eq-eqb m 0 e, add-one i)
+
+pub mark-further : (m i : ℕ) → (m ≡ 0 → ⊥) → many ≡ markOf m i
+unfolding markOf
+mark-further m i e = rw (ne-eqb m 0 e)
+
+mark-new : (m k : ℕ) → Mark (markOf m k) k
+unfolding markOf
+mark-new m k = go (eqb m 0)
   where
-    go : (b : Bool) → eqb x p ≡ b → 0 < getD (set t p 1) x 0
-    go true e = rw (eqb-true x p e) (mark-here t p r)
-    go false e = rw (getD-set-other t p x 1 0 (eqb-false x p e)) m
+    go : (b : Bool) → Mark (pick b (suc k) many) k
+    go true = record { some = omega arith; only = λ _. refl }
+    go false = record { some = omega arith; only = λ h. absurd (omega arith) }
 
-mark-more : (t u l : List ℕ) (k p : ℕ) → ((x : ℕ) → 0 < getD t x 0 → 0 < getD u x 0) → 0 < getD u p 0 → k < length l
-    → ((i : ℕ) → i < k → 0 < getD t (getD l i 0) 0) → (i : ℕ) → i < k + 1 → 0 < getD u (getD (set l k p) i 0) 0
+mark-again : (m k i : ℕ) → Mark m i → Mark (markOf m k) i
+unfolding markOf
+mark-again m k i h =
+    let s = h .some in
+    rw (ne-eqb m 0 (λ e. omega arith)) (record { some = omega arith; only = λ g. absurd (omega arith) })
+
+-- the marks after one end more
+abbrev noted : List ℕ → ℕ → ℕ → List ℕ
+noted t p k = set t p (markOf (getD t p 0) k)
+
+noted-here : (t : List ℕ) (p k : ℕ) → p < length t → Mark (getD (noted t p k) p 0) k
+noted-here t p k r = rw (getD-set-same t p (markOf (getD t p 0) k) 0 r) (mark-new (getD t p 0) k)
+
+noted-kept : (t : List ℕ) (p k x i : ℕ) → p < length t → Mark (getD t x 0) i → Mark (getD (noted t p k) x 0) i
+noted-kept t p k x i r m = go (eqb x p) refl
+  where
+    go : (b : Bool) → eqb x p ≡ b → Mark (getD (noted t p k) x 0) i
+    go true e =
+        let q = eqb-true x p e in
+        rw (q, getD-set-same t p (markOf (getD t p 0) k) 0 r) (mark-again (getD t p 0) k i (rw q at m))
+    go false e = rw (getD-set-other t p x (markOf (getD t p 0) k) 0 (eqb-false x p e)) m
+
+mark-more : (t u l : List ℕ) (k p : ℕ) → ((x i : ℕ) → Mark (getD t x 0) i → Mark (getD u x 0) i) → Mark (getD u p 0) k → k < length l
+    → ((i : ℕ) → i < k → Mark (getD t (getD l i 0) 0) i) → (i : ℕ) → i < k + 1 → Mark (getD u (getD (set l k p) i 0) 0) i
 mark-more t u l k p up here r old i h = go (eqb i k) refl
   where
-    go : (b : Bool) → eqb i k ≡ b → 0 < getD u (getD (set l k p) i 0) 0
+    go : (b : Bool) → eqb i k ≡ b → Mark (getD u (getD (set l k p) i 0) 0) i
     go true e = rw (eqb-true i k e, getD-set-same l k p 0 r) here
-    go false e = let q = eqb-false i k e in rw (getD-set-other l k i p 0 q) (up (getD l i 0) (old i (omega arith)))
+    go false e = let q = eqb-false i k e in rw (getD-set-other l k i p 0 q) (up (getD l i 0) i (old i (omega arith)))
 
-pub marked-add : {marks l h : List ℕ} {k : ℕ} (p q : ℕ) → Marked marks l h k → p < maxAtoms → q < maxAtoms → k < length l → k < length h
-    → Marked (set (set marks p 1) q 1) (set l k p) (set h k q) (k + 1)
-marked-add {marks} {l} {h} {k} p q m a b rl rh =
+-- a single mark after a bond more
+module _ (t l h : List ℕ) (k p q : ℕ) (rp : p < length t) (rq : q < length t) (rl : k < length l) (rh : k < length h) (old : (x : ℕ) → 0 < getD t x 0 → getD t x 0 < many → Single l h k x (getD t x 0)) where
+  abbrev New : ℕ → ℕ → Type 0
+  New x m = 0 < m → m < many → Single (set l k p) (set h k q) (k + 1) x m
+
+  single-high : (m : ℕ) → Mark m k → New q m
+  single-high m n a b =
+      let e : m ≡ suc k = n .only b in
+      let z : m - 1 ≡ k = omega arith in
+      record { within = omega arith; low = λ g. absurd (g (rw (z, getD-set-same h k q 0 rh))) }
+
+  single-low : (m : ℕ) → Mark m k → New p m
+  single-low m n a b =
+      let e : m ≡ suc k = n .only b in
+      let z : m - 1 ≡ k = omega arith in
+      record { within = omega arith; low = λ g. rw (z, getD-set-same l k p 0 rl) }
+
+  single-kept : (x : ℕ) → New x (getD t x 0)
+  single-kept x a b =
+      let s = old x a b in
+      let w = s .within in
+      let e : getD (set l k p) (getD t x 0 - 1) 0 ≡ getD l (getD t x 0 - 1) 0 = getD-set-other l k (getD t x 0 - 1) p 0 (λ g. omega arith) in
+      let f : getD (set h k q) (getD t x 0 - 1) 0 ≡ getD h (getD t x 0 - 1) 0 = getD-set-other h k (getD t x 0 - 1) q 0 (λ g. omega arith) in
+      record { within = omega arith; low = λ g. e ∙ s .low (λ v. g (f ∙ v)) }
+
+  single-first : (x : ℕ) → New x (getD (noted t p k) x 0)
+  single-first x = go (eqb x p) refl
+    where
+      go : (b : Bool) → eqb x p ≡ b → New x (getD (noted t p k) x 0)
+      go true e = rw (eqb-true x p e) (single-low (getD (noted t p k) p 0) (noted-here t p k rp))
+      go false e = rw (getD-set-other t p x (markOf (getD t p 0) k) 0 (eqb-false x p e)) (single-kept x)
+
+  single-more : (x : ℕ) → New x (getD (noted (noted t p k) q k) x 0)
+  single-more x = go (eqb x q) refl
+    where
+      go : (b : Bool) → eqb x q ≡ b → New x (getD (noted (noted t p k) q k) x 0)
+      go true e = rw (eqb-true x q e) (single-high (getD (noted (noted t p k) q k) q 0) (noted-here (noted t p k) q k (simp length-set (omega arith))))
+      go false e = rw (getD-set-other (noted t p k) q x (markOf (getD (noted t p k) q 0) k) 0 (eqb-false x q e)) (single-first x)
+
+-- the marks of the two ends of one bond more
+pub marked-add : {marks l h : List ℕ} {k : ℕ} (p q v w : ℕ) → Marked marks l h k → p < maxAtoms → q < maxAtoms → k < length l → k < length h
+    → v ≡ markOf (getD marks p 0) k → w ≡ markOf (getD (set marks p v) q 0) k
+    → Marked (set (set marks p v) q w) (set l k p) (set h k q) (k + 1)
+marked-add {marks} {l} {h} {k} p q v w m a b rl rh ev ew =
     let r = m .room in
     let rp : p < length marks = omega arith in
-    let rq : q < length (set marks p 1) = simp length-set (omega arith) in
-    let up : (x : ℕ) → 0 < getD marks x 0 → 0 < getD (set (set marks p 1) q 1) x 0 = λ x z. mark-kept (set marks p 1) q x rq (mark-kept marks p x rp z) in
-    record {
+    let rq : q < length marks = omega arith in
+    let r1 : q < length (noted marks p k) = simp length-set rq in
+    let up : (x i : ℕ) → Mark (getD marks x 0) i → Mark (getD (noted (noted marks p k) q k) x 0) i = λ x i z. noted-kept (noted marks p k) q k x i r1 (noted-kept marks p k x i rp z) in
+    rw (ew, ev)
+    (record {
       room = simp length-set r;
-      los = mark-more marks (set (set marks p 1) q 1) l k p up (mark-kept (set marks p 1) q p rq (mark-here marks p rp)) rl (m .los);
-      his = mark-more marks (set (set marks p 1) q 1) h k q up (mark-here (set marks p 1) q rq) rh (m .his);
-    }
+      los = mark-more marks (noted (noted marks p k) q k) l k p up (noted-kept (noted marks p k) q k p k r1 (noted-here marks p k rp)) rl (m .los);
+      his = mark-more marks (noted (noted marks p k) q k) h k q up (noted-here (noted marks p k) q k r1) rh (m .his);
+      single = single-more marks l h k p q rp rq rl rh (m .single);
+    })

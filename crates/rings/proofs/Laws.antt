@@ -6,7 +6,7 @@ use mathlib.Core.Path.{_≡_, refl, sym, ap, _∙_, subst}
 use mathlib.Core.Bool.{Bool, true, false}
 use mathlib.Core.List.{List, [], _∷_, _++_}
 use lib.ListN.{length, getD, set}
-use lib.Dec.{eqb}
+use lib.Dec.{eqb, ltb}
 use borrow.Author.Tests.{eqb-true, eqb-false, lt-ltb, le-ltb}
 use Rattle.walk.specs.Token.{Bond, eqBond}
 use Rattle.walk.specs.Emit.{Slot, find, release, lowest, insert, closeAll, openAll}
@@ -15,8 +15,8 @@ use Rattle.walk.proofs.Read.{openOf, Within, first-in, close-within}
 use Rattle.pen.specs.Pen.{Pen, Wrote}
 use Rattle.pen.proofs.Laws.{also, as-is, nothing}
 use Rattle.writing.specs.Spell.{kindBytes, bridgeBytes}
-use Rattle.rings.specs.Unused.{Marked}
-use Rattle.rings.specs.Slots.{indexOf, Near, Bridged, Slots, closesFrom, opensFrom, closeBytes, openBytes, fits, Closed, Opened}
+use Rattle.rings.specs.Unused.{many, Mark, Marked}
+use Rattle.rings.specs.Slots.{indexOf, Near, Bridged, Slots, closesFrom, opensFrom, closeBytes, openBytes, fits, Released, Inserted, Closed, Opened, Ended}
 use Rattle.rings.proofs.Slots.{same-number, lowest-index, slots-insert, find-index, slots-release}
 use Rattle.rings.proofs.Sweep.{sweep-none, sweep-first}
 
@@ -71,28 +71,17 @@ module _ (los his : List ℕ) (k x y i : ℕ) (near : Near his los x y k k i) wh
   is-open : (f : ℕ → Bond) (n : ℕ) (t : List Slot) → Bridged f n k los his → i < k → Within (closesFrom f n k x y) (openOf t) → 0 < count (eqBond (f i)) (openOf t)
   is-open f n t b h w = first-in (f i) (closesFrom f n k x (getD los i 0 + 1)) (openOf t) (subst (λ l. Within l (openOf t)) (closes-first f n b h) w)
 
-  pub close-lost : (a : List ℕ) (p : Pen) (r : ℕ) → i < k → r ≡ indexOf (i + 1) a → length a ≤ r → Closed los his k x y a a p p
-  close-lost a p r h e g =
-      record {
-        told = λ f n t b s w.
-            absurd (let q = find-index f k (same-number b) i h s (is-open f n t b h w) in let z : r ≡ find (f i) t = e ∙ ap (λ (j : ℕ). indexOf j a) (add-one i) ∙ q .0 in let v = q .1 in omega arith);
-      }
-
-  pub close-next : (a a1 c : List ℕ) (p q s : Pen) (r : ℕ) → i < k → r ≡ indexOf (i + 1) a → a1 ≡ set a r 0 → Wrote (kindBytes 0 ++ bridgeBytes r) p q
-      → Closed los his k x (getD los i 0 + 1) a1 c q s → Closed los his k x y a c p s
-  unfolding closeBytes kindBytes
-  close-next a a1 c p q s r h e g w n =
+  pub close-next : (a a1 c : List ℕ) (p q s : Pen) → i < k → Released i a a1 p q → Closed los his k x (getD los i 0 + 1) a1 c q s → Closed los his k x y a c p s
+  unfolding closeBytes
+  close-next a a1 c p q s h r n =
       record {
         told = λ f N t b sl wi.
-            let o = is-open f N t b h wi in
-            let fi = find-index f k (same-number b) i h sl o in
-            let z : r ≡ find (f i) t = e ∙ ap (λ (j : ℕ). indexOf j a) (add-one i) ∙ fi .0 in
             let ca = closes-first f N b h in
             let R = closesFrom f N k x (getD los i 0 + 1) in
-            let sl1 : Slots f k a1 (release (f i) t) = subst (λ l. Slots f k l (release (f i) t)) (sym (g ∙ ap (λ (j : ℕ). set a j 0) z)) (slots-release f k (same-number b) i h sl o) in
+            let v = r .told f N k los his t b h sl (is-open f N t b h wi) in
             let wi1 : Within R (openOf (release (f i) t)) = close-within (f i) R t (subst (λ l. Within l (openOf t)) ca wi) in
-            let m = n .told f N (release (f i) t) b sl1 wi1 in
-            (as-is (ap (λ l. closeBytes l t) ca) (also (as-is (ap bridgeBytes (sym z)) w) (m .0)), subst (λ l. Slots f k c (closeAll l t)) (sym ca) (m .1));
+            let m = n .told f N (release (f i) t) b (v .1) wi1 in
+            (as-is (ap (λ l. closeBytes l t) ca) (also (v .0) (m .0)), subst (λ l. Slots f k c (closeAll l t)) (sym ca) (m .1));
       }
 
 -- openings
@@ -110,43 +99,142 @@ module _ (los his kinds : List ℕ) (k x y i : ℕ) (near : Near los his x y k k
   open-end a p h =
       record { told = λ f n t b kk s. (let e = opens-none f n b h in (sym (ap (λ l. fits (length a) l t) e), λ _. (as-is (ap (λ l. openBytes l t) e) nothing, subst (λ l. Slots f k a (openAll l t)) (sym e) s))) }
 
-  pub open-full : (a : List ℕ) (p : Pen) (r : ℕ) → i < k → r ≡ indexOf 0 a → length a ≤ r → Opened los his kinds k x y a a false p p
+  pub open-full : (a c : List ℕ) (p q : Pen) (few : Bool) (kd : ℕ) → i < k → few ≡ false → Inserted i kd a c few p q → Opened los his kinds k x y a c few p q
   unfolding fits
-  open-full a p r h e g =
+  open-full a c p q few kd h e n =
       record {
-        told = λ f n t b kk s.
-            let z : r ≡ lowest t = e ∙ lowest-index f k s in
-            let q = opens-first f n b h in
-            (sym (ap (λ l. fits (length a) l t) q ∙ rw (le-ltb (lowest t) (length a) (omega arith))), λ w. absurd (let v : _≡_ {A = ℕ} 0 1 = cc in omega arith));
+        told = λ f N t b kk s.
+            let m = n .told f k t h s in
+            let z : ltb (lowest t) (length a) ≡ false = sym (m .0) ∙ e in
+            (e ∙ sym (ap (λ l. fits (length a) l t) (opens-first f N b h) ∙ rw z), λ w. absurd (let v : _≡_ {A = ℕ} 0 1 = cc in omega arith));
       }
 
-  pub open-next : (a a1 c : List ℕ) (p q s : Pen) (few : Bool) (r kd : ℕ) → i < k → r ≡ indexOf 0 a → r < length a → length a1 ≡ length a → a1 ≡ set a r (i + 1) → kd ≡ getD kinds i 0 → Wrote (kindBytes kd ++ bridgeBytes r) p q
+  pub open-next : (a a1 c : List ℕ) (p q s : Pen) (one few : Bool) (kd : ℕ) → i < k → one ≡ true → length a1 ≡ length a → kd ≡ getD kinds i 0 → Inserted i kd a a1 one p q
       → Opened los his kinds k x (getD his i 0 + 1) a1 c few q s → Opened los his kinds k x y a c few p s
   unfolding openBytes fits
-  open-next a a1 c p q s few r kd h e l len g ek w n =
+  open-next a a1 c p q s one few kd h e len ek r n =
       record {
         told = λ f N t b kk sl.
-            let z : r ≡ lowest t = e ∙ lowest-index f k sl in
             let ca = opens-first f N b h in
-            let sl1 : Slots f k a1 (insert (f i) t) = subst (λ x. Slots f k x (insert (f i) t)) (sym (g ∙ (λ j. set a (z j) (add-one i j)))) (slots-insert f k i h sl (omega arith)) in
-            let m = n .told f N (insert (f i) t) b kk sl1 in (
-              m .0 ∙ sym (ap (λ l. fits (length a) l t) ca ∙ rw (lt-ltb (lowest t) (length a) (omega arith), ← len)),
-              λ y. (as-is (ap (λ l. openBytes l t) ca) (also (as-is (λ j. kindBytes ((kk i h ∙ sym ek) j) ++ bridgeBytes (sym z j)) w) (m .1 y .0)), subst (λ l. Slots f k c (openAll l t)) (sym ca) (m .1 y .1)),
+            let v = r .told f k t h sl in
+            let z : ltb (lowest t) (length a) ≡ true = sym (v .0) ∙ e in
+            let m = n .told f N (insert (f i) t) b kk (v .1 e .1) in (
+              m .0 ∙ sym (ap (λ l. fits (length a) l t) ca ∙ rw (z, ← len)),
+              λ y. (as-is (ap (λ l. openBytes l t) ca) (also (as-is (ap (λ (j : ℕ). kindBytes j ++ bridgeBytes (lowest t)) (kk i h ∙ sym ek)) (v .1 e .0)) (m .1 y .0)), subst (λ l. Slots f k c (openAll l t)) (sym ca) (m .1 y .1)),
             );
       }
 
--- at an atom that is not marked nothing closes and nothing opens
-module _ (marks los his : List ℕ) (k x : ℕ) (m : Marked marks los his k) (off : getD marks x 0 ≡ 0) where
-  near-none : (ends keys : List ℕ) → ((i : ℕ) → i < k → 0 < getD marks (getD ends i 0) 0) → Near ends keys x 0 k k k
-  near-none ends keys n =
-      record {
-        within = omega arith;
-        here = λ h. absurd (omega arith);
-        least = λ i h e. absurd (let y : getD marks (getD ends i 0) 0 ≡ 0 = ap (λ (j : ℕ). getD marks j 0) e ∙ off in let z = n i h in omega arith);
-      }
+-- one bond is closed, or opened
+pub released-lost : (i : ℕ) (a : List ℕ) (p : Pen) (r : ℕ) → r ≡ indexOf (i + 1) a → length a ≤ r → Released i a a p p
+released-lost i a p r e g =
+    record {
+      told = λ f n k los his t b h s o.
+          absurd (let q = find-index f k (same-number b) i h s o in let z : r ≡ find (f i) t = e ∙ ap (λ (j : ℕ). indexOf j a) (add-one i) ∙ q .0 in let v = q .1 in omega arith);
+    }
 
-  pub close-off : (a : List ℕ) (p : Pen) → Closed los his k x 0 a a p p
-  close-off a p = close-end los his k x 0 k (near-none his los (m .his)) a p (omega arith)
+pub released : (i : ℕ) (a c : List ℕ) (p q : Pen) (r : ℕ) → r ≡ indexOf (i + 1) a → c ≡ set a r 0 → Wrote (kindBytes 0 ++ bridgeBytes r) p q → Released i a c p q
+unfolding kindBytes
+released i a c p q r e g w =
+    record {
+      told = λ f n k los his t b h s o.
+          let z : r ≡ find (f i) t = e ∙ ap (λ (j : ℕ). indexOf j a) (add-one i) ∙ find-index f k (same-number b) i h s o .0 in
+          (as-is (ap bridgeBytes (sym z)) w, subst (λ l. Slots f k l (release (f i) t)) (sym (g ∙ ap (λ (j : ℕ). set a j 0) z)) (slots-release f k (same-number b) i h s o));
+    }
 
-  pub open-off : (kinds a : List ℕ) (p : Pen) → Opened los his kinds k x 0 a a true p p
-  open-off kinds a p = open-end los his kinds k x 0 k (near-none los his (m .los)) a p (omega arith)
+pub inserted-full : (i kd : ℕ) (a : List ℕ) (p : Pen) (r : ℕ) → r ≡ indexOf 0 a → length a ≤ r → Inserted i kd a a false p p
+inserted-full i kd a p r e g =
+    record {
+      told = λ f k t h s.
+          let z : r ≡ lowest t = e ∙ lowest-index f k s in
+          (sym (le-ltb (lowest t) (length a) (omega arith)), λ w. absurd (let v : _≡_ {A = ℕ} 0 1 = cc in omega arith));
+    }
+
+pub inserted : (i kd : ℕ) (a c : List ℕ) (p q : Pen) (r : ℕ) → r ≡ indexOf 0 a → r < length a → c ≡ set a r (i + 1) → Wrote (kindBytes kd ++ bridgeBytes r) p q → Inserted i kd a c true p q
+inserted i kd a c p q r e l g w =
+    record {
+      told = λ f k t h s.
+          let z : r ≡ lowest t = e ∙ lowest-index f k s in (
+            sym (lt-ltb (lowest t) (length a) (omega arith)),
+            λ y. (as-is (ap (λ (j : ℕ). kindBytes kd ++ bridgeBytes j) (sym z)) w, subst (λ x. Slots f k x (insert (f i) t)) (sym (g ∙ (λ j. set a (z j) (add-one i j)))) (slots-insert f k i h s (omega arith))),
+          );
+    }
+
+-- what closes at an atom and then what opens there
+pub ended : (los his kinds : List ℕ) (k x : ℕ) (a b c : List ℕ) (few : Bool) (p q r : Pen) → length b ≡ length a → Closed los his k x 0 a b p q → Opened los his kinds k x 0 b c few q r → Ended los his kinds k x a c few p r
+ended los his kinds k x a b c few p q r len cl op =
+    record {
+      told = λ f n t br kk sl wi.
+          let C = cl .told f n t br sl wi in
+          let O = op .told f n (closeAll (closesFrom f n k x 0) t) br kk (C .1) in
+          (O .0 ∙ ap (λ (j : ℕ). fits j (opensFrom f n k x 0) (closeAll (closesFrom f n k x 0) t)) len, λ y. (also (C .0) (O .1 y .0), O .1 y .1));
+    }
+
+-- no bond with the end x goes on from y
+near-none : (ends keys : List ℕ) (x y k : ℕ) → ((i : ℕ) → i < k → getD ends i 0 ≡ x → y ≤ getD keys i 0 → ⊥) → Near ends keys x y k k k
+near-none ends keys x y k n = record { within = omega arith; here = λ h. absurd (omega arith); least = λ i h e g. absurd (n i h e g) }
+
+module _ (marks los his : List ℕ) (k x : ℕ) (m : Marked marks los his k) where
+  -- at an atom that is not marked nothing closes and nothing opens
+  unmarked : (ends keys : List ℕ) → getD marks x 0 ≡ 0 → ((i : ℕ) → i < k → Mark (getD marks (getD ends i 0) 0) i) → Near ends keys x 0 k k k
+  unmarked ends keys off n =
+      near-none ends keys x 0 k (λ i h e g. let y : getD marks (getD ends i 0) 0 ≡ 0 = ap (λ (j : ℕ). getD marks j 0) e ∙ off in let z = n i h .some in omega arith)
+
+  pub ends-none : (kinds a : List ℕ) (p : Pen) → getD marks x 0 ≡ 0 → Ended los his kinds k x a a true p p
+  ends-none kinds a p off =
+      ended los his kinds k x a a a true p p p refl (close-end los his k x 0 k (unmarked his los off (m .his)) a p (omega arith)) (open-end los his kinds k x 0 k (unmarked los his off (m .los)) a p (omega arith))
+
+  -- at an atom with the mark of one bond that bond closes or opens
+  module _ (on : getD marks x 0 ≡ 0 → ⊥) (one : getD marks x 0 < many) where
+    abbrev I : ℕ
+    I = getD marks x 0 - 1
+
+    pub single-below : getD marks x 0 - 1 < k
+    single-below = let w = m .single x (omega arith) one .within in omega arith
+
+    is-single : (ends : List ℕ) → ((i : ℕ) → i < k → Mark (getD marks (getD ends i 0) 0) i) → (i : ℕ) → i < k → getD ends i 0 ≡ x → i ≡ I
+    is-single ends n i h e =
+        let y : getD marks (getD ends i 0) 0 ≡ getD marks x 0 = ap (λ (j : ℕ). getD marks j 0) e in
+        let z = n i h .only (omega arith) in
+        omega arith
+
+    module _ (ends keys : List ℕ) (n : (i : ℕ) → i < k → Mark (getD marks (getD ends i 0) 0) i) where
+      near-single : getD ends I 0 ≡ x → Near ends keys x 0 k k I
+      near-single e =
+          let l = single-below in
+          record {
+            within = omega arith;
+            here = λ h. (e, omega arith);
+            least = λ i h q g. (l, (let z : getD keys i 0 ≡ getD keys I 0 = ap (λ (j : ℕ). getD keys j 0) (is-single ends n i h q) in omega arith));
+          }
+
+      near-past : Near ends keys x (getD keys I 0 + 1) k k k
+      near-past =
+          near-none ends keys x (getD keys I 0 + 1) k (λ i h q g. let z : getD keys i 0 ≡ getD keys I 0 = ap (λ (j : ℕ). getD keys j 0) (is-single ends n i h q) in omega arith)
+
+      near-not : (getD ends I 0 ≡ x → ⊥) → Near ends keys x 0 k k k
+      near-not e = near-none ends keys x 0 k (λ i h q g. e (subst (λ (j : ℕ). getD ends j 0 ≡ x) (is-single ends n i h q) q))
+
+    pub ends-closing : (kinds a c : List ℕ) (p q : Pen) → length c ≡ length a → getD his I 0 ≡ x → Released I a c p q → Ended los his kinds k x a c true p q
+    ends-closing kinds a c p q len e r =
+        ended los his kinds k x a c c true p q q len
+        (close-next los his k x 0 I (near-single his los (m .his) e) a c c p q q single-below r (close-end los his k x (getD los I 0 + 1) k (near-past his los (m .his)) c q (omega arith)))
+        (record {
+          told = λ f n t b kk s.
+              let lo = b .lo I single-below in
+              let hi = b .hi I single-below in
+              let or = b .ordered I single-below in
+              open-end los his kinds k x 0 k (near-not los his (m .los) (λ g. omega arith)) c q (omega arith) .told f n t b kk s;
+        })
+
+    pub ends-opening : (kinds a c : List ℕ) (p q : Pen) (few : Bool) (kd : ℕ) → length c ≡ length a → (getD his I 0 ≡ x → ⊥) → kd ≡ getD kinds I 0 → Inserted I kd a c few p q → Ended los his kinds k x a c few p q
+    ends-opening kinds a c p q few kd len e ek r =
+        ended los his kinds k x a a c few p p q refl (close-end los his k x 0 k (near-not his los (m .his) e) a p (omega arith)) (go few refl)
+      where
+        near : Near los his x 0 k k I
+        near = near-single los his (m .los) (m .single x (omega arith) one .low e)
+
+        go : (b : Bool) → few ≡ b → Opened los his kinds k x 0 a c few p q
+        go true t =
+            subst (λ (b : Bool). Opened los his kinds k x 0 a c b p q) (sym t)
+            (open-next los his kinds k x 0 I near a c c p q q few true kd single-below t len ek r (open-end los his kinds k x (getD his I 0 + 1) k (near-past los his (m .los)) c q (omega arith)))
+        go false t = open-full los his kinds k x 0 I near a c p q few kd single-below t r

@@ -1,5 +1,5 @@
 -- The bonds that the walk does not use, in three arrays (01, Writing: they become bridges)
-use Prim.Native.Nat.{ℕ, suc, _<_, _≤_}
+use Prim.Native.Nat.{ℕ, suc, _-_, _<_, _≤_}
 use mathlib.Core.Path.{_≡_}
 use mathlib.Core.Bool.{Bool}
 use mathlib.Core.List.{List}
@@ -48,8 +48,27 @@ pub record BagRoom (l h k : List ℕ) : Type 0 where
   pub his : maxBonds ≤ length h
   pub kinds : maxBonds ≤ length k
 
--- the ends of the first k bonds are marked in an array by walk number
+-- the mark of a walk number that is an end of several bonds
+abbrev pub many : ℕ
+many = 65535
+
+-- the mark of an end of the bond i, from the mark before
+unfoldable pub markOf : ℕ → ℕ → ℕ
+markOf m i = pick (eqb m 0) (suc i) many
+
+-- m is the mark of an end of the bond i
+pub record Mark (m i : ℕ) : Type 0 where
+  pub some : 0 < m
+  pub only : m < many → m ≡ suc i
+
+-- m is the number plus 1 of one of the first k bonds, and x is an end of it
+pub record Single (l h : List ℕ) (k x m : ℕ) : Type 0 where
+  pub within : m ≤ k
+  pub low : (getD h (m - 1) 0 ≡ x → ⊥) → getD l (m - 1) 0 ≡ x
+
+-- the ends of the first k bonds are marked in an array by walk number: the number plus 1 of the only bond with that end, or many
 pub record Marked (marks l h : List ℕ) (k : ℕ) : Type 0 where
   pub room : maxAtoms ≤ length marks
-  pub los : (i : ℕ) → i < k → 0 < getD marks (getD l i 0) 0
-  pub his : (i : ℕ) → i < k → 0 < getD marks (getD h i 0) 0
+  pub los : (i : ℕ) → i < k → Mark (getD marks (getD l i 0) 0) i
+  pub his : (i : ℕ) → i < k → Mark (getD marks (getD h i 0) 0) i
+  pub single : (x : ℕ) → 0 < getD marks x 0 → getD marks x 0 < many → Single l h k x (getD marks x 0)

@@ -3,10 +3,13 @@ ghost use mathlib.Core.Path.{_≡_};
 ghost use mathlib.Core.List.{_++_};
 ghost use Prim.Native.Nat.{_+_, _<_, _≤_};
 ghost use lib.ListN.{length, set};
-ghost use Rattle.table.specs.Limits.{maxBonds};
+ghost use Rattle.table.specs.Limits.{maxAtoms, maxBonds};
 ghost use Rattle.pen.specs.Pen.{pen, Wrote};
 ghost use Rattle.writing.specs.Spell.{kindBytes, bridgeBytes};
-ghost use Rattle.rings.specs.Slots.{indexOf, Near, Closed, Opened};
+ghost use Rattle.rings.specs.Slots.{indexOf, Near, Released, Inserted, Closed, Opened, Ended};
+ghost use Rattle.rings.specs.Unused.{Marked};
+use table::MAX_ATOMS;
+use unused::MANY;
 
 pub mod unused;
 
@@ -93,8 +96,33 @@ fn write_slot(
     spell::bridge(out, at, r)
 }
 
-// internal: what closes at the atom x, by ascending other end from a bound on.
-pub fn close_from(
+// The bond i closes: its bridge number is written, and its slot is free again.
+fn close_bond(slots: &mut [u16], out: &mut [u8], at: usize, i: usize) -> usize
+    requires { ⌜ (length (now slots) < 100) × (i < maxBonds) ⌝ }
+    ensures { λ r. ⌜ Released i (now (slots .entry)) (now (slots .exit)) (pen (now (out .entry)) at) (pen (now (out .exit)) r) ⌝ }
+{
+    let r = slot_of(slots, i + 1);
+    if slots.len() <= r {
+        return at;
+    }
+    write_slot(slots, out, at, 0, r, 0)
+}
+
+// The bond i opens: the lowest free bridge number is written after its symbol, if there is one.
+fn open_bond(slots: &mut [u16], out: &mut [u8], at: usize, kind: usize, i: usize) -> Spot
+    requires { ⌜ (length (now slots) < 100) × (i < maxBonds) ⌝ }
+    ensures { λ r. ⌜ Inserted i kind (now (slots .entry)) (now (slots .exit)) (r .few) (pen (now (out .entry)) at) (pen (now (out .exit)) (r .at)) ⌝ }
+{
+    let r = slot_of(slots, 0);
+    if slots.len() <= r {
+        return Spot { few: false, at };
+    }
+    let at = write_slot(slots, out, at, kind, r, i + 1);
+    Spot { few: true, at }
+}
+
+// What closes at the atom x, by ascending other end from a bound on.
+fn close_from(
     los: &[u16],
     his: &[u16],
     k: usize,
@@ -112,17 +140,13 @@ pub fn close_from(
     if k <= i {
         return at;
     }
-    let r = slot_of(slots, i + 1);
-    if slots.len() <= r {
-        return at;
-    }
-    let at = write_slot(slots, out, at, 0, r, 0);
+    let at = close_bond(slots, out, at, i);
     let next = los[i] as usize + 1;
     close_from(los, his, k, x, next, slots, out, at)
 }
 
-// internal: what opens at the atom x, by ascending other end from a bound on.
-pub fn open_from(
+// What opens at the atom x, by ascending other end from a bound on.
+fn open_from(
     los: &[u16],
     his: &[u16],
     kinds: &[u8],
@@ -142,11 +166,47 @@ pub fn open_from(
     if k <= i {
         return Spot { few: true, at };
     }
-    let r = slot_of(slots, 0);
-    if slots.len() <= r {
-        return Spot { few: false, at };
+    let spot = open_bond(slots, out, at, kinds[i] as usize, i);
+    let few = spot.few;
+    if !few {
+        return spot;
     }
-    let at = write_slot(slots, out, at, kinds[i] as usize, r, i + 1);
     let next = his[i] as usize + 1;
+    let at = spot.at;
     open_from(los, his, kinds, k, x, next, slots, out, at)
+}
+
+// internal: what closes at the atom x, and then what opens there.
+pub fn ring_ends(
+    los: &[u16],
+    his: &[u16],
+    kinds: &[u8],
+    marks: &[u16; MAX_ATOMS],
+    k: usize,
+    x: usize,
+    slots: &mut [u16],
+    out: &mut [u8],
+    at: usize,
+) -> Spot
+    requires { ⌜ (k ≤ length (now los)) × (k ≤ length (now his)) ⌝ }
+    requires { ⌜ (k ≤ maxBonds) × (length (now slots) < 100) ⌝ }
+    requires { ⌜ k ≤ length (now kinds) ⌝ }
+    requires { ⌜ Marked (now marks) (now los) (now his) k ⌝ }
+    requires { ⌜ x < maxAtoms ⌝ }
+    ensures { λ r. ⌜ Ended (now (los .entry)) (now (his .entry)) (now (kinds .entry)) k x (now (slots .entry)) (now (slots .exit)) (r .few) (pen (now (out .entry)) at) (pen (now (out .exit)) (r .at)) ⌝ }
+{
+    let mark = marks[x];
+    if mark == 0 {
+        return Spot { few: true, at };
+    }
+    if mark < MANY {
+        let i = mark as usize - 1;
+        if his[i] as usize == x {
+            let at = close_bond(slots, out, at, i);
+            return Spot { few: true, at };
+        }
+        return open_bond(slots, out, at, kinds[i] as usize, i);
+    }
+    let at = close_from(los, his, k, x, 0, slots, out, at);
+    open_from(los, his, kinds, k, x, 0, slots, out, at)
 }

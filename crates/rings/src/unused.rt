@@ -1,24 +1,35 @@
 // The bonds that the walk does not use.
 ghost use mathlib.Core.Path.{_≡_};
 ghost use Prim.Native.Nat.{_-_, _<_, _≤_};
-ghost use lib.ListN.{length};
+ghost use lib.ListN.{length, replicate};
 ghost use Rattle.loops.specs.Loop.{run, upTo};
 ghost use Rattle.table.specs.Limits.{maxAtoms, maxBonds};
 ghost use Rattle.walk.specs.Token.{bond};
 ghost use Rattle.tour.specs.Tour.{BondsFit};
 ghost use Rattle.tour.specs.Wires.{wires};
-ghost use Rattle.rings.specs.Unused.{bag, addBond, inWalk, Numbered, BagRoom, Marked};
+ghost use Rattle.rings.specs.Unused.{bag, addBond, inWalk, Numbered, BagRoom, markOf, Marked};
 use ids::BondId;
 use table::MAX_ATOMS;
 use table::MAX_BONDS;
 
-// A bond between two atoms, by their walk numbers plus 1, is added, and its ends are marked, unless it joins an atom to its parent.
+// The mark of a walk number that is an end of several unused bonds.
+pub const MANY: u16 = 65535;
+
+// The mark of a walk number that is an end of the bond i, from its mark before.
+fn mark(old: u16, i: usize) -> u16
+    requires { ⌜ i < maxBonds ⌝ }
+    ensures { λ r. ⌜ r ≡ markOf old i ⌝ }
+{
+    if old == 0 { (i + 1) as u16 } else { MANY }
+}
+
+// A bond between two atoms, by their walk numbers plus 1, is added, and its ends get their marks, unless it joins an atom to its parent.
 fn add_bond(
     up: &[u16],
     los: &mut [u16],
     his: &mut [u16],
     kinds: &mut [u8],
-    marks: &mut [u8; MAX_ATOMS],
+    marks: &mut [u16; MAX_ATOMS],
     p: usize,
     q: usize,
     kind: usize,
@@ -41,8 +52,8 @@ fn add_bond(
     los[used] = low as u16;
     his[used] = high as u16;
     kinds[used] = kind as u8;
-    marks[low] = 1;
-    marks[high] = 1;
+    marks[low] = mark(marks[low], used);
+    marks[high] = mark(marks[high], used);
     used + 1
 }
 
@@ -58,7 +69,7 @@ fn add_unused(
     los: &mut [u16],
     his: &mut [u16],
     kinds: &mut [u8],
-    marks: &mut [u8; MAX_ATOMS],
+    marks: &mut [u16; MAX_ATOMS],
     b: BondId,
     used: usize,
 ) -> usize
@@ -82,7 +93,7 @@ fn add_unused(
     add_bond(up, los, his, kinds, marks, q, p, kind, used)
 }
 
-// internal: the bonds that the walk does not use, in walk numbers, by ascending number, and a mark at each walk number that is an end of one. How many there are.
+// internal: the bonds that the walk does not use, in walk numbers, by ascending number, and at each walk number a mark: 0 where it is an end of none, the number plus 1 of the only one, or MANY. How many there are.
 pub fn unused(
     ea: &[u16; MAX_BONDS],
     eb: &[u16; MAX_BONDS],
@@ -94,12 +105,12 @@ pub fn unused(
     los: &mut [u16],
     his: &mut [u16],
     kinds: &mut [u8],
-    marks: &mut [u8; MAX_ATOMS],
+    marks: &mut [u16; MAX_ATOMS],
 ) -> usize
     requires { ⌜ BondsFit (wires (now ea) (now eb) (now ks)) n m ⌝ }
     requires { ⌜ Numbered (upTo (wires (now ea) (now eb) (now ks)) 0 m) n (now number) (now up) ⌝ }
     requires { ⌜ BagRoom (now los) (now his) (now kinds) ⌝ }
-    requires { ⌜ maxAtoms ≤ length (now marks) ⌝ }
+    requires { ⌜ now marks ≡ replicate maxAtoms 0 ⌝ }
     ensures { λ r. ⌜ bag (now (los .exit)) (now (his .exit)) (now (kinds .exit)) r ≡ run (λ b. addBond (now (up .entry)) (inWalk (wires (now (ea .entry)) (now (eb .entry)) (now (ks .entry))) n m b)) 0 m (bag (now (los .entry)) (now (his .entry)) (now (kinds .entry)) 0) ⌝ }
     ensures { λ r. ⌜ Marked (now (marks .exit)) (now (los .exit)) (now (his .exit)) r ⌝ }
 {

@@ -21,7 +21,7 @@ use Rattle.writing.specs.Spell.{kindBytes}
 use Rattle.pen.specs.Pen.{Pen, pen, Wrote}
 use Rattle.pen.proofs.Laws.{also, as-is, nothing}
 use Rattle.spell.specs.Fields.{spelledAtom}
-use Rattle.rings.specs.Slots.{Bridged, Slots, closesFrom, opensFrom, closeBytes, openBytes, fits, Closed, Opened}
+use Rattle.rings.specs.Slots.{Bridged, Slots, closesFrom, opensFrom, fits, Ended}
 use Rattle.writer.specs.Emit.{leaveBytes, enterBytes, leadBytes, headBytes, moreAt, Emitted, Texted, Pending, nextSlots, bytesFrom, fewFrom}
 
 -- what stands before an atom
@@ -59,19 +59,14 @@ piece-lead x zero k m h e = rw (ne-eqb x 0 e)
 piece-lead x (suc u) k m h e = absurd (omega arith)
 
 -- an atom
-pub emitted : (atoms : List ℤ) (order up kind last sums los his kinds : List ℕ) (k x : ℕ) (a b c : List ℕ) (few : Bool) (p1 p2 p3 p4 p5 : Pen) (m : Bool)
-    → m ≡ moreAt up last x → length b ≡ length a
-    → Wrote (leadBytes x (getD up x 0) m (getD kind x 0)) p1 p2 → Wrote (spelledAtom atoms (getD order x 0) (getD sums (getD order x 0) 0)) p2 p3
-    → Closed los his k x 0 a b p3 p4 → Opened los his kinds k x 0 b c few p4 p5
-    → Emitted atoms order up kind last sums los his kinds k x a c few p1 p5
-emitted atoms order up kind last sums los his kinds k x a b c few p1 p2 p3 p4 p5 m em len w1 w2 cl op =
+pub emitted : (atoms : List ℤ) (order up kind last sums los his kinds : List ℕ) (k x : ℕ) (a c : List ℕ) (few : Bool) (p q r s : Pen) (m : Bool) → m ≡ moreAt up last x
+    → Wrote (leadBytes x (getD up x 0) m (getD kind x 0)) p q → Wrote (spelledAtom atoms (getD order x 0) (getD sums (getD order x 0) 0)) q r → Ended los his kinds k x a c few r s
+    → Emitted atoms order up kind last sums los his kinds k x a c few p s
+emitted atoms order up kind last sums los his kinds k x a c few p q r s m em w1 w2 e =
     record {
       told = λ f n t br kk sl wi.
-          let C = cl .told f n t br sl wi in
-          let O = op .told f n (closeAll (closesFrom f n k x 0) t) br kk (C .1) in (
-            O .0 ∙ ap (λ (j : ℕ). fits j (opensFrom f n k x 0) (closeAll (closesFrom f n k x 0) t)) len,
-            λ y. (also (also (as-is (ap (λ (z : Bool). leadBytes x (getD up x 0) z (getD kind x 0)) (sym em)) w1) w2) (also (C .0) (O .1 y .0)), O .1 y .1),
-          );
+          let E = e .told f n t br kk sl wi in
+          (E .0, λ y. (also (also (as-is (ap (λ (z : Bool). leadBytes x (getD up x 0) z (getD kind x 0)) (sym em)) w1) w2) (E .1 y .0), E .1 y .1));
     }
 
 -- the bridge bonds, as the laws of the walk take them

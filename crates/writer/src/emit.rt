@@ -55,7 +55,7 @@ fn emit_atom(
     los: &[u16],
     his: &[u16],
     kinds: &[u8],
-    marks: &[u8; MAX_ATOMS],
+    marks: &[u16; MAX_ATOMS],
     k: usize,
     slots: &mut [u16],
     x: usize,
@@ -72,11 +72,7 @@ fn emit_atom(
     let more = last[u] as usize != x;
     let at = lead(out, at, x, u, more, kind[x] as usize);
     let at = spell::fields::atom(atoms, AtomId(a), sums[a] as usize, out, at);
-    if marks[x] == 0 {
-        return Spot { few: true, at };
-    }
-    let at = rings::close_from(los, his, k, x, 0, slots, out, at);
-    rings::open_from(los, his, kinds, k, x, 0, slots, out, at)
+    rings::ring_ends(los, his, kinds, marks, k, x, slots, out, at)
 }
 
 // internal: the atoms of a walk in order, into the buffer from its start.
@@ -91,7 +87,7 @@ pub fn emit(
     los: &[u16],
     his: &[u16],
     kinds: &[u8],
-    marks: &[u8; MAX_ATOMS],
+    marks: &[u16; MAX_ATOMS],
     k: usize,
     out: &mut [u8],
 ) -> Spot

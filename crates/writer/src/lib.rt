@@ -53,7 +53,7 @@ fn draw(
     let mut los = [0u16; MAX_BONDS];
     let mut his = [0u16; MAX_BONDS];
     let mut kinds = [0u8; MAX_BONDS];
-    let mut marks = [0u8; MAX_ATOMS];
+    let mut marks = [0u16; MAX_ATOMS];
     let k = rings::unused::unused(
         ea,
         eb,

@@ -1,5 +1,6 @@
 use Rattle.writer.proofs.Assembly.{parents-fit, ready, said, held-fit, held-numbered, held-sums, held-listed, bag-zeros, sums-at}
-use lib.Dec.{lit<, lit≤}
+use mathlib.Core.Path.{refl}
+use lib.Dec.{lit<}
 use native.Mathlib.Omega.{arith}
 use borrow.Author.Needs.{needs}
 use Rattle.writer.proofs.draw.Statement.{statement}
@@ -17,7 +18,7 @@ slice-aggregate-unused-3 c = search needs
 unused-requires : tie.Need-unused-requires
 unused-requires c κs =
     let h = c .before .before .before .before .before .before .before .before .before .before .pre .1 in
-    (held-fit h, (held-numbered h, (bag-zeros, lit≤ tt)))
+    (held-fit h, (held-numbered h, (bag-zeros, refl)))
 
 slice-aggregate-last-children : tie.Need-slice-aggregate-last-children
 slice-aggregate-last-children c = search needs
