@@ -16,9 +16,10 @@ use refusal::Refusal;
 use state::BRIDGES;
 use state::State;
 use table::Bond;
+use table::FIRST;
 use table::MAX_BONDS;
-use table::cell::number;
-use table::row::get_bond;
+use table::SECOND;
+use table::cell::bond_number;
 
 // How a part of a text went.
 pub enum Why {
@@ -52,12 +53,11 @@ fn joins(bonds: &[i32], i: BondId, a: AtomId, b: AtomId) -> bool
     requires { ⌜ i .0 < maxBonds ⌝ }
     ensures { λ r. ⌜ r ≡ joins (now (bonds .entry)) (a .0) (b .0) (i .0) ⌝ }
 {
-    let row = get_bond(bonds, i);
-    let x = number(row.first);
-    let y = number(row.second);
+    let y = bond_number(bonds, i, SECOND);
     if (y != a.0) & (y != b.0) {
         return false;
     }
+    let x = bond_number(bonds, i, FIRST);
     ((x == a.0) & (y == b.0)) | ((x == b.0) & (y == a.0))
 }
 

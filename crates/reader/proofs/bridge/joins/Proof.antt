@@ -8,7 +8,6 @@ use lib.Dec.{eqb}
 use denote.Ref.{now}
 use Rattle.table.specs.Cells.{end1, end2}
 use Rattle.table.proofs.Keys.{never}
-use Rattle.graph.proofs.Sums.{row-cells}
 use Rattle.reading.specs.Memory.{joins}
 use borrow.Author.Needs.{needs}
 use Rattle.reader.proofs.bridge.joins.Statement.{statement}
@@ -31,27 +30,24 @@ module _ (bonds : List ℤ) (a b i x y : ℕ) (e : x ≡ end1 bonds i) (f : y �
   unfolding joins
   by-ends = simp (e, f)
 
-get-bond-requires : tie.Need-get-bond-requires
-get-bond-requires c κs = search needs
-
-number-requires : tie.Need-number-requires
-number-requires c κs = search needs
-
-number-requires-2 : tie.Need-number-requires-2
-number-requires-2 c κs = search needs
+bond-number-requires : tie.Need-bond-number-requires
+bond-number-requires c κs = search needs
 
 returns : tie.Need-returns
 returns c =
-    let s = c .before .before .before .before .before .before .before .before in
-    let r = row-cells (now (s .args .bonds)) (s .args .i .0) (c .before .before .before .before .before .before .before .get-bond .result) (c .before .before .before .before .before .before .before .get-bond .ensures) (s .pre) in
-    apart (now (s .args .bonds)) (s .args .a .0) (s .args .b .0) (s .args .i .0) (c .before .before .before .before .before .number .result) (c .before .before .before .number2 .result) (c .before .before .before .before .before .number .ensures ∙ r .0) (c .before .before .before .number2 .ensures ∙ r .1) (c .if1 .taken)
+    let s = c .before .before .before .before in
+    let y = c .before .before .before .bond-number in
+    apart (now (s .args .bonds)) (s .args .a .0) (s .args .b .0) (s .args .i .0) _ (y .result) refl (y .ensures) (c .if1 .taken)
+
+bond-number-requires-2 : tie.Need-bond-number-requires-2
+bond-number-requires-2 c κs = search needs
 
 returns-2 : tie.Need-returns-2
 returns-2 c =
-    let s = c .before .before .before .before .before .before .before .before .before .before .before .before in
-    let r = row-cells (now (s .args .bonds)) (s .args .i .0) (c .before .before .before .before .before .before .before .before .before .before .before .get-bond .result) (c .before .before .before .before .before .before .before .before .before .before .before .get-bond .ensures) (s .pre) in
-    by-ends (now (s .args .bonds)) (s .args .a .0) (s .args .b .0) (s .args .i .0) (c .before .before .before .before .before .before .before .before .before .number .result) (c .before .before .before .before .before .before .before .number2 .result) (c .before .before .before .before .before .before .before .before .before .number .ensures ∙ r .0) (c .before .before .before .before .before .before .before .number2 .ensures ∙ r .1)
+    let x = c .before .before .before .before .bond-number2 in
+    let y = c .before .before .before .before .before .before .before .before .bond-number in
+    let s = c .before .before .before .before .before .before .before .before .before in
+    by-ends (now (s .args .bonds)) (s .args .a .0) (s .args .b .0) (s .args .i .0) (x .result) (y .result) (x .ensures) (y .ensures)
 
 pub joins-spec : {M : Type 1} → statement M
-joins-spec =
-    tie.close (tie.spec get-bond-requires number-requires number-requires-2 returns returns-2)
+joins-spec = tie.close (tie.spec bond-number-requires returns bond-number-requires-2 returns-2)
