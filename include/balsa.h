@@ -1,4 +1,4 @@
-/* Balsa text: reading, writing and kekulizing, by a proved library (crate capi; link libcapi.a).
+/* Balsa text: reading, writing and kekulizing, by a proved library (crate balsa; link libbalsa.a).
  *
  * A slice is a pointer and then its length in elements; a length of 0 may come with a null pointer.
  * Every call is proved for all lengths and all contents: nothing outside the slices is touched, every

@@ -1,4 +1,4 @@
-//! Links the archive of the proved calls, which `rt staticlib capi` writes; it is made here where it is missing.
+//! Links the archive of the proved calls, which `rt staticlib balsa` writes; it is made here where it is missing.
 
 use std::path::Path;
 use std::process::Command;
@@ -6,18 +6,18 @@ use std::process::Command;
 fn main() {
     let root = Path::new(env!("CARGO_MANIFEST_DIR")).join("../..");
     let folder = root.join("target/staticlib");
-    let archive = folder.join("libcapi.a");
+    let archive = folder.join("libbalsa.a");
     if !archive.exists() {
         let made = Command::new("rt")
-            .args(["staticlib", "capi"])
+            .args(["staticlib", "balsa"])
             .current_dir(&root)
             .status();
         assert!(
             made.is_ok_and(|status| status.success()) && archive.exists(),
-            "`rt staticlib capi` in the repository's root did not make the archive"
+            "`rt staticlib balsa` in the repository's root did not make the archive"
         );
     }
     println!("cargo:rustc-link-search=native={}", folder.display());
-    println!("cargo:rustc-link-lib=static=capi");
+    println!("cargo:rustc-link-lib=static=balsa");
     println!("cargo:rerun-if-changed={}", archive.display());
 }

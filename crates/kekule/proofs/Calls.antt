@@ -22,11 +22,11 @@ use Rattle.matching.specs.declared.Call.{Call}
 use Rattle.matching.specs.declared.Call.the-variants.{First, Next}
 use Rattle.matching.proofs.Enumeration.{first-matching, row-length, after}
 use Rattle.matching.proofs.Graph.{enumeration-agrees}
-use Rattle.graph.specs.Graph.{delocalizedFlags, bondOf, graphOf, matchingOf}
+use Rattle.table_graph.specs.Graph.{delocalizedFlags, bondOf, graphOf, matchingOf}
 use Rattle.table.specs.declared.Check.the-variants.{Fine, Refused as checkRefused}
-use Rattle.answers.specs.declared.Found.{Found}
-use Rattle.answers.specs.declared.Found.the-variants.{Refused}
-use Rattle.answers.specs.Answers.{foundCode, callOf}
+use Rattle.kekule_answers.specs.declared.Found.{Found}
+use Rattle.kekule_answers.specs.declared.Found.the-variants.{Refused}
+use Rattle.kekule_answers.specs.Answers.{foundCode, callOf}
 use Rattle.kekule.specs.Kekule.{Out, out, outOf, roomy, callOn}
 use Rattle.kekule.specs.Calls.{repliesOf, codesOf, lastRow, State, state, callStep, ranOf, replayed, replayedOf}
 use Rattle.kekule.proofs.Kekule.{row-room}

@@ -21,9 +21,9 @@ use Rattle.matching.specs.declared.Call.{Call}
 use Rattle.matching.specs.declared.Call.the-variants.{First, Next}
 use Rattle.matching.proofs.Calls.{whole-list, first-none, none-first, next-present}
 use Rattle.matching.proofs.Claims.{empty-iff}
-use Rattle.graph.specs.Graph.{delocalizedFlags, bondOf, graphOf, matchingOf, matchable}
-use Rattle.answers.specs.declared.Found.the-variants.{Given, End, Refused}
-use Rattle.answers.specs.Answers.{foundOf}
+use Rattle.table_graph.specs.Graph.{delocalizedFlags, bondOf, graphOf, matchingOf, matchable}
+use Rattle.kekule_answers.specs.declared.Found.the-variants.{Given, End, Refused}
+use Rattle.kekule_answers.specs.Answers.{foundOf}
 use Rattle.kekule.specs.Kekule.{Out, out, outOf, roomy, callOn}
 use Rattle.kekule.specs.Calls.{repliesOf}
 

@@ -10,9 +10,9 @@ use Rattle.matching.specs.Model.{bondsOf, some?, reply}
 use Rattle.matching.specs.declared.Answer.{Answer}
 use Rattle.matching.specs.declared.Answer.the-variants.{Absent}
 use Rattle.matching.specs.declared.Call.the-variants.{First}
-use Rattle.graph.specs.Graph.{matchingOf, matchable}
-use Rattle.graph.specs.Built.{Built}
-use Rattle.answers.specs.Answers.{foundOf, isGiven}
+use Rattle.table_graph.specs.Graph.{matchingOf, matchable}
+use Rattle.table_graph.specs.Built.{Built}
+use Rattle.kekule_answers.specs.Answers.{foundOf, isGiven}
 use Rattle.kekule.proofs.Kekule.{first-built}
 
 given-some : (len : ℕ) (es : List Row) → isGiven (foundOf (orZeroed len Absent es .answer)) ≡ some? es

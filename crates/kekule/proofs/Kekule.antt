@@ -16,13 +16,13 @@ use Rattle.matching.specs.Graph.{isMatching}
 use Rattle.matching.specs.Model.{bondsOf, matchingFrom, part}
 use Rattle.matching.specs.declared.Call.{Call}
 use Rattle.matching.specs.declared.Call.the-variants.{First, Next}
-use Rattle.search.proofs.Reply.{matching-all}
-use Rattle.graph.specs.Graph.{matchingOf}
-use Rattle.graph.specs.Built.{Built}
-use Rattle.graph.proofs.Graph.{built-bonds, length-first}
+use Rattle.matching_search.proofs.Reply.{matching-all}
+use Rattle.table_graph.specs.Graph.{matchingOf}
+use Rattle.table_graph.specs.Built.{Built}
+use Rattle.table_graph.proofs.Graph.{built-bonds, length-first}
 use Rattle.refusal.specs.declared.Refusal.the-variants.{Short, NotMatching, Invalid}
 use Rattle.table.specs.declared.Check.the-variants.{Refused as checkRefused}
-use Rattle.answers.specs.declared.Found.the-variants.{Refused}
+use Rattle.kekule_answers.specs.declared.Found.the-variants.{Refused}
 use Rattle.kekule.specs.Kekule.{Out, out, outOf, roomy, callOn, isMatchingOf, Tables, tables, kekulized, kekulizedOf}
 
 module _ {atoms bonds : List ℤ} {n m : ℕ} {flags ea eb el : List ℕ} (b : Built atoms bonds n m flags ea eb el) where

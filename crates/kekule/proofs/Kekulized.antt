@@ -21,7 +21,7 @@ use Rattle.valence.specs.Valence.{delocalized}
 use Rattle.matching.specs.Enumeration.{matchings}
 use Rattle.matching.specs.Graph.{noneFlagged}
 use Rattle.matching.proofs.Graph.{only-zeros, matching-pairs}
-use Rattle.graph.specs.Graph.{delocalizedAt, delocalizedFlag, delocalizedFlags, flag, bondOf, graphOf, matchingOf}
+use Rattle.table_graph.specs.Graph.{delocalizedAt, delocalizedFlag, delocalizedFlags, flag, bondOf, graphOf, matchingOf}
 use Rattle.kekule.specs.Kekule.{roomy, isMatchingOf, tables, kekulized, kekulizedOf}
 
 -- flags that are all 0

@@ -15,8 +15,8 @@ use Rattle.matching.specs.declared.Answer.the-variants.{Given, Absent}
 use Rattle.matching.specs.declared.Call.the-variants.{First}
 use Rattle.matching.proofs.Graph.{same-bool}
 use Rattle.matching.proofs.Listing.{rowAt, passes-at, place-of}
-use Rattle.graph.specs.Graph.{noneSelected, matchingOf}
-use Rattle.graph.proofs.Localized.{unselected-one}
+use Rattle.table_graph.specs.Graph.{noneSelected, matchingOf}
+use Rattle.table_graph.proofs.Localized.{unselected-one}
 use Rattle.kekule.specs.Kekule.{allZero, isMatchingOf}
 
 -- zeros up to the last bond and zeros after it

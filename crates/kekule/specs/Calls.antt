@@ -11,9 +11,9 @@ use Rattle.table.specs.declared.Check.{Check}
 use Rattle.table.specs.declared.Check.the-variants.{Fine, Refused as checkRefused}
 use Rattle.matching.specs.Graph.{enumeration}
 use Rattle.matching.specs.declared.Call.{Call}
-use Rattle.graph.specs.Graph.{delocalizedFlags, graphOf}
-use Rattle.answers.specs.declared.Found.the-variants.{Refused}
-use Rattle.answers.specs.Answers.{foundCode, callOf}
+use Rattle.table_graph.specs.Graph.{delocalizedFlags, graphOf}
+use Rattle.kekule_answers.specs.declared.Found.the-variants.{Refused}
+use Rattle.kekule_answers.specs.Answers.{foundCode, callOf}
 use Rattle.kekule.specs.Kekule.{Out, out, outOf, roomy, callOn}
 
 -- what the enumeration of the molecule gives to the calls; each call gives 1 where a buffer is too short, 13 on tables that are not valid

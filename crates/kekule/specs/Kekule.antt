@@ -14,12 +14,12 @@ use Rattle.table.specs.declared.Check.{Check}
 use Rattle.table.specs.declared.Check.the-variants.{Fine, Refused as checkRefused}
 use Rattle.matching.specs.Enumeration.{Reply, isRow, rowCall}
 use Rattle.matching.specs.declared.Call.{Call}
-use Rattle.graph.specs.Graph.{matchingOf}
-use Rattle.answers.specs.declared.Found.{Found}
-use Rattle.answers.specs.declared.Found.the-variants.{Refused}
-use Rattle.answers.specs.declared.Asked.{Asked}
-use Rattle.answers.specs.declared.Asked.the-variants.{Yes, No, Refused as askedRefused}
-use Rattle.answers.specs.Answers.{foundOf}
+use Rattle.table_graph.specs.Graph.{matchingOf}
+use Rattle.kekule_answers.specs.declared.Found.{Found}
+use Rattle.kekule_answers.specs.declared.Found.the-variants.{Refused}
+use Rattle.kekule_answers.specs.declared.Asked.{Asked}
+use Rattle.kekule_answers.specs.declared.Asked.the-variants.{Yes, No, Refused as askedRefused}
+use Rattle.kekule_answers.specs.Answers.{foundOf}
 
 -- an answer and the row as it is then
 pub record Out : Type 0 where

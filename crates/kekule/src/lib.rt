@@ -7,16 +7,16 @@ ghost use lib.IntN.{ℤ};
 ghost use Rattle.table.specs.Valid.{Valid};
 ghost use Rattle.matching.specs.Enumeration.{rowCall, zeroed};
 ghost use Rattle.matching.specs.Model.{reply};
-ghost use Rattle.graph.specs.Graph.{matchingOf, matchable};
-ghost use Rattle.graph.specs.Built.{Prepared};
+ghost use Rattle.table_graph.specs.Graph.{matchingOf, matchable};
+ghost use Rattle.table_graph.specs.Built.{Prepared};
 ghost use Rattle.kekule.specs.Kekule.{out, outOf, roomy, callOn, allZero, isMatchingOf, askedOf, tables, kekulized, kekulizedOf, Counted};
 ghost use Rattle.kekule.specs.Calls.{state, ranOf, replayed, replayedOf};
-use answers::Asked;
-use answers::Found;
-use answers::call_of;
-use answers::found_code;
-use answers::found_of;
-use answers::is_given;
+use kekule_answers::Asked;
+use kekule_answers::Found;
+use kekule_answers::call_of;
+use kekule_answers::found_code;
+use kekule_answers::found_of;
+use kekule_answers::is_given;
 use matching::Answer;
 use matching::Call;
 use refusal::Refusal;
@@ -28,7 +28,7 @@ use table::MAX_BONDS;
 fn roomy(atoms: &[i32], bonds: &[i32], len: usize) -> bool
     ensures { λ r. ⌜ r ≡ roomy (now (atoms .entry)) (now (bonds .entry)) len ⌝ }
 {
-    (MAX_BONDS <= len) & validity::enough(atoms, bonds)
+    (MAX_BONDS <= len) & table_validity::enough(atoms, bonds)
 }
 
 // The search for one of the two calls, on the graph of valid tables.
@@ -41,10 +41,10 @@ fn search_graph(c: Call, atoms: &[i32], bonds: &[i32], n: usize, m: usize, row: 
     let mut ea = [0u16; MAX_BONDS];
     let mut eb = [0u16; MAX_BONDS];
     let mut el = [0u8; MAX_BONDS];
-    graph::build(atoms, bonds, n, m, &mut flags, &mut ea, &mut eb, &mut el);
+    table_graph::build(atoms, bonds, n, m, &mut flags, &mut ea, &mut eb, &mut el);
     match c {
-        Call::First => engine::first(&ea[..m], &eb[..m], &el[..m], &mut flags[..n], row),
-        Call::Next => engine::next(&ea[..m], &eb[..m], &el[..m], &mut flags[..n], row),
+        Call::First => matching_engine::first(&ea[..m], &eb[..m], &el[..m], &mut flags[..n], row),
+        Call::Next => matching_engine::next(&ea[..m], &eb[..m], &el[..m], &mut flags[..n], row),
     }
 }
 
@@ -52,7 +52,7 @@ fn search_graph(c: Call, atoms: &[i32], bonds: &[i32], n: usize, m: usize, row: 
 fn give_zeros(row: &mut [u8]) -> Answer
     ensures { λ r. ⌜ reply r (now (row .exit)) ≡ zeroed (length (now (row .entry))) Answer.Given ⌝ }
 {
-    search::clear(row, 0);
+    matching_search::clear(row, 0);
     Answer::Given
 }
 
@@ -62,7 +62,7 @@ fn ask_first(atoms: &[i32], bonds: &[i32], n: usize, m: usize, row: &mut [u8]) -
     requires { ⌜ m ≤ length (now row) ⌝ }
     ensures { λ r. ⌜ reply r (now (row .exit)) ≡ rowCall (matchingOf (now (atoms .entry)) (now (bonds .entry)) n m) m Call.First (now (row .entry)) ⌝ }
 {
-    if graph::none_selected(atoms, n) {
+    if table_graph::none_selected(atoms, n) {
         return give_zeros(row);
     }
     search_graph(Call::First, atoms, bonds, n, m, row)
@@ -109,13 +109,13 @@ pub fn matchable(
     requires { ⌜ ((bonds : List ℤ) × Prepared (now atoms) bonds n m (now sums) (now ea) (now eb) (now el)) ⌝ }
     ensures { λ r. ⌜ ((bonds : List ℤ) → Prepared (now (atoms .entry)) bonds n m (now (sums .entry)) (now (ea .entry)) (now (eb .entry)) (now (el .entry)) → r ≡ matchable (now (atoms .entry)) bonds n m) ⌝ }
 {
-    if graph::none_selected(atoms, n) {
+    if table_graph::none_selected(atoms, n) {
         return true;
     }
     let mut flags = [0u8; MAX_ATOMS];
     let mut row = [0u8; MAX_BONDS];
-    graph::fill_flags(atoms, sums, n, &mut flags);
-    let answer = engine::first(&ea[..m], &eb[..m], &el[..m], &mut flags[..n], &mut row);
+    table_graph::fill_flags(atoms, sums, n, &mut flags);
+    let answer = matching_engine::first(&ea[..m], &eb[..m], &el[..m], &mut flags[..n], &mut row);
     is_given(found_of(answer))
 }
 
@@ -126,8 +126,8 @@ fn call(c: Call, atoms: &[i32], bonds: &[i32], n: usize, m: usize, row: &mut [u8
     if !roomy(atoms, bonds, row.len()) {
         return Found::Refused(Refusal::Short);
     }
-    if !validity::valid(atoms, bonds, n, m) {
-        search::clear(row, 0);
+    if !table_validity::valid(atoms, bonds, n, m) {
+        matching_search::clear(row, 0);
         return Found::Refused(Refusal::Invalid);
     }
     call_valid(c, atoms, bonds, n, m, row)
@@ -171,15 +171,15 @@ pub fn is_matching_valid(atoms: &[i32], bonds: &[i32], n: usize, m: usize, row: 
     requires { ⌜ m ≤ length (now row) ⌝ }
     ensures { λ r. ⌜ r ≡ isMatchingOf (now (atoms .entry)) (now (bonds .entry)) n m (now (row .entry)) ⌝ }
 {
-    if graph::none_selected(atoms, n) {
+    if table_graph::none_selected(atoms, n) {
         return all_zero(row, m);
     }
     let mut flags = [0u8; MAX_ATOMS];
     let mut ea = [0u16; MAX_BONDS];
     let mut eb = [0u16; MAX_BONDS];
     let mut el = [0u8; MAX_BONDS];
-    graph::build(atoms, bonds, n, m, &mut flags, &mut ea, &mut eb, &mut el);
-    search::fits(&ea[..m], &eb[..m], &el[..m], &mut flags[..n], row)
+    table_graph::build(atoms, bonds, n, m, &mut flags, &mut ea, &mut eb, &mut el);
+    matching_search::fits(&ea[..m], &eb[..m], &el[..m], &mut flags[..n], row)
 }
 
 // Whether the row, up to the last bond, is a matching of the molecule; nothing changes. 1: a table or the row is too short,
@@ -190,7 +190,7 @@ pub fn is_matching(atoms: &[i32], bonds: &[i32], n: usize, m: usize, row: &[u8])
     if !roomy(atoms, bonds, row.len()) {
         return Asked::Refused(Refusal::Short);
     }
-    if !validity::valid(atoms, bonds, n, m) {
+    if !table_validity::valid(atoms, bonds, n, m) {
         return Asked::Refused(Refusal::Invalid);
     }
     if is_matching_valid(atoms, bonds, n, m, row) {
@@ -204,8 +204,8 @@ pub fn kekulize_valid(atoms: &mut [i32], bonds: &mut [i32], n: usize, m: usize, 
     requires { ⌜ Counted n m (now row) ⌝ }
     ensures { λ _. ⌜ tables Check.Fine (now (atoms .exit)) (now (bonds .exit)) ≡ kekulized (now (atoms .entry)) (now (bonds .entry)) n m (now (row .entry)) ⌝ }
 {
-    edits::kekulize::unselect_atoms(atoms, n);
-    edits::kekulize::double_bonds(bonds, m, row);
+    table_edits::kekulize::unselect_atoms(atoms, n);
+    table_edits::kekulize::double_bonds(bonds, m, row);
 }
 
 // Kekulizes a molecule in its tables by a row: the row's bonds become kind 2 and every selected cell 0. 1: a table or the row
@@ -216,7 +216,7 @@ pub fn kekulize(atoms: &mut [i32], bonds: &mut [i32], n: usize, m: usize, row: &
     if !roomy(atoms, bonds, row.len()) {
         return Check::Refused(Refusal::Short);
     }
-    if !validity::valid(atoms, bonds, n, m) {
+    if !table_validity::valid(atoms, bonds, n, m) {
         return Check::Refused(Refusal::Invalid);
     }
     if !is_matching_valid(atoms, bonds, n, m, row) {
@@ -265,6 +265,6 @@ pub fn replay(
         return Check::Refused(Refusal::Short);
     }
     run_calls(calls, atoms, bonds, n, m, row, codes);
-    search::clear(codes, calls.len());
+    matching_search::clear(codes, calls.len());
     Check::Fine
 }

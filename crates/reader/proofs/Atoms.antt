@@ -17,22 +17,22 @@ use Rattle.element.specs.Lookup.{letterOf}
 use Rattle.refusal.specs.declared.Refusal.{Refusal}
 use Rattle.refusal.specs.declared.Refusal.the-variants.{Grammar, ManyAtoms, ManyBonds}
 use Rattle.refusal.specs.Code.{codeOf}
-use Rattle.grammar.specs.declared.Last.the-variants.{Plain as plain}
-use Rattle.grammar.specs.declared.Mode.the-variants.{Seq as seq, Dot as dot}
-use Rattle.grammar.specs.Fold.{keeps, refuses}
+use Rattle.reading_grammar.specs.declared.Last.the-variants.{Plain as plain}
+use Rattle.reading_grammar.specs.declared.Mode.the-variants.{Seq as seq, Dot as dot}
+use Rattle.reading_grammar.specs.Fold.{keeps, refuses}
 use Rattle.table.specs.Limits.{maxAtoms, maxBonds}
 use Rattle.table.specs.Rows.{withAtom, putAtom, withBond, putBond}
 use Rattle.table.specs.declared.Atom.{Atom}
 use Rattle.table.specs.declared.Bond.{Bond}
-use Rattle.state.specs.State.{Steering}
-use Rattle.state.specs.declared.Fields.{Fields}
+use Rattle.reading_state.specs.State.{Steering}
+use Rattle.reading_state.specs.declared.Fields.{Fields}
 use Rattle.reading.specs.Memory.{Memory, nothing, kindOf, bondRow, extended, begun, described, drafted}
 use Rattle.reading.specs.Act.{Acts, modeAct, atomAct, firstByte}
-use Rattle.field.specs.Rest.{rest, memory}
-use Rattle.field.specs.Spelled.{Begins, Admitted, SpellsRow, SpellsNothing, SpellsNot, Spells}
-use Rattle.field.specs.declared.spelled.Spelled.{Spelled}
-use Rattle.field.proofs.Rest.{rest-refused}
-use Rattle.field.proofs.Bytes.{there}
+use Rattle.reading_fields.specs.Rest.{rest, memory}
+use Rattle.reading_fields.specs.Spelled.{Begins, Admitted, SpellsRow, SpellsNothing, SpellsNot, Spells}
+use Rattle.reading_fields.specs.declared.spelled.Spelled.{Spelled}
+use Rattle.reading_fields.proofs.Rest.{rest-refused}
+use Rattle.reading_fields.proofs.Bytes.{there}
 use Rattle.reader.specs.declared.piece.Joint.{Joint}
 use Rattle.reader.specs.declared.atom.Added.{Added}
 use Rattle.reader.specs.declared.atom.Crowd.{Crowd}

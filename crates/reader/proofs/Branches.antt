@@ -12,22 +12,22 @@ use Rattle.element.specs.Symbols.{among, letters}
 use Rattle.element.specs.Lookup.{letterOf, selectedOf}
 use Rattle.refusal.specs.declared.Refusal.{Refusal}
 use Rattle.refusal.specs.declared.Refusal.the-variants.{Grammar, DeepBranch}
-use Rattle.grammar.specs.Grammar.{nonzero, bondSymbols}
-use Rattle.grammar.specs.declared.Last.the-variants.{Plain as plain}
-use Rattle.grammar.specs.declared.Mode.the-variants.{Seq as seq, Dot as dot}
-use Rattle.grammar.specs.declared.Out.the-variants.{Up as up, Down as down}
-use Rattle.grammar.specs.Machine.{next, resting, atomOr, bridgeOr}
-use Rattle.grammar.specs.Fold.{keeps, good, bad}
+use Rattle.reading_grammar.specs.Grammar.{nonzero, bondSymbols}
+use Rattle.reading_grammar.specs.declared.Last.the-variants.{Plain as plain}
+use Rattle.reading_grammar.specs.declared.Mode.the-variants.{Seq as seq, Dot as dot}
+use Rattle.reading_grammar.specs.declared.Out.the-variants.{Up as up, Down as down}
+use Rattle.reading_grammar.specs.Machine.{next, resting, atomOr, bridgeOr}
+use Rattle.reading_grammar.specs.Fold.{keeps, good, bad}
 use Rattle.table.specs.Limits.{maxAtoms}
-use Rattle.state.specs.declared.Fields.{Fields}
-use Rattle.state.specs.Limits.{maxDepth}
-use Rattle.state.specs.State.{Steering, opened, closed}
+use Rattle.reading_state.specs.declared.Fields.{Fields}
+use Rattle.reading_state.specs.Limits.{maxDepth}
+use Rattle.reading_state.specs.State.{Steering, opened, closed}
 use Rattle.reading.specs.Memory.{Memory, nothing, moved}
 use Rattle.reading.specs.Act.{modeAct, branchAct}
-use Rattle.field.specs.Rest.{rest, memory}
-use Rattle.field.specs.Field.{Peeked}
-use Rattle.field.proofs.Rest.{rest-end, rest-up, rest-up-refused, rest-down}
-use Rattle.field.proofs.Bytes.{there, byte-in}
+use Rattle.reading_fields.specs.Rest.{rest, memory}
+use Rattle.reading_fields.specs.Field.{Peeked}
+use Rattle.reading_fields.proofs.Rest.{rest-end, rest-up, rest-up-refused, rest-down}
+use Rattle.reading_fields.proofs.Bytes.{there, byte-in}
 use Rattle.reader.specs.declared.piece.Start.{Start}
 use Rattle.reader.specs.declared.bridge.Why.{Why}
 use Rattle.reader.specs.Piece.{pendingOf, Joined}

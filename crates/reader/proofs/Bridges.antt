@@ -13,15 +13,15 @@ use borrow.Author.Tests.{eq-eqb, ne-eqb, eqb-true, leb-false, lt-ltb}
 use Rattle.refusal.specs.declared.Refusal.{Refusal}
 use Rattle.refusal.specs.declared.Refusal.the-variants.{ManyBonds, SelfBridge, RepeatedBond, SymbolClash}
 use Rattle.refusal.specs.Code.{codeOf}
-use Rattle.grammar.specs.Fold.{keeps, refuses}
+use Rattle.reading_grammar.specs.Fold.{keeps, refuses}
 use Rattle.table.specs.Limits.{maxAtoms, maxBonds}
 use Rattle.table.specs.Rows.{withBond, putBond}
 use Rattle.table.specs.declared.Bond.{Bond}
-use Rattle.state.specs.declared.Fields.{Fields}
-use Rattle.state.specs.State.{Steering, joined, bridged}
+use Rattle.reading_state.specs.declared.Fields.{Fields}
+use Rattle.reading_state.specs.State.{Steering, joined, bridged}
 use Rattle.reading.specs.Memory.{Memory, nothing, symbol, kindOf, joins, joinedAlready, clash, meet, between, closeRefusal, moved}
 use Rattle.reading.specs.Act.{Acts, orRefuse, bridgeAct, bridgeBond}
-use Rattle.field.specs.Rest.{memory}
+use Rattle.reading_fields.specs.Rest.{memory}
 use Rattle.reader.specs.declared.bridge.Why.{Why}
 use Rattle.reader.specs.declared.bridge.Closing.{Closing}
 use Rattle.reader.specs.Piece.{kindPending}

@@ -17,30 +17,30 @@ use Rattle.loops.proofs.Loops.{and-left, and-right, upTo-at}
 use Rattle.refusal.specs.declared.Refusal.{Refusal}
 use Rattle.refusal.specs.declared.Refusal.the-variants.{Short, LongText, Grammar, OpenBridge, NoMatching}
 use Rattle.valence.specs.Valence.{implied}
-use Rattle.grammar.specs.declared.Last.the-variants.{Plain as plain}
-use Rattle.grammar.specs.declared.Mode.the-variants.{Seq as seq, Dot as dot}
-use Rattle.grammar.specs.declared.State as machine
-use Rattle.grammar.specs.declared.State.the-variants.{Start as start}
-use Rattle.grammar.specs.Machine.{next, step, resting, accepting}
-use Rattle.grammar.specs.Fold.{Reading, going, halted, feed, read, Answer, good, bad, finish, answer}
+use Rattle.reading_grammar.specs.declared.Last.the-variants.{Plain as plain}
+use Rattle.reading_grammar.specs.declared.Mode.the-variants.{Seq as seq, Dot as dot}
+use Rattle.reading_grammar.specs.declared.State as machine
+use Rattle.reading_grammar.specs.declared.State.the-variants.{Start as start}
+use Rattle.reading_grammar.specs.Machine.{next, step, resting, accepting}
+use Rattle.reading_grammar.specs.Fold.{Reading, going, halted, feed, read, Answer, good, bad, finish, answer}
 use Rattle.table.specs.Limits.{maxAtoms, HYDROGENS}
 use Rattle.table.specs.Cells.{atomPlace, element, selected}
 use Rattle.table.specs.Valid.{Valid, enough}
-use Rattle.graph.specs.Graph.{bondSum, matchable}
-use Rattle.graph.specs.Built.{Wired, Prepared}
-use Rattle.state.specs.declared.Fields.{Fields}
-use Rattle.state.specs.Limits.{maxText, maxDepth, bridges}
-use Rattle.state.specs.State.{Steering, steering, started}
-use Rattle.state.specs.declared.State.{State}
+use Rattle.table_graph.specs.Graph.{bondSum, matchable}
+use Rattle.table_graph.specs.Built.{Wired, Prepared}
+use Rattle.reading_state.specs.declared.Fields.{Fields}
+use Rattle.reading_state.specs.Limits.{maxText, maxDepth, bridges}
+use Rattle.reading_state.specs.State.{Steering, steering, started}
+use Rattle.reading_state.specs.declared.State.{State}
 use Rattle.reading.specs.Memory.{Memory, nothing, blank}
 use Rattle.reading.specs.Act.{act, modeAct}
 use Rattle.reading.specs.Read.{Told, zeros, refused, short, beginning, hydrogenate, hydrogenated, earlier, leftmost, ended, finished, readFrom, readOf}
 use Rattle.reading.proofs.Hydrogens.{implied-small}
 use Rattle.reading.proofs.Valid.{sane-valid}
 use Rattle.reading.proofs.Claims.{read-sane}
-use Rattle.field.specs.Rest.{rest, memory}
-use Rattle.field.proofs.Rest.{rest-end, rest-down-stop}
-use Rattle.field.proofs.Bytes.{there}
+use Rattle.reading_fields.specs.Rest.{rest, memory}
+use Rattle.reading_fields.proofs.Rest.{rest-end, rest-down-stop}
+use Rattle.reading_fields.proofs.Bytes.{there}
 use Rattle.reader.specs.declared.piece.Joint.{Joint}
 use Rattle.reader.specs.declared.bridge.Why.{Why}
 use Rattle.reader.specs.declared.ending.Answer as reply

@@ -13,24 +13,24 @@ use Rattle.element.specs.Symbols.{among, letters}
 use Rattle.element.specs.Lookup.{letterOf, selectedOf}
 use Rattle.element.specs.declared.Letter.{Letter}
 use Rattle.element.specs.declared.Letter.the-variants.{Plain as Alone, Selected, Half, Bracket as Opening, Nothing}
-use Rattle.grammar.specs.Grammar.{nonzero, digits, bondSymbols}
-use Rattle.grammar.specs.declared.Last.the-variants.{Plain as plain}
-use Rattle.grammar.specs.declared.Mode.{Mode}
-use Rattle.grammar.specs.declared.Mode.the-variants.{Seq as seq, Bond as bond, Dot as dot, Inside as inside, Percent as percent, Percent1 as percent1}
-use Rattle.grammar.specs.declared.Out.the-variants.{Stop as stop, To as to}
-use Rattle.grammar.specs.Machine.{next, resting, atomOr, bridgeOr}
-use Rattle.grammar.specs.Fold.{keeps, refuses}
-use Rattle.grammar.proofs.Ends.{each}
-use Rattle.state.specs.declared.Fields.{Fields}
-use Rattle.state.specs.State.{Steering, joined, bridged}
+use Rattle.reading_grammar.specs.Grammar.{nonzero, digits, bondSymbols}
+use Rattle.reading_grammar.specs.declared.Last.the-variants.{Plain as plain}
+use Rattle.reading_grammar.specs.declared.Mode.{Mode}
+use Rattle.reading_grammar.specs.declared.Mode.the-variants.{Seq as seq, Bond as bond, Dot as dot, Inside as inside, Percent as percent, Percent1 as percent1}
+use Rattle.reading_grammar.specs.declared.Out.the-variants.{Stop as stop, To as to}
+use Rattle.reading_grammar.specs.Machine.{next, resting, atomOr, bridgeOr}
+use Rattle.reading_grammar.specs.Fold.{keeps, refuses}
+use Rattle.reading_grammar.proofs.Ends.{each}
+use Rattle.reading_state.specs.declared.Fields.{Fields}
+use Rattle.reading_state.specs.State.{Steering, joined, bridged}
 use Rattle.reading.specs.Memory.{Memory, nothing, dotted, symbol, symbolKind, counting, moved, kindOf, closeRefusal}
 use Rattle.reading.specs.Bracket.{digit}
 use Rattle.reading.specs.Act.{Acts, modeAct, bridgeAct, orRefuse, bridgeBond}
-use Rattle.field.specs.Rest.{rest, memory}
-use Rattle.field.specs.Field.{Peeked}
-use Rattle.field.proofs.Rest.{rest-to, rest-refused, rest-stop, rest-dead, alike, alike-in, alike-dead}
-use Rattle.field.proofs.Bytes.{digit-high, nonzero-digit, digit-in, byte-in}
-use Rattle.field.proofs.Letters.{nothing-first}
+use Rattle.reading_fields.specs.Rest.{rest, memory}
+use Rattle.reading_fields.specs.Field.{Peeked}
+use Rattle.reading_fields.proofs.Rest.{rest-to, rest-refused, rest-stop, rest-dead, alike, alike-in, alike-dead}
+use Rattle.reading_fields.proofs.Bytes.{digit-high, nonzero-digit, digit-in, byte-in}
+use Rattle.reading_fields.proofs.Letters.{nothing-first}
 use Rattle.reader.specs.declared.piece.Joint.{Joint}
 use Rattle.reader.specs.declared.piece.Piece.{Piece}
 use Rattle.reader.specs.Piece.{jointOf, kindMode, kindPending, startMode, startPending, Loose, Free, afterBridge, SeenAtom, Seen, Joined}

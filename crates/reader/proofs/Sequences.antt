@@ -7,14 +7,14 @@ use mathlib.Core.List.{List}
 use lib.ListN.{length, getD}
 use lib.IntN.{ℤ}
 use Rattle.refusal.specs.declared.Refusal.{Refusal}
-use Rattle.grammar.specs.declared.Last.the-variants.{Plain as plain}
-use Rattle.grammar.specs.declared.Mode.the-variants.{Seq as seq, Dot as dot}
-use Rattle.grammar.specs.Fold.{Answer}
-use Rattle.state.specs.State.{Steering}
-use Rattle.state.specs.declared.Fields.{Fields}
+use Rattle.reading_grammar.specs.declared.Last.the-variants.{Plain as plain}
+use Rattle.reading_grammar.specs.declared.Mode.the-variants.{Seq as seq, Dot as dot}
+use Rattle.reading_grammar.specs.Fold.{Answer}
+use Rattle.reading_state.specs.State.{Steering}
+use Rattle.reading_state.specs.declared.Fields.{Fields}
 use Rattle.reading.specs.Memory.{Memory, nothing}
-use Rattle.field.specs.Rest.{rest, memory}
-use Rattle.field.specs.Field.{Peeked}
+use Rattle.reading_fields.specs.Rest.{rest, memory}
+use Rattle.reading_fields.specs.Field.{Peeked}
 use Rattle.reader.specs.declared.piece.Joint.{Joint}
 use Rattle.reader.specs.declared.bridge.Why.{Why}
 use Rattle.reader.specs.Piece.{pendingOf, startMode, startPending}

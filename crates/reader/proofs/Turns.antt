@@ -9,18 +9,18 @@ use lib.IntN.{ℤ}
 use Rattle.refusal.specs.declared.Refusal.{Refusal}
 use Rattle.refusal.specs.declared.Refusal.the-variants.{Grammar}
 use Rattle.refusal.specs.Code.{codeOf}
-use Rattle.grammar.specs.declared.Last.the-variants.{Plain as plain}
-use Rattle.grammar.specs.declared.Mode.{Mode}
-use Rattle.grammar.specs.declared.Mode.the-variants.{Seq as seq, Dot as dot}
-use Rattle.grammar.specs.Fold.{Answer, bad}
+use Rattle.reading_grammar.specs.declared.Last.the-variants.{Plain as plain}
+use Rattle.reading_grammar.specs.declared.Mode.{Mode}
+use Rattle.reading_grammar.specs.declared.Mode.the-variants.{Seq as seq, Dot as dot}
+use Rattle.reading_grammar.specs.Fold.{Answer, bad}
 use Rattle.table.specs.Limits.{maxAtoms}
-use Rattle.state.specs.State.{Steering, steering}
-use Rattle.state.specs.declared.State.{State}
-use Rattle.state.specs.declared.Fields.{Fields}
-use Rattle.state.specs.Limits.{bridges}
+use Rattle.reading_state.specs.State.{Steering, steering}
+use Rattle.reading_state.specs.declared.State.{State}
+use Rattle.reading_state.specs.declared.Fields.{Fields}
+use Rattle.reading_state.specs.Limits.{bridges}
 use Rattle.reading.specs.Memory.{Memory, Pending, nothing, extended}
 use Rattle.reading.specs.Act.{bridgeAct}
-use Rattle.field.specs.Rest.{rest, memory}
+use Rattle.reading_fields.specs.Rest.{rest, memory}
 use Rattle.reader.specs.declared.piece.Joint.{Joint}
 use Rattle.reader.specs.declared.piece.Piece.{Piece}
 use Rattle.reader.specs.declared.atom.Added.{Added}

@@ -11,15 +11,15 @@ use Rattle.ids.specs.declared.AtomId.{AtomId}
 use Rattle.refusal.specs.declared.Refusal.{Refusal}
 use Rattle.refusal.specs.declared.Refusal.the-variants.{ManyAtoms, ManyBonds}
 use Rattle.refusal.specs.Code.{codeOf}
-use Rattle.grammar.specs.declared.Last.the-variants.{Plain as plain}
-use Rattle.grammar.specs.declared.Mode.{Mode}
-use Rattle.grammar.specs.declared.Mode.the-variants.{Seq as seq, Dot as dot}
-use Rattle.grammar.specs.Fold.{Answer, bad}
+use Rattle.reading_grammar.specs.declared.Last.the-variants.{Plain as plain}
+use Rattle.reading_grammar.specs.declared.Mode.{Mode}
+use Rattle.reading_grammar.specs.declared.Mode.the-variants.{Seq as seq, Dot as dot}
+use Rattle.reading_grammar.specs.Fold.{Answer, bad}
 use Rattle.table.specs.Limits.{maxAtoms, maxBonds}
-use Rattle.state.specs.State.{Steering}
-use Rattle.state.specs.declared.Fields.{Fields}
+use Rattle.reading_state.specs.State.{Steering}
+use Rattle.reading_state.specs.declared.Fields.{Fields}
 use Rattle.reading.specs.Memory.{Memory, Pending, nothing, afterDot, extended}
-use Rattle.field.specs.Rest.{rest, memory}
+use Rattle.reading_fields.specs.Rest.{rest, memory}
 use Rattle.reader.specs.declared.piece.Joint.{Joint}
 use Rattle.reader.specs.declared.atom.Added.{Added}
 use Rattle.reader.specs.declared.atom.Crowd.{Crowd}

@@ -7,13 +7,13 @@ use lib.Dec.{eqb, leb}
 use Rattle.loops.specs.Loop.{pick}
 use Rattle.refusal.specs.declared.Refusal.the-variants.{ManyBonds, SelfBridge, RepeatedBond, SymbolClash}
 use Rattle.refusal.specs.Code.{codeOf}
-use Rattle.grammar.specs.Fold.{keeps, refuses}
+use Rattle.reading_grammar.specs.Fold.{keeps, refuses}
 use Rattle.table.specs.Limits.{maxBonds}
-use Rattle.state.specs.State.{Steering}
-use Rattle.state.specs.declared.Fields.{Fields}
+use Rattle.reading_state.specs.State.{Steering}
+use Rattle.reading_state.specs.declared.Fields.{Fields}
 use Rattle.reading.specs.Memory.{nothing, joinedAlready, clash, between, meet}
 use Rattle.reading.specs.Act.{bridgeAct}
-use Rattle.field.specs.Rest.{memory}
+use Rattle.reading_fields.specs.Rest.{memory}
 use Rattle.reader.specs.declared.bridge.Why.{Why}
 use Rattle.reader.specs.declared.bridge.Closing.{Closing}
 use Rattle.reader.specs.Piece.{kindPending}

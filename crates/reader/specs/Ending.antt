@@ -9,17 +9,17 @@ use lib.Dec.{eqb}
 use Rattle.loops.specs.Loop.{pick, run}
 use Rattle.refusal.specs.Code.{codeOf}
 use Rattle.valence.specs.Valence.{implied}
-use Rattle.grammar.specs.Fold.{Answer, good, bad, answer}
+use Rattle.reading_grammar.specs.Fold.{Answer, good, bad, answer}
 use Rattle.table.specs.Limits.{maxAtoms, HYDROGENS}
 use Rattle.table.specs.Cells.{atomPlace, element, selected}
-use Rattle.graph.specs.Graph.{matchable}
-use Rattle.state.specs.State.{Steering}
-use Rattle.state.specs.declared.Fields.{Fields}
-use Rattle.state.specs.Limits.{maxDepth, bridges}
+use Rattle.table_graph.specs.Graph.{matchable}
+use Rattle.reading_state.specs.State.{Steering}
+use Rattle.reading_state.specs.declared.Fields.{Fields}
+use Rattle.reading_state.specs.Limits.{maxDepth, bridges}
 use Rattle.reading.specs.Memory.{Memory, nothing, blank}
 use Rattle.reading.specs.Act.{act}
 use Rattle.reading.specs.Read.{Told, beginning, hydrogenated, ended}
-use Rattle.field.specs.Rest.{memory}
+use Rattle.reading_fields.specs.Rest.{memory}
 use Rattle.reader.specs.declared.bridge.Why.{Why}
 use Rattle.reader.specs.declared.ending.Answer as reply
 use Rattle.reader.specs.Went.{Fair, Went}

@@ -8,17 +8,17 @@ use lib.IntN.{ℤ}
 use lib.Dec.{eqb}
 use Rattle.loops.specs.Loop.{pick}
 use Rattle.element.specs.Symbols.{among}
-use Rattle.grammar.specs.Grammar.{bondSymbols}
-use Rattle.grammar.specs.declared.Last.the-variants.{Plain as plain}
-use Rattle.grammar.specs.declared.Mode.{Mode}
-use Rattle.grammar.specs.declared.Mode.the-variants.{Seq as seq, Bond as bond, Dot as dot, Inside as inside}
-use Rattle.grammar.specs.Fold.{Answer, bad, keeps, refuses}
-use Rattle.state.specs.State.{Steering}
-use Rattle.state.specs.declared.Fields.{Fields}
-use Rattle.state.specs.Limits.{bridges}
+use Rattle.reading_grammar.specs.Grammar.{bondSymbols}
+use Rattle.reading_grammar.specs.declared.Last.the-variants.{Plain as plain}
+use Rattle.reading_grammar.specs.declared.Mode.{Mode}
+use Rattle.reading_grammar.specs.declared.Mode.the-variants.{Seq as seq, Bond as bond, Dot as dot, Inside as inside}
+use Rattle.reading_grammar.specs.Fold.{Answer, bad, keeps, refuses}
+use Rattle.reading_state.specs.State.{Steering}
+use Rattle.reading_state.specs.declared.Fields.{Fields}
+use Rattle.reading_state.specs.Limits.{bridges}
 use Rattle.reading.specs.Memory.{Memory, Pending, nothing, dotted, symbol}
 use Rattle.reading.specs.Act.{Acts, bridgeAct}
-use Rattle.field.specs.Rest.{rest, memory}
+use Rattle.reading_fields.specs.Rest.{rest, memory}
 use Rattle.reader.specs.declared.piece.Joint.{Joint}
 use Rattle.reader.specs.declared.piece.Start.{Start}
 use Rattle.reader.specs.declared.piece.Piece.{Piece}

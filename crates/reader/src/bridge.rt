@@ -3,23 +3,23 @@ ghost use mathlib.Core.Path.{_≡_};
 ghost use mathlib.Core.List.{List, []};
 ghost use Prim.Native.Nat.{ℕ, _≤_, _<_};
 ghost use Rattle.table.specs.Limits.{maxBonds};
-ghost use Rattle.state.specs.Limits.{bridges, maxText};
-ghost use Rattle.state.specs.State.{steering};
+ghost use Rattle.reading_state.specs.Limits.{bridges, maxText};
+ghost use Rattle.reading_state.specs.State.{steering};
 ghost use Rattle.reading.specs.Memory.{joins, joinedAlready, meet, between};
 ghost use Rattle.reader.specs.Went.{Fair, went, refusedAt};
 ghost use Rattle.reader.specs.Bridge.{closingOf, Bridges};
 use crate::atom::bond_of;
-use edits::put_bond;
 use ids::AtomId;
 use ids::BondId;
+use reading_state::BRIDGES;
+use reading_state::State;
 use refusal::Refusal;
-use state::BRIDGES;
-use state::State;
 use table::Bond;
 use table::FIRST;
 use table::MAX_BONDS;
 use table::SECOND;
 use table::cell::bond_number;
+use table_edits::put_bond;
 
 // How a part of a text went.
 pub enum Why {

@@ -3,25 +3,25 @@ ghost use mathlib.Core.Path.{_≡_};
 ghost use mathlib.Core.List.{List};
 ghost use mathlib.Core.Bool.{true};
 ghost use lib.ListN.{getD};
-ghost use Rattle.state.specs.Limits.{bridges};
+ghost use Rattle.reading_state.specs.Limits.{bridges};
 ghost use Prim.Native.Nat.{ℕ, _≤_, _<_};
 ghost use Rattle.table.specs.Limits.{maxAtoms, maxBonds};
 ghost use Rattle.table.specs.Valid.{Valid};
-ghost use Rattle.state.specs.State.{steering};
+ghost use Rattle.reading_state.specs.State.{steering};
 ghost use Rattle.reading.specs.Read.{earlier, leftmost, hydrogenated};
 ghost use Rattle.reader.specs.Ending.{hydrogensBy, hydrogenatedBy, Completed, told, endedOf};
-use edits::clear;
 use ids::AtomId;
+use reading_state::BRIDGES;
+use reading_state::MAX_TEXT;
+use reading_state::State;
 use refusal::Refusal;
-use state::BRIDGES;
-use state::MAX_TEXT;
-use state::State;
 use table::ELEMENT;
 use table::HYDROGENS;
 use table::MAX_ATOMS;
 use table::MAX_BONDS;
 use table::SELECTED;
 use table::cell;
+use table_edits::clear;
 
 // A molecule with its counts of atoms and bonds, or a refusal with its offset.
 pub enum Answer {
@@ -113,7 +113,7 @@ fn complete(
     let mut eb = [0u16; MAX_BONDS];
     let mut el = [0u8; MAX_BONDS];
     let mut sums = [0u16; MAX_ATOMS];
-    graph::wire(bonds, m, &mut ea, &mut eb, &mut el, &mut sums);
+    table_graph::wire(bonds, m, &mut ea, &mut eb, &mut el, &mut sums);
     hydrogenate(n, outsides, &sums, atoms);
     kekule::matchable(atoms, n, m, &sums, &ea, &eb, &el)
 }

@@ -2,7 +2,7 @@
 ghost use mathlib.Core.Path.{_≡_};
 ghost use Prim.Native.Nat.{_≤_};
 ghost use lib.ListN.{length};
-ghost use Rattle.state.specs.Limits.{maxText};
+ghost use Rattle.reading_state.specs.Limits.{maxText};
 ghost use Rattle.reading.specs.Read.{readOf};
 ghost use Rattle.reader.specs.Went.{went};
 ghost use Rattle.reader.specs.Ending.{told, Unread, TextRead};
@@ -12,13 +12,13 @@ use crate::bridge::refuse;
 use crate::ending::Answer;
 use crate::piece::Joint;
 use crate::sequence::sequence;
-use edits::clear;
+use reading_state::BRIDGES;
+use reading_state::MAX_DEPTH;
+use reading_state::MAX_TEXT;
+use reading_state::State;
 use refusal::Refusal;
-use state::BRIDGES;
-use state::MAX_DEPTH;
-use state::MAX_TEXT;
-use state::State;
 use table::MAX_ATOMS;
+use table_edits::clear;
 
 pub mod atom;
 pub mod bridge;
@@ -80,7 +80,7 @@ fn read_text(
 pub fn read(text: &[u8], atoms: &mut [i32], bonds: &mut [i32]) -> Answer
     ensures { λ r. ⌜ told r (now (atoms .exit)) (now (bonds .exit)) ≡ readOf (now (text .entry)) (now (atoms .entry)) (now (bonds .entry)) ⌝ }
 {
-    if !validity::enough(atoms, bonds) {
+    if !table_validity::enough(atoms, bonds) {
         return Answer::Refused(Refusal::Short, 0);
     }
     clear(atoms);

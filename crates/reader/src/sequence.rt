@@ -3,8 +3,8 @@ ghost use mathlib.Core.Path.{_≡_};
 ghost use mathlib.Core.List.{List, []};
 ghost use Prim.Native.Nat.{ℕ, _≤_, _<_};
 ghost use lib.ListN.{length, getD};
-ghost use Rattle.state.specs.Limits.{maxText};
-ghost use Rattle.state.specs.State.{steering};
+ghost use Rattle.reading_state.specs.Limits.{maxText};
+ghost use Rattle.reading_state.specs.State.{steering};
 ghost use Rattle.reader.specs.Went.{Fair, went, Sequenced, Branched};
 ghost use Rattle.reader.specs.Chain.{Chained};
 use crate::atom::Added;
@@ -17,12 +17,12 @@ use crate::piece::Joint;
 use crate::piece::Piece;
 use crate::piece::joint_at;
 use crate::piece::piece_at;
-use field::byte::peek;
 use ids::AtomId;
+use reading_fields::byte::peek;
+use reading_state::BRIDGES;
+use reading_state::MAX_DEPTH;
+use reading_state::State;
 use refusal::Refusal;
-use state::BRIDGES;
-use state::MAX_DEPTH;
-use state::State;
 use table::MAX_ATOMS;
 
 // Where a chain begins: an offset, the joint before it, and whether it is fresh: it begins with an atom after the joint, else with any piece.

@@ -7,17 +7,17 @@ use mathlib.Core.List.{List}
 use lib.ListN.{length, getD}
 use lib.IntN.{ℤ, pos}
 use Rattle.valence.specs.Valence.{implied}
-use Rattle.grammar.specs.declared.State.{State}
-use Rattle.grammar.specs.declared.State.the-variants.{Start as start}
-use Rattle.grammar.specs.Machine.{accepting}
-use Rattle.grammar.specs.Fold.{going, halted}
-use Rattle.grammar.proofs.Fold.{Halts, read-halts}
+use Rattle.reading_grammar.specs.declared.State.{State}
+use Rattle.reading_grammar.specs.declared.State.the-variants.{Start as start}
+use Rattle.reading_grammar.specs.Machine.{accepting}
+use Rattle.reading_grammar.specs.Fold.{going, halted}
+use Rattle.reading_grammar.proofs.Fold.{Halts, read-halts}
 use Rattle.table.specs.Limits.{atomCells, bondCells, ELEMENT, SELECTED, HYDROGENS}
 use Rattle.table.specs.Cells.{atomPlace, element, selected}
 use Rattle.table.specs.Rows.{atomRow}
 use Rattle.table.specs.Valid.{Valid}
-use Rattle.graph.specs.Graph.{bondSum, matchable}
-use Rattle.state.specs.Limits.{maxText}
+use Rattle.table_graph.specs.Graph.{bondSum, matchable}
+use Rattle.reading_state.specs.Limits.{maxText}
 use Rattle.reading.specs.Memory.{Memory}
 use Rattle.reading.specs.Act.{act}
 use Rattle.reading.specs.Read.{Told, zeros, short, beginning, readOf}

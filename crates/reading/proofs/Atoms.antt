@@ -9,18 +9,18 @@ use Rattle.loops.specs.Loop.{pick}
 use Rattle.loops.proofs.Loops.{and-left}
 use Rattle.element.specs.declared.Letter.{Letter}
 use Rattle.element.specs.Lookup.{letterOf}
-use Rattle.grammar.specs.declared.Last.the-variants.{Plain as plain}
-use Rattle.grammar.specs.declared.Mode.{Mode}
-use Rattle.grammar.specs.declared.Mode.the-variants.{Seq as seq, LetterA as letterA, LetterT as letterT, Bracket as bracket}
-use Rattle.grammar.specs.declared.Out.{Out}
-use Rattle.grammar.specs.declared.State.the-variants.{Start as start, At as at}
-use Rattle.grammar.specs.Machine.{turn}
-use Rattle.grammar.proofs.Ends.{never}
+use Rattle.reading_grammar.specs.declared.Last.the-variants.{Plain as plain}
+use Rattle.reading_grammar.specs.declared.Mode.{Mode}
+use Rattle.reading_grammar.specs.declared.Mode.the-variants.{Seq as seq, LetterA as letterA, LetterT as letterT, Bracket as bracket}
+use Rattle.reading_grammar.specs.declared.Out.{Out}
+use Rattle.reading_grammar.specs.declared.State.the-variants.{Start as start, At as at}
+use Rattle.reading_grammar.specs.Machine.{turn}
+use Rattle.reading_grammar.proofs.Ends.{never}
 use Rattle.table.specs.declared.Atom.{Atom}
 use Rattle.table.specs.Limits.{maxAtoms, maxBonds}
 use Rattle.table.specs.Cells.{end1, end2}
 use Rattle.table.specs.Rows.{withBond}
-use Rattle.state.specs.declared.Fields.{Fields}
+use Rattle.reading_state.specs.declared.Fields.{Fields}
 use Rattle.reading.specs.Memory.{Memory, kindOf, afterDot, bareRow, bondRow, bonded, begun, described, drafted}
 use Rattle.reading.specs.Act.{firstByte, atomAct}
 use Rattle.reading.proofs.Cases.{by-test}

@@ -11,20 +11,20 @@ use Rattle.element.specs.declared.Letter.{Letter}
 use Rattle.element.specs.declared.Letter.the-variants.{Nothing}
 use Rattle.element.specs.Symbols.{among}
 use Rattle.element.specs.Lookup.{letterOf}
-use Rattle.grammar.specs.Grammar.{nonzero, digits, bondSymbols}
-use Rattle.grammar.specs.declared.Last.{Last}
-use Rattle.grammar.specs.declared.Last.the-variants.{Plain as plain, AfterC as afterC, AfterB as afterB}
-use Rattle.grammar.specs.declared.Mode.the-variants.{Seq as seq, Bond as bond, Dot as dot, Inside as inside, Percent as percent, Percent1 as percent1}
-use Rattle.grammar.specs.declared.Out.{Out}
-use Rattle.grammar.specs.declared.Out.the-variants.{Stop as stop, To as to, Up as up, Down as down}
-use Rattle.grammar.specs.declared.State.{State}
-use Rattle.grammar.specs.declared.State.the-variants.{At as at}
-use Rattle.grammar.specs.Machine.{alive, turn, next, atomOr, bridgeOr}
-use Rattle.grammar.specs.Machine as machine
-use Rattle.grammar.specs.Fold.{keeps}
-use Rattle.grammar.proofs.Ends.{never}
-use Rattle.state.specs.Limits.{bridges}
-use Rattle.state.specs.State.{closed}
+use Rattle.reading_grammar.specs.Grammar.{nonzero, digits, bondSymbols}
+use Rattle.reading_grammar.specs.declared.Last.{Last}
+use Rattle.reading_grammar.specs.declared.Last.the-variants.{Plain as plain, AfterC as afterC, AfterB as afterB}
+use Rattle.reading_grammar.specs.declared.Mode.the-variants.{Seq as seq, Bond as bond, Dot as dot, Inside as inside, Percent as percent, Percent1 as percent1}
+use Rattle.reading_grammar.specs.declared.Out.{Out}
+use Rattle.reading_grammar.specs.declared.Out.the-variants.{Stop as stop, To as to, Up as up, Down as down}
+use Rattle.reading_grammar.specs.declared.State.{State}
+use Rattle.reading_grammar.specs.declared.State.the-variants.{At as at}
+use Rattle.reading_grammar.specs.Machine.{alive, turn, next, atomOr, bridgeOr}
+use Rattle.reading_grammar.specs.Machine as machine
+use Rattle.reading_grammar.specs.Fold.{keeps}
+use Rattle.reading_grammar.proofs.Ends.{never}
+use Rattle.reading_state.specs.Limits.{bridges}
+use Rattle.reading_state.specs.State.{closed}
 use Rattle.reading.specs.Memory.{Memory, moved, counting}
 use Rattle.reading.specs.Bracket.{digit}
 use Rattle.reading.specs.Act.{Acts, orAtom, atomAct, bridgeAct, branchAct, jointAct, secondLetter, goesOn, modeAct}

@@ -11,11 +11,11 @@ use borrow.Author.Tests.{le-leb}
 use Rattle.loops.specs.Loop.{pick}
 use Rattle.element.specs.Symbols.{among, sameBytes, symbols}
 use Rattle.element.specs.Lookup.{indexFrom, numberOf, selectedOf}
-use Rattle.grammar.specs.Grammar.{nonzero, digits, several}
-use Rattle.grammar.proofs.Ends.{each}
+use Rattle.reading_grammar.specs.Grammar.{nonzero, digits, several}
+use Rattle.reading_grammar.proofs.Ends.{each}
 use Rattle.table.specs.Cells.{number, inRange}
 use Rattle.table.specs.Valid.{selectable}
-use Rattle.state.specs.declared.Fields.{Fields}
+use Rattle.reading_state.specs.declared.Fields.{Fields}
 use Rattle.reading.specs.Memory.{blank, rowOf, bareRow}
 use Rattle.reading.specs.Bracket.{digit, isotoped, elemented, symbolled, hydrogened, charged, signed, extended}
 use Rattle.reading.proofs.Cases.{by-test}

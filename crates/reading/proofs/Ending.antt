@@ -8,11 +8,11 @@ use mathlib.Core.List.{List}
 use lib.ListN.{length, getD}
 use lib.IntN.{ℤ}
 use borrow.Author.Tests.{le-leb, le-ltb}
-use Rattle.grammar.specs.declared.State.{State}
-use Rattle.grammar.specs.Machine.{accepting}
-use Rattle.grammar.specs.Fold.{going}
-use Rattle.graph.specs.Graph.{matchable}
-use Rattle.state.specs.Limits.{maxText}
+use Rattle.reading_grammar.specs.declared.State.{State}
+use Rattle.reading_grammar.specs.Machine.{accepting}
+use Rattle.reading_grammar.specs.Fold.{going}
+use Rattle.table_graph.specs.Graph.{matchable}
+use Rattle.reading_state.specs.Limits.{maxText}
 use Rattle.reading.specs.Memory.{Memory}
 use Rattle.reading.specs.Read.{Told, short, leftmost, ended, readFrom, readOf}
 use Rattle.reading.proofs.Leftmost.{LeftmostOpening, closed-none, leftmost-open, none-open}

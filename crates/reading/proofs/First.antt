@@ -7,11 +7,11 @@ use mathlib.Core.List.{List, _++_}
 use lib.ListN.{length, getD, take, drop, take-append-drop}
 use lib.Seq.{take-take, take-length}
 use lib.IntN.{ℤ}
-use Rattle.grammar.specs.declared.State.{State}
-use Rattle.grammar.specs.declared.State.the-variants.{Start as start}
-use Rattle.grammar.specs.Machine.{step, alive, accepting}
-use Rattle.grammar.specs.Fold.{going, halted}
-use Rattle.grammar.proofs.Fold.{Goes, prefix-goes, Halts, read-halts}
+use Rattle.reading_grammar.specs.declared.State.{State}
+use Rattle.reading_grammar.specs.declared.State.the-variants.{Start as start}
+use Rattle.reading_grammar.specs.Machine.{step, alive, accepting}
+use Rattle.reading_grammar.specs.Fold.{going, halted}
+use Rattle.reading_grammar.proofs.Fold.{Goes, prefix-goes, Halts, read-halts}
 use Rattle.reading.specs.Memory.{Memory}
 use Rattle.reading.specs.Act.{act}
 use Rattle.reading.specs.Read.{Told, zeros, beginning, readOf}

@@ -12,14 +12,14 @@ use lib.Dec.{eqb, leb}
 use borrow.Author.Tests.{eq-eqb, eqb-true, leb-true}
 use Rattle.loops.specs.Loop.{pick, run}
 use Rattle.loops.proofs.Loops.{and-left, and-right}
-use Rattle.grammar.proofs.Ends.{never}
+use Rattle.reading_grammar.proofs.Ends.{never}
 use Rattle.valence.specs.Valence.{targets, headOr0, firstTarget, firstRoom, implied}
 use Rattle.table.specs.declared.Atom.{Atom}
 use Rattle.table.specs.Limits.{atomCells, ELEMENT, SELECTED, ISOTOPE, HYDROGENS, CHARGE, EXTENSION}
 use Rattle.table.specs.Cells.{number, inRange, atomPlace, atomCell, element, selected}
 use Rattle.table.specs.Rows.{atomRow}
 use Rattle.table.specs.Valid.{atomOk, selectable}
-use Rattle.graph.specs.Graph.{bondSum}
+use Rattle.table_graph.specs.Graph.{bondSum}
 use Rattle.reading.specs.Read.{hydrogenate, hydrogenated}
 use Rattle.reading.proofs.Cases.{by-test}
 use Rattle.reading.proofs.Rows.{same-atom-row, within, rowOk, atom-ok-row}

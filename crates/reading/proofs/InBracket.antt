@@ -9,17 +9,17 @@ use borrow.Author.Tests.{eqb-true}
 use Rattle.loops.specs.Loop.{pick}
 use Rattle.element.specs.Symbols.{among, listed, symbols, starts, marks}
 use Rattle.element.specs.Lookup.{numberOf}
-use Rattle.grammar.specs.Grammar.{nonzero, digits, several, signs}
-use Rattle.grammar.specs.declared.Last.the-variants.{Plain as plain}
-use Rattle.grammar.specs.declared.Mode.the-variants.{Seq as seq, Bracket as bracket, Isotope as isotope, Symbol1 as symbol1, Symbolled as symbolled, Hydrogen as hydrogen, Hydrogens as hydrogens, Sign as sign, Charged as charged, Colon as colon, Extension as extension}
-use Rattle.grammar.specs.declared.Out.{Out}
-use Rattle.grammar.specs.declared.Out.the-variants.{Stop as stop, To as to}
-use Rattle.grammar.specs.declared.State.{State}
-use Rattle.grammar.specs.declared.State.the-variants.{At as at}
-use Rattle.grammar.specs.Machine.{alive, turn, symbolOr, next}
-use Rattle.grammar.specs.Machine as machine
-use Rattle.grammar.specs.Fold.{keeps}
-use Rattle.grammar.proofs.Ends.{never}
+use Rattle.reading_grammar.specs.Grammar.{nonzero, digits, several, signs}
+use Rattle.reading_grammar.specs.declared.Last.the-variants.{Plain as plain}
+use Rattle.reading_grammar.specs.declared.Mode.the-variants.{Seq as seq, Bracket as bracket, Isotope as isotope, Symbol1 as symbol1, Symbolled as symbolled, Hydrogen as hydrogen, Hydrogens as hydrogens, Sign as sign, Charged as charged, Colon as colon, Extension as extension}
+use Rattle.reading_grammar.specs.declared.Out.{Out}
+use Rattle.reading_grammar.specs.declared.Out.the-variants.{Stop as stop, To as to}
+use Rattle.reading_grammar.specs.declared.State.{State}
+use Rattle.reading_grammar.specs.declared.State.the-variants.{At as at}
+use Rattle.reading_grammar.specs.Machine.{alive, turn, symbolOr, next}
+use Rattle.reading_grammar.specs.Machine as machine
+use Rattle.reading_grammar.specs.Fold.{keeps}
+use Rattle.reading_grammar.proofs.Ends.{never}
 use Rattle.reading.specs.Memory.{Memory, rowOf, described, drafted}
 use Rattle.reading.specs.Bracket.{digit, isotoped, elemented, hydrogened, signed, positive}
 use Rattle.reading.specs.Bracket as fields

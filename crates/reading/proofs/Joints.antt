@@ -9,11 +9,11 @@ use lib.Dec.{eqb, leb}
 use borrow.Author.Tests.{eqb-false, eq-eqb, leb-false, ltb-true, ltb-false, not-true, not-false}
 use Rattle.loops.specs.Loop.{pick, each}
 use Rattle.loops.proofs.Loops.{each-at}
-use Rattle.grammar.specs.declared.Last.the-variants.{Plain as plain}
-use Rattle.grammar.specs.declared.Mode.the-variants.{Seq as seq, Inside as inside}
-use Rattle.grammar.specs.declared.State.the-variants.{At as at}
-use Rattle.grammar.specs.Fold.{keeps, refuses}
-use Rattle.grammar.proofs.Ends.{never}
+use Rattle.reading_grammar.specs.declared.Last.the-variants.{Plain as plain}
+use Rattle.reading_grammar.specs.declared.Mode.the-variants.{Seq as seq, Inside as inside}
+use Rattle.reading_grammar.specs.declared.State.the-variants.{At as at}
+use Rattle.reading_grammar.specs.Fold.{keeps, refuses}
+use Rattle.reading_grammar.proofs.Ends.{never}
 use Rattle.table.specs.Limits.{maxBonds}
 use Rattle.table.specs.Cells.{end1, end2}
 use Rattle.reading.specs.Memory.{Memory, dotted, symbol, symbolKind, kindOf, between, awaiting, moved, counting, meet, clash, joins, joinedAlready, closeRefusal}
@@ -22,8 +22,8 @@ use Rattle.reading.proofs.Cases.{by-test}
 use Rattle.reading.proofs.Sane.{Tables, Sane, SaneAct}
 use lib.ListN.{getD}
 use Rattle.table.specs.Rows.{withBond}
-use Rattle.state.specs.Limits.{maxDepth, bridges}
-use Rattle.state.specs.State.{opened, closed, bridged, joined}
+use Rattle.reading_state.specs.Limits.{maxDepth, bridges}
+use Rattle.reading_state.specs.State.{opened, closed, bridged, joined}
 use Rattle.reading.proofs.Tables.{bond-added}
 use Rattle.reading.proofs.Steering.{later, opened-steering, closed-steering, closed-hub, bridged-steering}
 use Rattle.reading.proofs.Atoms.{Held}

@@ -11,19 +11,19 @@ use lib.IntN.{ℤ}
 use Rattle.element.specs.declared.Letter.{Letter}
 use Rattle.element.specs.declared.Letter.the-variants.{Plain, Selected}
 use Rattle.element.specs.Symbols.{among, listed, symbols, starts, marks}
-use Rattle.grammar.specs.Grammar.{nonzero, digits, several, signs}
-use Rattle.grammar.specs.declared.Last.{Last}
-use Rattle.grammar.specs.declared.Last.the-variants.{Plain as plain, AfterC as afterC, AfterB as afterB}
-use Rattle.grammar.specs.declared.Mode.{Mode}
-use Rattle.grammar.specs.declared.Mode.the-variants.{Seq as seq, Bond as bond, Dot as dot, Inside as inside, Percent as percent, Percent1 as percent1, LetterA as letterA, LetterT as letterT, Bracket as bracket, Isotope as isotope, Symbol1 as symbol1, Symbolled as symbolled, Hydrogen as hydrogen, Hydrogens as hydrogens, Sign as sign, Charged as charged, Colon as colon, Extension as extension}
-use Rattle.grammar.specs.declared.State.{State}
-use Rattle.grammar.specs.declared.State.the-variants.{Start as start, At as at}
-use Rattle.grammar.specs.Machine.{alive, step, next, symbolOr}
-use Rattle.grammar.specs.Machine as machine
-use Rattle.grammar.specs.Fold.{Reading, going, halted, keeps, feed, read}
-use Rattle.grammar.proofs.Ends.{never}
-use Rattle.grammar.proofs.Complete.{no-second}
-use Rattle.grammar.proofs.Fold.{Goes, goes, read-append, prefix-goes}
+use Rattle.reading_grammar.specs.Grammar.{nonzero, digits, several, signs}
+use Rattle.reading_grammar.specs.declared.Last.{Last}
+use Rattle.reading_grammar.specs.declared.Last.the-variants.{Plain as plain, AfterC as afterC, AfterB as afterB}
+use Rattle.reading_grammar.specs.declared.Mode.{Mode}
+use Rattle.reading_grammar.specs.declared.Mode.the-variants.{Seq as seq, Bond as bond, Dot as dot, Inside as inside, Percent as percent, Percent1 as percent1, LetterA as letterA, LetterT as letterT, Bracket as bracket, Isotope as isotope, Symbol1 as symbol1, Symbolled as symbolled, Hydrogen as hydrogen, Hydrogens as hydrogens, Sign as sign, Charged as charged, Colon as colon, Extension as extension}
+use Rattle.reading_grammar.specs.declared.State.{State}
+use Rattle.reading_grammar.specs.declared.State.the-variants.{Start as start, At as at}
+use Rattle.reading_grammar.specs.Machine.{alive, step, next, symbolOr}
+use Rattle.reading_grammar.specs.Machine as machine
+use Rattle.reading_grammar.specs.Fold.{Reading, going, halted, keeps, feed, read}
+use Rattle.reading_grammar.proofs.Ends.{never}
+use Rattle.reading_grammar.proofs.Complete.{no-second}
+use Rattle.reading_grammar.proofs.Fold.{Goes, goes, read-append, prefix-goes}
 use Rattle.table.specs.Limits.{atomCells}
 use Rattle.table.specs.Rows.{atomRow, bondRow}
 use Rattle.reading.specs.Memory.{Memory, rowOf, bareRow, begun, described}

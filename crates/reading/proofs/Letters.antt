@@ -12,13 +12,13 @@ use Rattle.element.specs.declared.Letter.{Letter}
 use Rattle.element.specs.declared.Letter.the-variants.{Plain, Selected, Half, Bracket, Nothing}
 use Rattle.element.specs.Symbols.{among, sameBytes, letters, marks, symbols, starts}
 use Rattle.element.specs.Lookup.{indexFrom, numberOf, selectedOf, letterOf}
-use Rattle.grammar.specs.Grammar.{nonzero, digits}
-use Rattle.grammar.specs.declared.Last.{Last}
-use Rattle.grammar.specs.declared.Mode.the-variants.{Seq as seq, LetterA as letterA, LetterT as letterT, Bracket as bracket}
-use Rattle.grammar.specs.declared.Out.{Out}
-use Rattle.grammar.specs.declared.Out.the-variants.{Stop as stop, To as to}
-use Rattle.grammar.specs.Machine.{atomOr, symbolOr, closing}
-use Rattle.grammar.proofs.Ends.{each, never}
+use Rattle.reading_grammar.specs.Grammar.{nonzero, digits}
+use Rattle.reading_grammar.specs.declared.Last.{Last}
+use Rattle.reading_grammar.specs.declared.Mode.the-variants.{Seq as seq, LetterA as letterA, LetterT as letterT, Bracket as bracket}
+use Rattle.reading_grammar.specs.declared.Out.{Out}
+use Rattle.reading_grammar.specs.declared.Out.the-variants.{Stop as stop, To as to}
+use Rattle.reading_grammar.specs.Machine.{atomOr, symbolOr, closing}
+use Rattle.reading_grammar.proofs.Ends.{each, never}
 use Rattle.table.specs.Valid.{selectable}
 
 -- a byte that begins an atom, and where the machine goes with it

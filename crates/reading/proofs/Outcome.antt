@@ -8,13 +8,13 @@ use lib.IntN.{ℤ}
 use lib.Dec.{leb, ltb}
 use borrow.Author.Tests.{leb-true, leb-false, ltb-true, ltb-false}
 use Rattle.loops.specs.Loop.{pick}
-use Rattle.grammar.specs.declared.State.{State}
-use Rattle.grammar.specs.declared.State.the-variants.{Start as start}
-use Rattle.grammar.specs.Machine.{accepting}
-use Rattle.grammar.specs.Fold.{Reading, going, halted, read}
+use Rattle.reading_grammar.specs.declared.State.{State}
+use Rattle.reading_grammar.specs.declared.State.the-variants.{Start as start}
+use Rattle.reading_grammar.specs.Machine.{accepting}
+use Rattle.reading_grammar.specs.Fold.{Reading, going, halted, read}
 use Rattle.table.specs.Valid.{enough}
-use Rattle.graph.specs.Graph.{matchable}
-use Rattle.state.specs.Limits.{maxText}
+use Rattle.table_graph.specs.Graph.{matchable}
+use Rattle.reading_state.specs.Limits.{maxText}
 use Rattle.reading.specs.Memory.{Memory}
 use Rattle.reading.specs.Act.{act}
 use Rattle.reading.specs.Read.{Told, zeros, refused, short, beginning, hydrogenated, leftmost, ended, finished, readFrom, readOf}

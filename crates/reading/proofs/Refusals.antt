@@ -13,21 +13,21 @@ use Rattle.element.specs.declared.Letter.{Letter}
 use Rattle.element.specs.declared.Letter.the-variants.{Plain, Selected, Half, Bracket, Nothing}
 use Rattle.element.specs.Symbols.{among, listed, symbols}
 use Rattle.element.specs.Lookup.{letterOf}
-use Rattle.grammar.specs.Grammar.{nonzero, digits, several, bondSymbols, signs}
-use Rattle.grammar.specs.declared.Last.{Last}
-use Rattle.grammar.specs.declared.Last.the-variants.{Plain as plain, AfterC as afterC, AfterB as afterB}
-use Rattle.grammar.specs.declared.Mode.{Mode}
-use Rattle.grammar.specs.declared.Mode.the-variants.{Seq as seq, Bond as bond, Dot as dot, Inside as inside, Percent as percent, Percent1 as percent1, LetterA as letterA, LetterT as letterT, Bracket as bracket, Isotope as isotope, Symbol1 as symbol1, Symbolled as symbolled, Hydrogen as hydrogen, Hydrogens as hydrogens, Sign as sign, Charged as charged, Colon as colon, Extension as extension}
-use Rattle.grammar.specs.declared.Out.{Out}
-use Rattle.grammar.specs.declared.Out.the-variants.{Stop as stop}
-use Rattle.grammar.specs.declared.State.{State}
-use Rattle.grammar.specs.declared.State.the-variants.{Dead as dead, Start as start, At as at}
-use Rattle.grammar.specs.Machine.{alive, turn, step, next, atomOr}
-use Rattle.grammar.specs.Fold.{keeps, refuses}
-use Rattle.grammar.proofs.Ends.{never}
+use Rattle.reading_grammar.specs.Grammar.{nonzero, digits, several, bondSymbols, signs}
+use Rattle.reading_grammar.specs.declared.Last.{Last}
+use Rattle.reading_grammar.specs.declared.Last.the-variants.{Plain as plain, AfterC as afterC, AfterB as afterB}
+use Rattle.reading_grammar.specs.declared.Mode.{Mode}
+use Rattle.reading_grammar.specs.declared.Mode.the-variants.{Seq as seq, Bond as bond, Dot as dot, Inside as inside, Percent as percent, Percent1 as percent1, LetterA as letterA, LetterT as letterT, Bracket as bracket, Isotope as isotope, Symbol1 as symbol1, Symbolled as symbolled, Hydrogen as hydrogen, Hydrogens as hydrogens, Sign as sign, Charged as charged, Colon as colon, Extension as extension}
+use Rattle.reading_grammar.specs.declared.Out.{Out}
+use Rattle.reading_grammar.specs.declared.Out.the-variants.{Stop as stop}
+use Rattle.reading_grammar.specs.declared.State.{State}
+use Rattle.reading_grammar.specs.declared.State.the-variants.{Dead as dead, Start as start, At as at}
+use Rattle.reading_grammar.specs.Machine.{alive, turn, step, next, atomOr}
+use Rattle.reading_grammar.specs.Fold.{keeps, refuses}
+use Rattle.reading_grammar.proofs.Ends.{never}
 use Rattle.table.specs.Limits.{maxAtoms, maxBonds}
-use Rattle.state.specs.Limits.{maxDepth}
-use Rattle.state.specs.State.{opened, joined}
+use Rattle.reading_state.specs.Limits.{maxDepth}
+use Rattle.reading_state.specs.State.{opened, joined}
 use Rattle.reading.specs.Memory.{Memory, kindOf, bonded, moved, clash, joinedAlready, closeRefusal}
 use Rattle.reading.specs.Bracket.{digit}
 use Rattle.reading.specs.Act.{Acts, bridgeBond, charging, hydrating, jointAct, orAtom, atomAct, orRefuse, bridgeAct, branchAct, goesOn, modeAct, act}

@@ -8,9 +8,9 @@ use mathlib.Core.List.{List}
 use lib.ListN.{length, replicate}
 use lib.IntN.{ℤ, pos}
 use borrow.Author.Tests.{lt-leb}
-use Rattle.grammar.specs.declared.State.{State}
+use Rattle.reading_grammar.specs.declared.State.{State}
 use Rattle.table.specs.Valid.{enough}
-use Rattle.state.specs.Limits.{maxText}
+use Rattle.reading_state.specs.Limits.{maxText}
 use Rattle.reading.specs.Memory.{Memory}
 use Rattle.reading.specs.Read.{Told, zeros, refused, readOf}
 use Rattle.reading.proofs.Sane.{Sane}

@@ -7,17 +7,17 @@ use lib.ListN.{length, getD}
 use lib.IntN.{ℤ, pos, negsuc}
 use lib.Signed.{leZ}
 use lib.Dec.{eqb}
-use Rattle.grammar.specs.declared.Mode.{Mode}
-use Rattle.grammar.specs.declared.Mode.the-variants.{Seq as seq, Bond as bond, Dot as dot, Inside as inside, Percent as percent, Percent1 as percent1, LetterA as letterA, LetterT as letterT, Bracket as bracket, Isotope as isotope, Symbol1 as symbol1, Symbolled as symbolled, Hydrogen as hydrogen, Hydrogens as hydrogens, Sign as sign, Charged as charged, Colon as colon, Extension as extension}
-use Rattle.grammar.specs.declared.State.{State}
-use Rattle.grammar.specs.declared.State.the-variants.{Dead as dead, Start as start, At as at}
-use Rattle.grammar.specs.Fold.{Reading, going, halted, Act, keeps, refuses}
+use Rattle.reading_grammar.specs.declared.Mode.{Mode}
+use Rattle.reading_grammar.specs.declared.Mode.the-variants.{Seq as seq, Bond as bond, Dot as dot, Inside as inside, Percent as percent, Percent1 as percent1, LetterA as letterA, LetterT as letterT, Bracket as bracket, Isotope as isotope, Symbol1 as symbol1, Symbolled as symbolled, Hydrogen as hydrogen, Hydrogens as hydrogens, Sign as sign, Charged as charged, Colon as colon, Extension as extension}
+use Rattle.reading_grammar.specs.declared.State.{State}
+use Rattle.reading_grammar.specs.declared.State.the-variants.{Dead as dead, Start as start, At as at}
+use Rattle.reading_grammar.specs.Fold.{Reading, going, halted, Act, keeps, refuses}
 use Rattle.table.specs.Limits.{maxAtoms, maxBonds, atomCells, bondCells, FIRST}
 use Rattle.table.specs.Cells.{inRange, bondCell, end1, end2}
 use Rattle.table.specs.Valid.{atomOk, kindOk, selectable}
-use Rattle.state.specs.Limits.{maxDepth, bridges}
-use Rattle.state.specs.State.{Steering}
-use Rattle.state.specs.declared.Fields.{Fields}
+use Rattle.reading_state.specs.Limits.{maxDepth, bridges}
+use Rattle.reading_state.specs.State.{Steering}
+use Rattle.reading_state.specs.declared.Fields.{Fields}
 use Rattle.reading.specs.Memory.{Memory, kindOf}
 
 -- ---- the tables

@@ -14,23 +14,23 @@ use Rattle.loops.specs.Loop.{pick}
 use Rattle.element.specs.declared.Letter.{Letter}
 use Rattle.element.specs.Symbols.{among, listed, symbols}
 use Rattle.element.specs.Lookup.{letterOf}
-use Rattle.grammar.specs.Grammar.{digits, several, signs}
-use Rattle.grammar.specs.declared.Last.{Last}
-use Rattle.grammar.specs.declared.Last.the-variants.{Plain as plain, AfterC as afterC, AfterB as afterB}
-use Rattle.grammar.specs.declared.Mode.{Mode}
-use Rattle.grammar.specs.declared.Mode.the-variants.{Seq as seq, Bond as bond, Dot as dot, Inside as inside, Percent as percent, Percent1 as percent1, LetterA as letterA, LetterT as letterT, Bracket as bracket, Isotope as isotope, Symbol1 as symbol1, Symbolled as symbolled, Hydrogen as hydrogen, Hydrogens as hydrogens, Sign as sign, Charged as charged, Colon as colon, Extension as extension}
-use Rattle.grammar.specs.declared.Out.{Out}
-use Rattle.grammar.specs.declared.State.{State}
-use Rattle.grammar.specs.declared.State.the-variants.{Dead as dead, Start as start, At as at}
-use Rattle.grammar.specs.Machine.{alive, accepting, turn, step, next}
-use Rattle.grammar.specs.Fold.{keeps, refuses, Reading, going, halted, after, feed, read}
-use Rattle.grammar.proofs.Ends.{never}
+use Rattle.reading_grammar.specs.Grammar.{digits, several, signs}
+use Rattle.reading_grammar.specs.declared.Last.{Last}
+use Rattle.reading_grammar.specs.declared.Last.the-variants.{Plain as plain, AfterC as afterC, AfterB as afterB}
+use Rattle.reading_grammar.specs.declared.Mode.{Mode}
+use Rattle.reading_grammar.specs.declared.Mode.the-variants.{Seq as seq, Bond as bond, Dot as dot, Inside as inside, Percent as percent, Percent1 as percent1, LetterA as letterA, LetterT as letterT, Bracket as bracket, Isotope as isotope, Symbol1 as symbol1, Symbolled as symbolled, Hydrogen as hydrogen, Hydrogens as hydrogens, Sign as sign, Charged as charged, Colon as colon, Extension as extension}
+use Rattle.reading_grammar.specs.declared.Out.{Out}
+use Rattle.reading_grammar.specs.declared.State.{State}
+use Rattle.reading_grammar.specs.declared.State.the-variants.{Dead as dead, Start as start, At as at}
+use Rattle.reading_grammar.specs.Machine.{alive, accepting, turn, step, next}
+use Rattle.reading_grammar.specs.Fold.{keeps, refuses, Reading, going, halted, after, feed, read}
+use Rattle.reading_grammar.proofs.Ends.{never}
 use Rattle.table.specs.declared.Atom.{Atom}
 use Rattle.table.specs.declared.Bond.{Bond}
 use Rattle.table.specs.Limits.{maxAtoms, maxBonds, atomCells, bondCells}
 use Rattle.table.specs.Rows.{atomRow, bondRow, withAtom, withBond}
-use Rattle.state.specs.Limits.{maxDepth}
-use Rattle.state.specs.State.{opened, closed, bridged, joined}
+use Rattle.reading_state.specs.Limits.{maxDepth}
+use Rattle.reading_state.specs.State.{opened, closed, bridged, joined}
 use Rattle.reading.specs.Memory.{Memory, kindOf, rowOf, bareRow, bonded, begun, described, moved, drafted, closeRefusal}
 use Rattle.reading.specs.Act.{Acts, firstByte, atomAct, bridgeBond, orRefuse, bridgeAct, branchAct, closing, charging, hydrating, modeAct, act}
 use Rattle.reading.proofs.Cases.{by-test}

@@ -11,16 +11,16 @@ use lib.Dec.{eqb, leb}
 use borrow.Author.Tests.{leb-true}
 use Rattle.loops.specs.Loop.{pick}
 use Rattle.loops.proofs.Loops.{and-left, and-right}
-use Rattle.grammar.specs.declared.Last.the-variants.{Plain as plain}
-use Rattle.grammar.specs.declared.Mode.{Mode}
-use Rattle.grammar.specs.declared.Mode.the-variants.{Seq as seq, Bond as bond, Dot as dot, Inside as inside, Percent as percent, Percent1 as percent1, LetterA as letterA, LetterT as letterT, Bracket as bracket, Isotope as isotope, Symbol1 as symbol1, Symbolled as symbolled, Hydrogen as hydrogen, Hydrogens as hydrogens, Sign as sign, Charged as charged, Colon as colon, Extension as extension}
-use Rattle.grammar.specs.declared.State.{State}
-use Rattle.grammar.specs.declared.State.the-variants.{Dead as dead, Start as start, At as at}
-use Rattle.grammar.specs.Machine.{alive, turn, step, next}
-use Rattle.grammar.specs.Fold.{keeps, refuses, Reading, going, halted, after, feed, read}
+use Rattle.reading_grammar.specs.declared.Last.the-variants.{Plain as plain}
+use Rattle.reading_grammar.specs.declared.Mode.{Mode}
+use Rattle.reading_grammar.specs.declared.Mode.the-variants.{Seq as seq, Bond as bond, Dot as dot, Inside as inside, Percent as percent, Percent1 as percent1, LetterA as letterA, LetterT as letterT, Bracket as bracket, Isotope as isotope, Symbol1 as symbol1, Symbolled as symbolled, Hydrogen as hydrogen, Hydrogens as hydrogens, Sign as sign, Charged as charged, Colon as colon, Extension as extension}
+use Rattle.reading_grammar.specs.declared.State.{State}
+use Rattle.reading_grammar.specs.declared.State.the-variants.{Dead as dead, Start as start, At as at}
+use Rattle.reading_grammar.specs.Machine.{alive, turn, step, next}
+use Rattle.reading_grammar.specs.Fold.{keeps, refuses, Reading, going, halted, after, feed, read}
 use Rattle.table.specs.Limits.{maxAtoms, maxBonds, atomCells, bondCells}
 use Rattle.table.specs.Valid.{enough}
-use Rattle.state.specs.State.{started}
+use Rattle.reading_state.specs.State.{started}
 use Rattle.reading.specs.Memory.{Memory, bareRow, described}
 use Rattle.reading.specs.Act.{Acts, modeAct, act}
 use Rattle.reading.specs.Read.{zeros, beginning}

@@ -8,13 +8,13 @@ use mathlib.Core.Logic.{_⊎_, inl, inr}
 use mathlib.Core.List.{List}
 use lib.ListN.{length}
 use lib.IntN.{ℤ}
-use Rattle.grammar.specs.Grammar.{Text}
-use Rattle.grammar.specs.Place.{Place}
-use Rattle.grammar.specs.declared.State.{State}
-use Rattle.grammar.specs.Machine.{accepting}
-use Rattle.grammar.specs.Fold.{Reading, going, halted, bad, finish, answer}
-use Rattle.grammar.proofs.Viable.{place-unique, text-no-place}
-use Rattle.grammar.proofs.Fold.{good-text, bad-3, other-first}
+use Rattle.reading_grammar.specs.Grammar.{Text}
+use Rattle.reading_grammar.specs.Place.{Place}
+use Rattle.reading_grammar.specs.declared.State.{State}
+use Rattle.reading_grammar.specs.Machine.{accepting}
+use Rattle.reading_grammar.specs.Fold.{Reading, going, halted, bad, finish, answer}
+use Rattle.reading_grammar.proofs.Viable.{place-unique, text-no-place}
+use Rattle.reading_grammar.proofs.Fold.{good-text, bad-3, other-first}
 use Rattle.reading.specs.Memory.{Memory}
 use Rattle.reading.specs.Act.{act}
 use Rattle.reading.specs.Read.{Told, zeros, refused, short, beginning, readOf}

@@ -8,7 +8,7 @@ use lib.IntN.{ℤ}
 use lib.Dec.{eqb}
 use borrow.Author.Tests.{eqb-true, lt-ltb, le-leb}
 use Rattle.loops.specs.Loop.{each}
-use Rattle.grammar.specs.declared.State.{State}
+use Rattle.reading_grammar.specs.declared.State.{State}
 use Rattle.table.specs.Limits.{maxAtoms, maxBonds}
 use Rattle.table.specs.Cells.{end1, end2}
 use Rattle.table.specs.Valid.{atomOk, bondOk, sameEnds, fresh, distinct, valid, Valid}

@@ -6,7 +6,7 @@ use lib.IntN.{ℤ, pos, negsuc}
 use lib.Dec.{eqb}
 use Rattle.loops.specs.Loop.{pick}
 use Rattle.element.specs.Lookup.{numberOf, selectedOf}
-use Rattle.state.specs.declared.Fields.{Fields}
+use Rattle.reading_state.specs.declared.Fields.{Fields}
 
 abbrev pub digit : ℕ → ℕ
 digit b = b - 48

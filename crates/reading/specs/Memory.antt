@@ -11,8 +11,8 @@ use Rattle.table.specs.declared.Bond.{Bond}
 use Rattle.table.specs.Limits.{maxAtoms, maxBonds}
 use Rattle.table.specs.Cells.{end1, end2}
 use Rattle.table.specs.Rows.{withAtom, withBond}
-use Rattle.state.specs.State.{Steering}
-use Rattle.state.specs.declared.Fields.{Fields}
+use Rattle.reading_state.specs.State.{Steering}
+use Rattle.reading_state.specs.declared.Fields.{Fields}
 
 -- what stands before the next atom or bridge: nothing, a dot, or a bond symbol of a kind
 pub data Pending : Type 0 where

@@ -10,12 +10,12 @@ use Rattle.valence.specs.Valence.{implied}
 use Rattle.table.specs.Limits.{HYDROGENS}
 use Rattle.table.specs.Cells.{atomPlace, element, selected}
 use Rattle.table.specs.Valid.{enough}
-use Rattle.graph.specs.Graph.{bondSum, matchable}
-use Rattle.state.specs.Limits.{maxText, bridges}
-use Rattle.state.specs.State.{started}
-use Rattle.grammar.specs.Fold.{Reading, going, halted, read}
-use Rattle.grammar.specs.Machine.{accepting}
-use Rattle.grammar.specs.declared.State.the-variants.{Start as start}
+use Rattle.table_graph.specs.Graph.{bondSum, matchable}
+use Rattle.reading_state.specs.Limits.{maxText, bridges}
+use Rattle.reading_state.specs.State.{started}
+use Rattle.reading_grammar.specs.Fold.{Reading, going, halted, read}
+use Rattle.reading_grammar.specs.Machine.{accepting}
+use Rattle.reading_grammar.specs.declared.State.the-variants.{Start as start}
 use Rattle.reading.specs.Memory.{Memory, nothing, blank}
 use Rattle.reading.specs.Act.{act}
 

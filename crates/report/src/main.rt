@@ -1,4 +1,4 @@
 // Reports each line of standard input.
 fn main() {
-    reporter::report();
+    report_io::report();
 }

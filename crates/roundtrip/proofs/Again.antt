@@ -10,20 +10,20 @@ use lib.IntN.{ℤ, pos, negsuc}
 use Rattle.loops.specs.Loop.{pick, upTo}
 use Rattle.element.specs.Lookup.{bare}
 use Rattle.valence.specs.Valence.{implied}
-use Rattle.graph.specs.Graph.{bondSum}
+use Rattle.table_graph.specs.Graph.{bondSum}
 use Rattle.table.specs.Limits.{atomCells, ELEMENT, SELECTED, ISOTOPE, HYDROGENS, CHARGE, EXTENSION}
 use Rattle.table.specs.Cells.{number, atomCell}
 use Rattle.table.specs.Valid.{Valid}
-use Rattle.walk.specs.Token.{Bond, Tok, apart, along, ring, branch, back}
-use Rattle.walk.specs.Emit.{pre}
-use Rattle.walk.specs.Walk.{forestOf, place, write}
-use Rattle.walk.proofs.Count.{All, none, more}
-use Rattle.walk.proofs.Walk.{range}
-use Rattle.walk.proofs.Trip.{completed}
-use Rattle.walk.proofs.Twice.{completed-inside, order-again, place-same, write-again}
-use Rattle.walk.proofs.Natural.{onTok, write-natural}
-use Rattle.walk.proofs.Made.{Made, written-made}
-use Rattle.walk.proofs.Order.{atom-below, place-atom}
+use Rattle.writing_walk.specs.Token.{Bond, Tok, apart, along, ring, branch, back}
+use Rattle.writing_walk.specs.Emit.{pre}
+use Rattle.writing_walk.specs.Walk.{forestOf, place, write}
+use Rattle.writing_walk.proofs.Count.{All, none, more}
+use Rattle.writing_walk.proofs.Walk.{range}
+use Rattle.writing_walk.proofs.Trip.{completed}
+use Rattle.writing_walk.proofs.Twice.{completed-inside, order-again, place-same, write-again}
+use Rattle.writing_walk.proofs.Natural.{onTok, write-natural}
+use Rattle.writing_walk.proofs.Made.{Made, written-made}
+use Rattle.writing_walk.proofs.Order.{atom-below, place-atom}
 use Rattle.writing.specs.Spell.{isotopeBytes, symbolBytes, hydrogenBytes, chargeBytes, extensionBytes, bracketBytes, unbracketed, atomBytes, kindBytes, bridgeBytes, restBytes, tokensBytes}
 use Rattle.writing.specs.Write.{bondList, tokens, textOf, renumbering}
 use Rattle.roundtrip.proofs.Bonds.{inside, distinct}

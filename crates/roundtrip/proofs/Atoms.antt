@@ -13,14 +13,14 @@ use Rattle.loops.specs.Loop.{pick}
 use Rattle.loops.proofs.Loops.{and-left, and-right}
 use Rattle.element.specs.Symbols.{among, letters}
 use Rattle.element.specs.Lookup.{selectedOf, letterOf, bare}
-use Rattle.grammar.specs.declared.Last.the-variants.{Plain as plain}
-use Rattle.grammar.specs.declared.State.{State}
-use Rattle.grammar.specs.declared.State.the-variants.{At as at}
-use Rattle.grammar.specs.Machine.{atomOr}
+use Rattle.reading_grammar.specs.declared.Last.the-variants.{Plain as plain}
+use Rattle.reading_grammar.specs.declared.State.{State}
+use Rattle.reading_grammar.specs.declared.State.the-variants.{At as at}
+use Rattle.reading_grammar.specs.Machine.{atomOr}
 use Rattle.valence.specs.Valence.{implied}
-use Rattle.graph.specs.Graph.{bondSum}
+use Rattle.table_graph.specs.Graph.{bondSum}
 use Rattle.table.specs.declared.Atom.{Atom}
-use Rattle.state.specs.declared.Fields.{Fields}
+use Rattle.reading_state.specs.declared.Fields.{Fields}
 use Rattle.table.specs.Limits.{ELEMENT, SELECTED, ISOTOPE, HYDROGENS, CHARGE, EXTENSION}
 use Rattle.table.specs.Cells.{number, inRange, atomCell, element, selected, hydrogens}
 use Rattle.table.specs.Valid.{selectable, selectedOk}

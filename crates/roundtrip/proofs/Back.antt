@@ -11,29 +11,29 @@ use borrow.Author.Tests.{ltb-true, eqb-true, eqb-false}
 use Rattle.loops.specs.Loop.{pick}
 use Rattle.loops.proofs.Loops.{and-left, and-right}
 use Rattle.valence.specs.Valence.{order, implied}
-use Rattle.graph.specs.Graph.{bondSum, matchable}
+use Rattle.table_graph.specs.Graph.{bondSum, matchable}
 use Rattle.table.specs.Limits.{maxAtoms, maxBonds, atomCells, bondCells, ELEMENT, SELECTED, ISOTOPE, HYDROGENS, EXTENSION}
 use Rattle.table.specs.Cells.{number, atomCell, bondCell, element, selected, hydrogens}
 use Rattle.table.specs.Valid.{Valid, selectedOk}
 use Rattle.table.proofs.Valid.{AtomFine, atom-row, range-pos, Enough}
-use Rattle.state.specs.Limits.{maxText, maxDepth, bridges}
+use Rattle.reading_state.specs.Limits.{maxText, maxDepth, bridges}
 use Rattle.reading.specs.Memory.{Memory}
 use Rattle.reading.specs.Read.{hydrogenated, leftmost, refused, placed, ended, finished, readFrom}
-use Rattle.walk.specs.Token.{Bond, Tok, apart, along, ring, branch, back, St, st, start}
-use Rattle.walk.specs.Emit.{pre}
-use Rattle.walk.specs.Walk.{forestOf, place, renumber, renumbered}
-use Rattle.walk.specs.Check.{fine, reading}
-use Rattle.walk.proofs.Count.{count, All, none, more}
-use Rattle.walk.proofs.Trip.{Renumbering, renumbering, completed, Returned, round-trip}
-use Rattle.walk.proofs.Perm.{Perm, bonds-permuted}
-use Rattle.walk.proofs.Checked.{read-written, length-count}
-use Rattle.walk.proofs.Grammar.{written-grammar}
-use Rattle.walk.proofs.Twice.{count-map}
-use Rattle.walk.proofs.Sums as sums
-use Rattle.renumbered.proofs.Sums.{sum-total}
-use Rattle.renumbered.proofs.Claims.{matchable-renumbered}
-use Rattle.walk.proofs.Made.{Made, written-made}
-use Rattle.walk.proofs.Order.{place-below, atom-place}
+use Rattle.writing_walk.specs.Token.{Bond, Tok, apart, along, ring, branch, back, St, st, start}
+use Rattle.writing_walk.specs.Emit.{pre}
+use Rattle.writing_walk.specs.Walk.{forestOf, place, renumber, renumbered}
+use Rattle.writing_walk.specs.Check.{fine, reading}
+use Rattle.writing_walk.proofs.Count.{count, All, none, more}
+use Rattle.writing_walk.proofs.Trip.{Renumbering, renumbering, completed, Returned, round-trip}
+use Rattle.writing_walk.proofs.Perm.{Perm, bonds-permuted}
+use Rattle.writing_walk.proofs.Checked.{read-written, length-count}
+use Rattle.writing_walk.proofs.Grammar.{written-grammar}
+use Rattle.writing_walk.proofs.Twice.{count-map}
+use Rattle.writing_walk.proofs.Sums as sums
+use Rattle.roundtrip_matchings.proofs.Sums.{sum-total}
+use Rattle.roundtrip_matchings.proofs.Claims.{matchable-renumbered}
+use Rattle.writing_walk.proofs.Made.{Made, written-made}
+use Rattle.writing_walk.proofs.Order.{place-below, atom-place}
 use Rattle.writing.specs.Spell.{unbracketed}
 use Rattle.writing.specs.Write.{bondList, tokens, textOf, fewBridges, shallow}
 use Rattle.roundtrip.proofs.Cells.{atomCellsOf, bondCellsOf}

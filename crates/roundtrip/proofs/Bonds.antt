@@ -15,11 +15,11 @@ use Rattle.table.specs.Cells.{number, end1, end2, kind, bondCell}
 use Rattle.table.specs.Limits.{FIRST, SECOND, KIND}
 use Rattle.table.specs.Valid.{Valid, sameEnds}
 use Rattle.table.proofs.Valid.{bond-row, kind-small, apart-at}
-use Rattle.walk.specs.Token.{Bond}
-use Rattle.walk.specs.Check.{ends}
-use Rattle.walk.proofs.Count.{bit, count, All, none, more}
-use Rattle.walk.proofs.Walk.{Inside}
-use Rattle.walk.proofs.Twice.{Distinct}
+use Rattle.writing_walk.specs.Token.{Bond}
+use Rattle.writing_walk.specs.Check.{ends}
+use Rattle.writing_walk.proofs.Count.{bit, count, All, none, more}
+use Rattle.writing_walk.proofs.Walk.{Inside}
+use Rattle.writing_walk.proofs.Twice.{Distinct}
 use Rattle.writing.specs.Write.{bondAt, bondList}
 use Rattle.roundtrip.proofs.Held.{nobond, BondTable}
 

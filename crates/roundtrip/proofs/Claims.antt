@@ -10,22 +10,22 @@ use lib.Seq.{take-append-seam, take-at}
 use lib.IntN.{ℤ, pos}
 use Rattle.loops.specs.Loop.{pick}
 use Rattle.loops.proofs.Loops.{length-upTo, upTo-at}
-use Rattle.graph.specs.Graph.{matchable}
-use Rattle.graph.proofs.Localized.{localized-matchable}
+use Rattle.table_graph.specs.Graph.{matchable}
+use Rattle.table_graph.proofs.Localized.{localized-matchable}
 use Rattle.valence.specs.Valence.{delocalized}
 use Rattle.table.specs.Cells.{atomCell, selected}
 use Rattle.table.specs.Valid.{valid, Valid, enough}
 use Rattle.table.proofs.Valid.{facts, facts-back, enough-facts}
-use Rattle.state.specs.Limits.{maxText}
+use Rattle.reading_state.specs.Limits.{maxText}
 use Rattle.reading.specs.Read.{Told, refused, placed, readOf}
-use Rattle.walk.specs.Token.{Bond, joined}
-use Rattle.walk.specs.Emit.{pre}
-use Rattle.walk.specs.Walk.{forestOf, place, renumber, renumbered}
-use Rattle.walk.proofs.Count.{none, more}
-use Rattle.walk.proofs.Walk.{Inside}
-use Rattle.walk.proofs.Trip.{completed}
-use Rattle.walk.proofs.Perm.{Perm, bonds-permuted}
-use Rattle.walk.proofs.Order.{place-below, atom-below, atom-place, place-atom}
+use Rattle.writing_walk.specs.Token.{Bond, joined}
+use Rattle.writing_walk.specs.Emit.{pre}
+use Rattle.writing_walk.specs.Walk.{forestOf, place, renumber, renumbered}
+use Rattle.writing_walk.proofs.Count.{none, more}
+use Rattle.writing_walk.proofs.Walk.{Inside}
+use Rattle.writing_walk.proofs.Trip.{completed}
+use Rattle.writing_walk.proofs.Perm.{Perm, bonds-permuted}
+use Rattle.writing_walk.proofs.Order.{place-below, atom-below, atom-place, place-atom}
 use Rattle.writing.specs.Write.{bondList, tokens, textOf, renumbering, fewBridges, shallow, lent, writeValid, writeOf}
 use Rattle.writing.specs.Write as write
 use Rattle.roundtrip.specs.Claims.{Writable, numbered, renamed, accepted, Same, RoundTrip, Permutes, Demand2}

@@ -9,7 +9,7 @@ use borrow.Author.Tests.{ltb-true, ltb-false, lt-ltb, le-ltb}
 use Rattle.loops.specs.Loop.{each}
 use Rattle.loops.proofs.Loops.{each-at}
 use Rattle.element.specs.Symbols.{among}
-use Rattle.grammar.specs.Grammar.{nonzero, digits, several, none, more, Number, number}
+use Rattle.reading_grammar.specs.Grammar.{nonzero, digits, several, none, more, Number, number}
 use Rattle.reading.specs.Bracket.{digit}
 use Rattle.writing.specs.Spell.{digitByte, decimal}
 

@@ -11,12 +11,12 @@ use lib.IntN.{ℤ, pos}
 use borrow.Author.Tests.{eqb-true, eqb-false}
 use Rattle.loops.specs.Loop.{pick, run}
 use Rattle.valence.specs.Valence.{implied}
-use Rattle.graph.specs.Graph.{bondSum}
+use Rattle.table_graph.specs.Graph.{bondSum}
 use Rattle.table.specs.Limits.{atomCells, ELEMENT, SELECTED, HYDROGENS}
 use Rattle.table.specs.Cells.{atomPlace, atomCell, element, selected}
-use Rattle.state.specs.Limits.{maxText, bridges}
+use Rattle.reading_state.specs.Limits.{maxText, bridges}
 use Rattle.reading.specs.Read.{hydrogenate, hydrogenated, earlier, leftmost}
-use Rattle.walk.specs.Token.{Hook, vacant, at, hookAt, shut}
+use Rattle.writing_walk.specs.Token.{Hook, vacant, at, hookAt, shut}
 use Rattle.roundtrip.proofs.Held.{openerOf, Bridging}
 
 -- ---- bridges

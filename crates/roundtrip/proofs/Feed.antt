@@ -6,9 +6,9 @@ use Prim.Native.Nat.{ℕ, suc, _+_}
 use native.Mathlib.Omega.{arith}
 use native.Mathlib.Nat.{add-zero}
 use lib.ListN.{length}
-use Rattle.grammar.specs.declared.State.{State}
-use Rattle.grammar.specs.Machine.{step, alive}
-use Rattle.grammar.specs.Fold.{keeps, Reading, going, feed, read}
+use Rattle.reading_grammar.specs.declared.State.{State}
+use Rattle.reading_grammar.specs.Machine.{step, alive}
+use Rattle.reading_grammar.specs.Fold.{keeps, Reading, going, feed, read}
 use Rattle.reading.specs.Memory.{Memory}
 use Rattle.reading.specs.Act.{act}
 

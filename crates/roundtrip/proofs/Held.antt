@@ -14,10 +14,10 @@ use Rattle.table.specs.declared.Bond as table
 use Rattle.table.specs.Limits.{maxAtoms, maxBonds, atomCells, bondCells}
 use Rattle.table.specs.Cells.{atomPlace, bondPlace, atomCell, bondCell}
 use Rattle.table.specs.Rows.{withAtom, withBond}
-use Rattle.state.specs.Limits.{maxDepth, bridges}
+use Rattle.reading_state.specs.Limits.{maxDepth, bridges}
 use Rattle.reading.specs.Memory.{bondRow}
-use Rattle.walk.specs.Token.{Bond, bond, Hook, vacant, at, hookAt, hang}
-use Rattle.walk.proofs.Count.{All, none, more, all-append}
+use Rattle.writing_walk.specs.Token.{Bond, bond, Hook, vacant, at, hookAt, hang}
+use Rattle.writing_walk.proofs.Count.{All, none, more, all-append}
 use Rattle.roundtrip.proofs.Cells.{sets-before, sets-after, sets-in, atomCellsOf, bondCellsOf, with-atom, with-bond}
 
 -- ---- bridges: a place r of the walk is the number r + 1

@@ -11,22 +11,22 @@ use Rattle.element.specs.declared.Letter.{Letter}
 use Rattle.element.specs.declared.Letter.the-variants.{Plain, Selected, Half, Bracket, Nothing}
 use Rattle.element.specs.Symbols.{among, sameBytes, symbols, letters}
 use Rattle.element.specs.Lookup.{indexFrom, numberOf, selectedOf, letterOf, bare, bytesOf, selectedBytes}
-use Rattle.grammar.specs.Grammar.{nonzero, bondSymbols}
-use Rattle.grammar.proofs.Ends as bytes
-use Rattle.grammar.specs.declared.Last.{Last}
-use Rattle.grammar.specs.declared.Last.the-variants.{Plain as plain, AfterC as afterC, AfterB as afterB}
-use Rattle.grammar.specs.declared.Mode.{Mode}
-use Rattle.grammar.specs.declared.Mode.the-variants.{Seq as seq, Bond as bond, Dot as dot, Inside as inside, LetterA as letterA, LetterT as letterT}
-use Rattle.grammar.specs.declared.Out.{Out}
-use Rattle.grammar.specs.declared.Out.the-variants.{Stop as stop, To as to}
-use Rattle.grammar.specs.declared.State.{State}
-use Rattle.grammar.specs.declared.State.the-variants.{Start as start, At as at}
-use Rattle.grammar.specs.Machine.{turn, step, next, atomOr, bridgeOr}
-use Rattle.grammar.specs.Fold.{keeps}
+use Rattle.reading_grammar.specs.Grammar.{nonzero, bondSymbols}
+use Rattle.reading_grammar.proofs.Ends as bytes
+use Rattle.reading_grammar.specs.declared.Last.{Last}
+use Rattle.reading_grammar.specs.declared.Last.the-variants.{Plain as plain, AfterC as afterC, AfterB as afterB}
+use Rattle.reading_grammar.specs.declared.Mode.{Mode}
+use Rattle.reading_grammar.specs.declared.Mode.the-variants.{Seq as seq, Bond as bond, Dot as dot, Inside as inside, LetterA as letterA, LetterT as letterT}
+use Rattle.reading_grammar.specs.declared.Out.{Out}
+use Rattle.reading_grammar.specs.declared.Out.the-variants.{Stop as stop, To as to}
+use Rattle.reading_grammar.specs.declared.State.{State}
+use Rattle.reading_grammar.specs.declared.State.the-variants.{Start as start, At as at}
+use Rattle.reading_grammar.specs.Machine.{turn, step, next, atomOr, bridgeOr}
+use Rattle.reading_grammar.specs.Fold.{keeps}
 use Rattle.table.specs.declared.Atom.{Atom}
 use Rattle.table.specs.Limits.{maxAtoms, maxBonds, atomCells}
 use Rattle.table.specs.Valid.{selectable}
-use Rattle.state.specs.declared.Fields.{Fields}
+use Rattle.reading_state.specs.declared.Fields.{Fields}
 use Rattle.reading.specs.Memory.{Memory, bareRow, blank, bonded, begun, described, drafted}
 use Rattle.reading.specs.Act.{Acts, act, modeAct, atomAct, firstByte, orAtom, secondLetter}
 use Rattle.writing.specs.Spell.{symbolBytes}

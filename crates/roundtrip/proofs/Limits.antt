@@ -12,15 +12,15 @@ use Rattle.loops.proofs.Loops.{and-left, and-right}
 use Rattle.table.specs.Limits.{maxAtoms, maxBonds}
 use Rattle.table.specs.Valid.{valid}
 use Rattle.table.proofs.Valid.{facts}
-use Rattle.state.specs.Limits.{maxDepth, bridges}
-use Rattle.walk.specs.Token.{Tok, apart, along, ring, branch, back}
-use Rattle.walk.specs.Emit.{size}
-use Rattle.walk.specs.Walk.{forestOf, relabel, unused}
-use Rattle.walk.specs.Check.{nests}
-use Rattle.walk.proofs.Count.{All, none, more, all-map, nobody}
-use Rattle.walk.proofs.Walk.{Inside}
-use Rattle.walk.proofs.Trip.{size-length, size-relabel, renumbering, inside-unused}
-use Rattle.walk.proofs.Bridges.{Low, low-places, places-low}
+use Rattle.reading_state.specs.Limits.{maxDepth, bridges}
+use Rattle.writing_walk.specs.Token.{Tok, apart, along, ring, branch, back}
+use Rattle.writing_walk.specs.Emit.{size}
+use Rattle.writing_walk.specs.Walk.{forestOf, relabel, unused}
+use Rattle.writing_walk.specs.Check.{nests}
+use Rattle.writing_walk.proofs.Count.{All, none, more, all-map, nobody}
+use Rattle.writing_walk.proofs.Walk.{Inside}
+use Rattle.writing_walk.proofs.Trip.{size-length, size-relabel, renumbering, inside-unused}
+use Rattle.writing_walk.proofs.Bridges.{Low, low-places, places-low}
 use Rattle.writing.specs.Write.{bondList, tokens, fewBridges, shallow}
 use Rattle.roundtrip.specs.Claims.{mostBridges, openAt, depthAfter}
 use Rattle.roundtrip.proofs.Bonds.{inside}

@@ -12,15 +12,15 @@ use Rattle.loops.specs.Loop.{pick, each}
 use Rattle.loops.proofs.Loops.{each-at, and-left, and-right}
 use Rattle.element.specs.Symbols.{among, listed, starts, sameBytes, symbols, marks}
 use Rattle.element.specs.Lookup.{indexFrom, numberOf, selectedOf, bytesOf, selectedBytes}
-use Rattle.grammar.specs.Grammar.{nonzero, digits, signs, Digits, none, more, Number, number}
-use Rattle.grammar.proofs.Ends as bytes
-use Rattle.grammar.specs.declared.Mode.{Mode}
-use Rattle.grammar.specs.declared.Mode.the-variants.{Bracket as bracket, Isotope as isotope, Symbol1 as symbol1, Symbolled as symbolled}
-use Rattle.grammar.specs.declared.Out.{Out}
-use Rattle.grammar.specs.declared.Out.the-variants.{Stop as stop, To as to}
-use Rattle.grammar.specs.Machine.{next, symbolOr, closing, extending, charging, hydrating}
-use Rattle.grammar.specs.Fold.{keeps}
-use Rattle.state.specs.declared.Fields.{Fields}
+use Rattle.reading_grammar.specs.Grammar.{nonzero, digits, signs, Digits, none, more, Number, number}
+use Rattle.reading_grammar.proofs.Ends as bytes
+use Rattle.reading_grammar.specs.declared.Mode.{Mode}
+use Rattle.reading_grammar.specs.declared.Mode.the-variants.{Bracket as bracket, Isotope as isotope, Symbol1 as symbol1, Symbolled as symbolled}
+use Rattle.reading_grammar.specs.declared.Out.{Out}
+use Rattle.reading_grammar.specs.declared.Out.the-variants.{Stop as stop, To as to}
+use Rattle.reading_grammar.specs.Machine.{next, symbolOr, closing, extending, charging, hydrating}
+use Rattle.reading_grammar.specs.Fold.{keeps}
+use Rattle.reading_state.specs.declared.Fields.{Fields}
 use Rattle.table.specs.Valid.{selectable}
 use Rattle.reading.specs.Memory.{Memory, drafted}
 use Rattle.reading.specs.Bracket.{digit}

@@ -14,17 +14,17 @@ use Rattle.table.specs.Cells.{number, inRange, atomCell, end1, end2}
 use Rattle.table.specs.Valid.{selectable, selectedOk, sameEnds, fresh, atomOk, bondOk, Valid}
 use Rattle.table.specs.Valid as spec
 use Rattle.table.proofs.Valid.{range-of, bond-fine-back}
-use Rattle.state.specs.Limits.{maxDepth}
-use Rattle.walk.specs.Token.{Bond, Tok, apart, along, ring, branch, back}
-use Rattle.walk.specs.Emit.{pre}
-use Rattle.walk.specs.Walk.{forestOf, renumber, renumbered}
-use Rattle.walk.specs.Check.{ends, nests}
-use Rattle.walk.proofs.Count.{bit, count, all-at}
-use Rattle.walk.proofs.Trip.{completed, round-trip}
-use Rattle.walk.proofs.Twice.{Distinct, completed-inside, distinct-map}
-use Rattle.walk.proofs.Natural.{onTok}
-use Rattle.walk.proofs.Made.{completed-made}
-use Rattle.walk.proofs.Order.{atom-below}
+use Rattle.reading_state.specs.Limits.{maxDepth}
+use Rattle.writing_walk.specs.Token.{Bond, Tok, apart, along, ring, branch, back}
+use Rattle.writing_walk.specs.Emit.{pre}
+use Rattle.writing_walk.specs.Walk.{forestOf, renumber, renumbered}
+use Rattle.writing_walk.specs.Check.{ends, nests}
+use Rattle.writing_walk.proofs.Count.{bit, count, all-at}
+use Rattle.writing_walk.proofs.Trip.{completed, round-trip}
+use Rattle.writing_walk.proofs.Twice.{Distinct, completed-inside, distinct-map}
+use Rattle.writing_walk.proofs.Natural.{onTok}
+use Rattle.writing_walk.proofs.Made.{completed-made}
+use Rattle.writing_walk.proofs.Order.{atom-below}
 use Rattle.writing.specs.Write.{bondList, tokens, fewBridges, shallow}
 use Rattle.roundtrip.proofs.Held.{nobond}
 use Rattle.roundtrip.proofs.Bonds.{inside, small-kinds, distinct}

@@ -10,24 +10,24 @@ use borrow.Author.Tests.{ltb-true, ltb-false, le-ltb, lt-ltb}
 use Rattle.loops.specs.Loop.{pick}
 use Rattle.element.specs.Symbols.{among, letters}
 use Rattle.element.specs.Lookup.{letterOf, selectedOf}
-use Rattle.grammar.specs.Grammar.{nonzero, bondSymbols}
-use Rattle.grammar.proofs.Ends as over
-use Rattle.grammar.specs.declared.Last.{Last}
-use Rattle.grammar.specs.declared.Last.the-variants.{Plain as plain}
-use Rattle.grammar.specs.declared.Mode.{Mode}
-use Rattle.grammar.specs.declared.Mode.the-variants.{Seq as seq, Bond as bond, Dot as dot, Inside as inside, Percent as percent, Percent1 as percent1}
-use Rattle.grammar.specs.declared.Out.{Out}
-use Rattle.grammar.specs.declared.Out.the-variants.{To as to}
-use Rattle.grammar.specs.declared.State.{State}
-use Rattle.grammar.specs.declared.State.the-variants.{At as at}
-use Rattle.grammar.specs.Machine.{turn, step, next, atomOr, bridgeOr}
-use Rattle.grammar.specs.Fold.{keeps}
+use Rattle.reading_grammar.specs.Grammar.{nonzero, bondSymbols}
+use Rattle.reading_grammar.proofs.Ends as over
+use Rattle.reading_grammar.specs.declared.Last.{Last}
+use Rattle.reading_grammar.specs.declared.Last.the-variants.{Plain as plain}
+use Rattle.reading_grammar.specs.declared.Mode.{Mode}
+use Rattle.reading_grammar.specs.declared.Mode.the-variants.{Seq as seq, Bond as bond, Dot as dot, Inside as inside, Percent as percent, Percent1 as percent1}
+use Rattle.reading_grammar.specs.declared.Out.{Out}
+use Rattle.reading_grammar.specs.declared.Out.the-variants.{To as to}
+use Rattle.reading_grammar.specs.declared.State.{State}
+use Rattle.reading_grammar.specs.declared.State.the-variants.{At as at}
+use Rattle.reading_grammar.specs.Machine.{turn, step, next, atomOr, bridgeOr}
+use Rattle.reading_grammar.specs.Fold.{keeps}
 use Rattle.table.specs.declared.Atom.{Atom}
-use Rattle.state.specs.Limits.{bridges}
+use Rattle.reading_state.specs.Limits.{bridges}
 use Rattle.reading.specs.Memory.{Memory, Pending, nothing, dotted, symbol, symbolKind, kindOf, afterDot, awaiting, counting}
 use Rattle.reading.specs.Bracket.{digit}
 use Rattle.reading.specs.Act.{act, modeAct, bridgeAct}
-use Rattle.walk.specs.Token.{St}
+use Rattle.writing_walk.specs.Token.{St}
 use Rattle.writing.specs.Spell.{digitByte, decimal, kindBytes, bridgeBytes}
 use Rattle.roundtrip.proofs.Feed.{Takes, stays, joins, byte}
 use Rattle.roundtrip.proofs.Decimal.{digit-of, is-digit, is-nonzero, two}

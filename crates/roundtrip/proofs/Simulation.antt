@@ -9,21 +9,21 @@ use lib.ListN.{length, getD, set, length-append}
 use borrow.Author.Tests.{eqb-true, eqb-false, eq-eqb, ne-eqb, ltb-true, ltb-false, lt-leb}
 use Rattle.loops.specs.Loop.{pick}
 use Rattle.loops.proofs.Loops.{each-all}
-use Rattle.grammar.specs.Fold.{keeps}
+use Rattle.reading_grammar.specs.Fold.{keeps}
 use Rattle.table.specs.declared.Atom.{Atom}
 use Rattle.table.specs.Limits.{maxAtoms, maxBonds, atomCells, bondCells, FIRST, SECOND}
 use Rattle.table.specs.Cells.{number, end1, end2}
 use Rattle.table.specs.Rows.{withAtom}
-use Rattle.state.specs.declared.Fields.{Fields}
-use Rattle.state.specs.Limits.{maxDepth, bridges}
-use Rattle.state.specs.State.{opened, closed, bridged, joined}
+use Rattle.reading_state.specs.declared.Fields.{Fields}
+use Rattle.reading_state.specs.Limits.{maxDepth, bridges}
+use Rattle.reading_state.specs.State.{opened, closed, bridged, joined}
 use Rattle.reading.specs.Memory.{Memory, nothing, kindOf, between, bonded, begun, described, drafted, moved, awaiting, counting, joins, joinedAlready, closeRefusal}
 use Rattle.reading.specs.Memory as bytes
 use Rattle.reading.specs.Act.{bridgeBond, bridgeAct}
-use Rattle.walk.specs.Token.{Bond, bond, Hook, vacant, at, hookAt, hang, meet, St, st, bridge}
-use Rattle.walk.specs.Token as token
-use Rattle.walk.specs.Check.{ends, some, clash, refusedBridge}
-use Rattle.walk.proofs.Count.{All, more, all-map, all-at}
+use Rattle.writing_walk.specs.Token.{Bond, bond, Hook, vacant, at, hookAt, hang, meet, St, st, bridge}
+use Rattle.writing_walk.specs.Token as token
+use Rattle.writing_walk.specs.Check.{ends, some, clash, refusedBridge}
+use Rattle.writing_walk.proofs.Count.{All, more, all-map, all-at}
 use Rattle.roundtrip.proofs.Held.{openerOf, symbolOf, Bridging, bridging-set, Branching, branching-push, branching-pop, AtomTable, atom-add, nobond, rowOfBond, BondTable, bond-add}
 
 -- row v, flag v: the row and the flag that the bytes of the atom v leave; p and q: the cells of the tables

@@ -10,22 +10,22 @@ use lib.IntN.{ℤ}
 use borrow.Author.Tests.{ne-eqb, lt-leb}
 use Rattle.element.specs.Symbols.{among, letters}
 use Rattle.element.specs.Lookup.{letterOf, selectedOf}
-use Rattle.grammar.specs.Grammar.{nonzero, bondSymbols}
-use Rattle.grammar.specs.declared.Last.{Last}
-use Rattle.grammar.specs.declared.Last.the-variants.{Plain as plain}
-use Rattle.grammar.specs.declared.Mode.the-variants.{Seq as seq, Inside as inside}
-use Rattle.grammar.specs.declared.State.{State}
-use Rattle.grammar.specs.declared.State.the-variants.{At as at}
-use Rattle.grammar.specs.Machine.{step, next, atomOr, bridgeOr}
+use Rattle.reading_grammar.specs.Grammar.{nonzero, bondSymbols}
+use Rattle.reading_grammar.specs.declared.Last.{Last}
+use Rattle.reading_grammar.specs.declared.Last.the-variants.{Plain as plain}
+use Rattle.reading_grammar.specs.declared.Mode.the-variants.{Seq as seq, Inside as inside}
+use Rattle.reading_grammar.specs.declared.State.{State}
+use Rattle.reading_grammar.specs.declared.State.the-variants.{At as at}
+use Rattle.reading_grammar.specs.Machine.{step, next, atomOr, bridgeOr}
 use Rattle.table.specs.Limits.{maxAtoms, maxBonds, atomCells, bondCells}
 use Rattle.table.proofs.Valid.{AtomFine}
-use Rattle.state.specs.Limits.{maxDepth, bridges}
-use Rattle.state.specs.State.{opened, closed}
+use Rattle.reading_state.specs.Limits.{maxDepth, bridges}
+use Rattle.reading_state.specs.State.{opened, closed}
 use Rattle.reading.specs.Memory.{Memory, nothing, dotted, kindOf, bonded, begun, moved, awaiting, counting}
 use Rattle.reading.specs.Act.{act, modeAct, branchAct}
-use Rattle.walk.specs.Token.{Bond, Tok, apart, along, ring, branch, back, Hook, hookAt, St, st, bridge}
-use Rattle.walk.specs.Token as token
-use Rattle.walk.specs.Check.{refusedBridge}
+use Rattle.writing_walk.specs.Token.{Bond, Tok, apart, along, ring, branch, back, Hook, hookAt, St, st, bridge}
+use Rattle.writing_walk.specs.Token as token
+use Rattle.writing_walk.specs.Check.{refusedBridge}
 use Rattle.writing.specs.Spell.{atomBytes, kindBytes, bridgeBytes}
 use Rattle.roundtrip.proofs.Feed.{Takes, stays, joins, byte}
 use Rattle.roundtrip.proofs.Letters.{Begins, Room}

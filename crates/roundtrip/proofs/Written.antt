@@ -9,21 +9,21 @@ use lib.ListN.{length, getD, length-replicate, getD-replicate, List·getD-eq-def
 use lib.IntN.{ℤ, pos}
 use borrow.Author.Tests.{eqb-true, ltb-true, ltb-false}
 use Rattle.loops.proofs.Loops.{and-left, and-right}
-use Rattle.grammar.specs.declared.Last.{Last}
-use Rattle.grammar.specs.declared.Mode.the-variants.{Seq as seq}
-use Rattle.grammar.specs.declared.State.{State}
-use Rattle.grammar.specs.declared.State.the-variants.{Start as opening, At as at}
-use Rattle.grammar.specs.Machine.{accepting, resting}
+use Rattle.reading_grammar.specs.declared.Last.{Last}
+use Rattle.reading_grammar.specs.declared.Mode.the-variants.{Seq as seq}
+use Rattle.reading_grammar.specs.declared.State.{State}
+use Rattle.reading_grammar.specs.declared.State.the-variants.{Start as opening, At as at}
+use Rattle.reading_grammar.specs.Machine.{accepting, resting}
 use Rattle.table.specs.Limits.{maxAtoms, maxBonds, atomCells, bondCells}
 use Rattle.table.proofs.Valid.{AtomFine}
-use Rattle.state.specs.Limits.{maxDepth, bridges}
-use Rattle.state.specs.State.{started}
+use Rattle.reading_state.specs.Limits.{maxDepth, bridges}
+use Rattle.reading_state.specs.State.{started}
 use Rattle.reading.specs.Memory.{Memory, nothing}
 use Rattle.reading.specs.Read.{zeros, beginning}
-use Rattle.walk.specs.Token.{Tok, apart, along, ring, branch, back, Hook, hookAt, St, st, start}
-use Rattle.walk.specs.Token as token
-use Rattle.walk.specs.Check.{refusal, fine, orNumber, reading, grammar, accepted}
-use Rattle.walk.proofs.Count.{All, none, more}
+use Rattle.writing_walk.specs.Token.{Tok, apart, along, ring, branch, back, Hook, hookAt, St, st, start}
+use Rattle.writing_walk.specs.Token as token
+use Rattle.writing_walk.specs.Check.{refusal, fine, orNumber, reading, grammar, accepted}
+use Rattle.writing_walk.proofs.Count.{All, none, more}
 use Rattle.writing.specs.Spell.{atomBytes, tokenBytes, restBytes, tokensBytes}
 use Rattle.roundtrip.proofs.Feed.{Takes, stays, joins}
 use Rattle.roundtrip.proofs.Letters.{begins-start}

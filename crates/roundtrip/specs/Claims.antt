@@ -7,17 +7,17 @@ use lib.Dec.{leb}
 use lib.ListN.{length, getD, take}
 use lib.IntN.{ℤ, pos}
 use Rattle.loops.specs.Loop.{upTo}
-use Rattle.graph.specs.Graph.{matchable}
+use Rattle.table_graph.specs.Graph.{matchable}
 use Rattle.table.specs.Limits.{atomCells, bondCells}
 use Rattle.table.specs.Cells.{atomCell}
 use Rattle.table.specs.Valid.{valid}
-use Rattle.state.specs.Limits.{bridges, maxText}
+use Rattle.reading_state.specs.Limits.{bridges, maxText}
 use Rattle.reading.specs.Read.{Told, refused, readOf}
-use Rattle.walk.specs.Token.{Bond, joined, Tok, apart, along, ring, branch, back}
-use Rattle.walk.specs.Walk.{unused}
-use Rattle.walk.proofs.Count.{count}
-use Rattle.walk.proofs.Read.{pending}
-use Rattle.walk.proofs.Perm.{Perm}
+use Rattle.writing_walk.specs.Token.{Bond, joined, Tok, apart, along, ring, branch, back}
+use Rattle.writing_walk.specs.Walk.{unused}
+use Rattle.writing_walk.proofs.Count.{count}
+use Rattle.writing_walk.proofs.Read.{pending}
+use Rattle.writing_walk.proofs.Perm.{Perm}
 use Rattle.writing.specs.Write.{bondList, tokens, textOf, renumbering, fewBridges, shallow, lent, writeOf}
 use Rattle.writing.specs.Write as write
 

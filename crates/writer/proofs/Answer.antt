@@ -14,11 +14,11 @@ use Rattle.loops.specs.Loop.{pick, upTo}
 use Rattle.loops.proofs.Loops.{length-upTo}
 use Rattle.table.specs.Limits.{maxAtoms}
 use Rattle.table.specs.Valid.{valid, enough}
-use Rattle.state.specs.Limits.{maxText}
-use Rattle.walk.specs.Emit.{pre}
-use Rattle.walk.specs.Walk.{forestOf, place}
+use Rattle.reading_state.specs.Limits.{maxText}
+use Rattle.writing_walk.specs.Emit.{pre}
+use Rattle.writing_walk.specs.Walk.{forestOf, place}
 use Rattle.writing.specs.Write.{Told, bondList, tokens, textOf, renumbering, fewBridges, shallow, refused, short, filled, accepted, writeValid, lent, writeOf}
-use Rattle.pen.specs.Pen.{Pen, pen, putByte, writes, Wrote}
+use Rattle.buffer.specs.Pen.{Pen, pen, putByte, writes, Wrote}
 use Rattle.writer.specs.Told.{Said}
 
 -- ---- clearing

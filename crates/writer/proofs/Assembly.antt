@@ -14,31 +14,31 @@ use Rattle.table.specs.Limits.{maxAtoms, maxBonds, ISOTOPE, EXTENSION, ELEMENT}
 use Rattle.table.specs.Cells.{number, atomCell, end1, end2}
 use Rattle.table.specs.Valid.{Valid, sameEnds}
 use Rattle.table.proofs.Valid.{atom-row, bond-row, kind-small, hydrogens-small, apart-at, range-high}
-use Rattle.graph.specs.Graph.{bondSum}
-use Rattle.state.specs.Limits.{maxDepth}
-use Rattle.walk.specs.Token.{Bond, Tok}
-use Rattle.walk.specs.Emit.{Forest, leaf, node, size, pre, Slot, text, closeAll}
-use Rattle.walk.specs.Walk.{forestOf, member, relabel, closing, opening, unused, write}
-use Rattle.walk.specs.Check.{ends, nests}
-use Rattle.walk.specs.Flat.{kinds, ups, flat, rowsOf}
-use Rattle.walk.proofs.Count.{bit, count, All, none, more, all-append, and-left, and-right}
-use Rattle.walk.proofs.Whole.{inv-start}
-use Rattle.walk.proofs.Trip.{renumbering, place-lt, size-length, back-of}
-use Rattle.walk.proofs.Twice.{Distinct}
-use Rattle.walk.proofs.Rows.{rows-text}
+use Rattle.table_graph.specs.Graph.{bondSum}
+use Rattle.reading_state.specs.Limits.{maxDepth}
+use Rattle.writing_walk.specs.Token.{Bond, Tok}
+use Rattle.writing_walk.specs.Emit.{Forest, leaf, node, size, pre, Slot, text, closeAll}
+use Rattle.writing_walk.specs.Walk.{forestOf, member, relabel, closing, opening, unused, write}
+use Rattle.writing_walk.specs.Check.{ends, nests}
+use Rattle.writing_walk.specs.Flat.{kinds, ups, flat, rowsOf}
+use Rattle.writing_walk.proofs.Count.{bit, count, All, none, more, all-append, and-left, and-right}
+use Rattle.writing_walk.proofs.Whole.{inv-start}
+use Rattle.writing_walk.proofs.Trip.{renumbering, place-lt, size-length, back-of}
+use Rattle.writing_walk.proofs.Twice.{Distinct}
+use Rattle.writing_walk.proofs.Rows.{rows-text}
 use Rattle.writing.specs.Spell.{atomBytes, unbracketed, tokensBytes}
 use Rattle.writing.specs.Write.{bondAt, bondList, tokens, textOf, fewBridges}
-use Rattle.pen.specs.Pen.{Pen}
-use Rattle.pen.proofs.Laws.{as-is}
-use Rattle.spell.specs.Fields.{AtomFits, outside, spelledAtom}
-use Rattle.tour.specs.Tour.{BondsFit, Room, Kept, Walked}
-use Rattle.tour.specs.Wires.{wires, Wired}
-use Rattle.tour.proofs.Ways.{bonds-inside}
-use Rattle.tour.proofs.Wires.{fit-same, wired-at, wired-list}
-use Rattle.tour.proofs.Laws.{length-kinds, length-ups, room-kept}
-use Rattle.rings.specs.Slots.{Slots, end, rest, closesFrom, opensFrom, closeBytes, openBytes}
-use Rattle.rings.specs.Unused.{bag, addBond, inWalk, Numbered, BagRoom}
-use Rattle.rings.proofs.Listed.{Listed, listed}
+use Rattle.buffer.specs.Pen.{Pen}
+use Rattle.buffer.proofs.Laws.{as-is}
+use Rattle.writing_atoms.specs.Fields.{AtomFits, outside, spelledAtom}
+use Rattle.writing_visit.specs.Tour.{BondsFit, Room, Kept, Walked}
+use Rattle.writing_visit.specs.Wires.{wires, Wired}
+use Rattle.writing_visit.proofs.Ways.{bonds-inside}
+use Rattle.writing_visit.proofs.Wires.{fit-same, wired-at, wired-list}
+use Rattle.writing_visit.proofs.Laws.{length-kinds, length-ups, room-kept}
+use Rattle.writing_bridges.specs.Slots.{Slots, end, rest, closesFrom, opensFrom, closeBytes, openBytes}
+use Rattle.writing_bridges.specs.Unused.{bag, addBond, inWalk, Numbered, BagRoom}
+use Rattle.writing_bridges.proofs.Listed.{Listed, listed}
 use Rattle.writer.specs.Emit.{Ready, headBytes, moreAt, leadBytes, Texted, Pending, bytesFrom, nextSlots}
 use Rattle.writer.specs.Nest.{nestFrom, depthAfter}
 use Rattle.writer.specs.Told.{Held, Counted, Said}

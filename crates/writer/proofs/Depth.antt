@@ -10,12 +10,12 @@ use lib.Dec.{eqb, leb, ltb}
 use borrow.Author.Tests.{eq-eqb, ne-eqb, le-leb, lt-leb, leb-true, leb-false, lt-ltb, le-ltb}
 use Rattle.loops.specs.Loop.{pick, upTo}
 use Rattle.table.specs.Limits.{maxAtoms, maxBonds}
-use Rattle.state.specs.Limits.{maxDepth}
-use Rattle.walk.specs.Token.{Bond, Tok, apart, along, ring, branch, back}
-use Rattle.walk.specs.Emit.{Slot, find, release, lowest, insert, closeAll, closeToks, openToks, ringToks}
-use Rattle.walk.specs.Flat.{Stand, root, first, later, Row, lead, child, flat, standOf, rowsOf}
-use Rattle.walk.specs.Check.{nests}
-use Rattle.rings.specs.Slots.{Bridged}
+use Rattle.reading_state.specs.Limits.{maxDepth}
+use Rattle.writing_walk.specs.Token.{Bond, Tok, apart, along, ring, branch, back}
+use Rattle.writing_walk.specs.Emit.{Slot, find, release, lowest, insert, closeAll, closeToks, openToks, ringToks}
+use Rattle.writing_walk.specs.Flat.{Stand, root, first, later, Row, lead, child, flat, standOf, rowsOf}
+use Rattle.writing_walk.specs.Check.{nests}
+use Rattle.writing_bridges.specs.Slots.{Bridged}
 use Rattle.writer.specs.Emit.{nextSlots}
 use Rattle.writer.specs.Nest.{depthLeft, depthAfter, nestFrom}
 use Rattle.writer.proofs.Tokens.{rowsFrom, laterOne, rows-end, c, o, flat-step}

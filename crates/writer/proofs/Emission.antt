@@ -10,18 +10,18 @@ use lib.IntN.{ℤ}
 use lib.Dec.{eqb}
 use borrow.Author.Tests.{eq-eqb, ne-eqb}
 use Rattle.loops.specs.Loop.{pick, upTo}
-use Rattle.walk.specs.Token.{Bond}
-use Rattle.walk.specs.Emit.{Slot, closeAll, openAll}
-use Rattle.walk.specs.Walk.{closing, opening}
-use Rattle.walk.proofs.Count.{count, All, none, more}
-use Rattle.walk.proofs.Read.{openOf, Within, pending, Back, closes-within, inv-rings}
-use Rattle.walk.proofs.Walk.{Inside}
-use Rattle.walk.proofs.Trip.{back-of}
+use Rattle.writing_walk.specs.Token.{Bond}
+use Rattle.writing_walk.specs.Emit.{Slot, closeAll, openAll}
+use Rattle.writing_walk.specs.Walk.{closing, opening}
+use Rattle.writing_walk.proofs.Count.{count, All, none, more}
+use Rattle.writing_walk.proofs.Read.{openOf, Within, pending, Back, closes-within, inv-rings}
+use Rattle.writing_walk.proofs.Walk.{Inside}
+use Rattle.writing_walk.proofs.Trip.{back-of}
 use Rattle.writing.specs.Spell.{kindBytes}
-use Rattle.pen.specs.Pen.{Pen, pen, Wrote}
-use Rattle.pen.proofs.Laws.{also, as-is, nothing}
-use Rattle.spell.specs.Fields.{spelledAtom}
-use Rattle.rings.specs.Slots.{Bridged, Slots, closesFrom, opensFrom, fits, Ended}
+use Rattle.buffer.specs.Pen.{Pen, pen, Wrote}
+use Rattle.buffer.proofs.Laws.{also, as-is, nothing}
+use Rattle.writing_atoms.specs.Fields.{spelledAtom}
+use Rattle.writing_bridges.specs.Slots.{Bridged, Slots, closesFrom, opensFrom, fits, Ended}
 use Rattle.writer.specs.Emit.{leaveBytes, enterBytes, leadBytes, headBytes, moreAt, Emitted, Texted, Pending, nextSlots, bytesFrom, fewFrom}
 
 -- what stands before an atom

@@ -9,17 +9,17 @@ use lib.Seq.{drop-cons}
 use lib.Dec.{eqb, ltb}
 use borrow.Author.Tests.{eq-eqb, ne-eqb, eqb-true, eqb-false, lt-ltb, le-ltb, ltb-true, ltb-false}
 use Rattle.loops.specs.Loop.{pick, upTo}
-use Rattle.state.specs.Limits.{bridges}
-use Rattle.walk.specs.Token.{Bond, Tok, apart, along, ring, branch, back}
-use Rattle.walk.specs.Emit.{Slot, find, release, lowest, insert, closeAll, closeToks, openAll, openToks, rings, ringToks}
-use Rattle.walk.specs.Walk.{member, closing, opening}
-use Rattle.walk.specs.Flat.{Stand, root, first, later, Row, row, lead, child, flat, standOf, rowsOf}
-use Rattle.walk.proofs.Count.{All, none, more, all-append}
-use Rattle.walk.proofs.Read.{openOf, Within}
-use Rattle.walk.proofs.Bridges.{Low, close-low, close-length, insert-length}
+use Rattle.reading_state.specs.Limits.{bridges}
+use Rattle.writing_walk.specs.Token.{Bond, Tok, apart, along, ring, branch, back}
+use Rattle.writing_walk.specs.Emit.{Slot, find, release, lowest, insert, closeAll, closeToks, openAll, openToks, rings, ringToks}
+use Rattle.writing_walk.specs.Walk.{member, closing, opening}
+use Rattle.writing_walk.specs.Flat.{Stand, root, first, later, Row, row, lead, child, flat, standOf, rowsOf}
+use Rattle.writing_walk.proofs.Count.{All, none, more, all-append}
+use Rattle.writing_walk.proofs.Read.{openOf, Within}
+use Rattle.writing_walk.proofs.Bridges.{Low, close-low, close-length, insert-length}
 use Rattle.writing.specs.Spell.{kindBytes, bridgeBytes, tokenBytes, restBytes, tokensBytes}
 use Rattle.writing.specs.Write.{fewBridges}
-use Rattle.rings.specs.Slots.{Bridged, closesFrom, opensFrom, closeBytes, openBytes, fits}
+use Rattle.writing_bridges.specs.Slots.{Bridged, closesFrom, opensFrom, closeBytes, openBytes, fits}
 use Rattle.writer.specs.Emit.{leaveBytes, enterBytes, leadBytes, Pending, nextSlots, bytesFrom, fewFrom}
 use Rattle.writer.proofs.Emission.{closes-are, opens-are, open-there, pending-next}
 

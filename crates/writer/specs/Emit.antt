@@ -8,14 +8,14 @@ use lib.IntN.{ℤ}
 use lib.Dec.{eqb}
 use Rattle.loops.specs.Loop.{pick, upTo}
 use Rattle.table.specs.Limits.{maxAtoms, maxBonds}
-use Rattle.walk.specs.Token.{Bond}
-use Rattle.walk.specs.Emit.{Slot, closeAll, openAll}
-use Rattle.walk.proofs.Count.{count}
-use Rattle.walk.proofs.Read.{openOf, Within, pending}
+use Rattle.writing_walk.specs.Token.{Bond}
+use Rattle.writing_walk.specs.Emit.{Slot, closeAll, openAll}
+use Rattle.writing_walk.proofs.Count.{count}
+use Rattle.writing_walk.proofs.Read.{openOf, Within, pending}
 use Rattle.writing.specs.Spell.{kindBytes}
-use Rattle.pen.specs.Pen.{Pen, Wrote}
-use Rattle.spell.specs.Fields.{AtomFits, spelledAtom}
-use Rattle.rings.specs.Slots.{Bridged, Slots, closesFrom, opensFrom, closeBytes, openBytes, fits}
+use Rattle.buffer.specs.Pen.{Pen, Wrote}
+use Rattle.writing_atoms.specs.Fields.{AtomFits, spelledAtom}
+use Rattle.writing_bridges.specs.Slots.{Bridged, Slots, closesFrom, opensFrom, closeBytes, openBytes, fits}
 
 unfoldable pub leaveBytes : ℕ → ℕ → List ℕ
 leaveBytes up x = pick (eqb up x) [] (41 ∷ [])

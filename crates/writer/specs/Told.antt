@@ -9,13 +9,13 @@ use Rattle.loops.specs.Loop.{upTo}
 use Rattle.refusal.specs.Code.{codeOf}
 use Rattle.table.specs.Limits.{maxAtoms}
 use Rattle.table.specs.Valid.{Valid}
-use Rattle.graph.specs.Graph.{bondSum}
-use Rattle.walk.specs.Emit.{pre}
-use Rattle.walk.specs.Walk.{forestOf, place}
-use Rattle.pen.specs.Pen.{Pen, Wrote}
+use Rattle.table_graph.specs.Graph.{bondSum}
+use Rattle.writing_walk.specs.Emit.{pre}
+use Rattle.writing_walk.specs.Walk.{forestOf, place}
+use Rattle.buffer.specs.Pen.{Pen, Wrote}
 use Rattle.writing.specs.Write.{Told, bondList, tokens, textOf, fewBridges, shallow}
-use Rattle.tour.specs.Tour.{Room, Walked}
-use Rattle.tour.specs.Wires.{Wired}
+use Rattle.writing_visit.specs.Tour.{Room, Walked}
+use Rattle.writing_visit.specs.Wires.{Wired}
 use Rattle.writer.specs.declared.Written.{Written}
 use Rattle.writer.specs.declared.Written.the-variants.{Text, Refused}
 

@@ -2,12 +2,12 @@
 ghost use mathlib.Core.Bool.{true};
 ghost use Prim.Native.Nat.{ℕ, _<_};
 ghost use lib.ListN.{length, replicate};
-ghost use Rattle.pen.specs.Pen.{pen, Wrote};
-ghost use Rattle.rings.specs.Unused.{Marked};
+ghost use Rattle.buffer.specs.Pen.{pen, Wrote};
+ghost use Rattle.writing_bridges.specs.Unused.{Marked};
 ghost use Rattle.writer.specs.Emit.{leaveBytes, enterBytes, leadBytes, headBytes, Ready, Emitted, Texted};
 use ids::AtomId;
-use rings::Spot;
 use table::MAX_ATOMS;
+use writing_bridges::Spot;
 
 // A branch is left before a child that is not the first.
 fn leave(out: &mut [u8], at: usize, up: usize, x: usize) -> usize
@@ -16,7 +16,7 @@ fn leave(out: &mut [u8], at: usize, up: usize, x: usize) -> usize
     if up == x {
         return at;
     }
-    pen::put(out, at, b')')
+    buffer::put(out, at, b')')
 }
 
 // A child that is not the last stands in a branch.
@@ -24,7 +24,7 @@ fn enter(out: &mut [u8], at: usize, more: bool) -> usize
     ensures { λ r. ⌜ Wrote (enterBytes more) (pen (now (out .entry)) at) (pen (now (out .exit)) r) ⌝ }
 {
     if more {
-        return pen::put(out, at, b'(');
+        return buffer::put(out, at, b'(');
     }
     at
 }
@@ -36,12 +36,12 @@ fn lead(out: &mut [u8], at: usize, x: usize, up: usize, more: bool, kind: usize)
     if up > 0 {
         let at = leave(out, at, up, x);
         let at = enter(out, at, more);
-        return spell::bond_symbol(out, at, kind);
+        return writing_atoms::bond_symbol(out, at, kind);
     }
     if x == 0 {
         return at;
     }
-    pen::put(out, at, b'.')
+    buffer::put(out, at, b'.')
 }
 
 // The atom x of the walk: what stands before it, its bytes, what closes there and what opens there.
@@ -71,8 +71,8 @@ fn emit_atom(
     let u = up[x] as usize;
     let more = last[u] as usize != x;
     let at = lead(out, at, x, u, more, kind[x] as usize);
-    let at = spell::fields::atom(atoms, AtomId(a), sums[a] as usize, out, at);
-    rings::ring_ends(los, his, kinds, marks, k, x, slots, out, at)
+    let at = writing_atoms::fields::atom(atoms, AtomId(a), sums[a] as usize, out, at);
+    writing_bridges::ring_ends(los, his, kinds, marks, k, x, slots, out, at)
 }
 
 // internal: the atoms of a walk in order, into the buffer from its start.

@@ -6,13 +6,13 @@ ghost use lib.ListN.{length, getD, take, drop, replicate};
 ghost use lib.IntN.{ℤ};
 ghost use Rattle.loops.specs.Loop.{upTo};
 ghost use Rattle.table.specs.Limits.{maxAtoms};
-ghost use Rattle.state.specs.Limits.{maxText};
+ghost use Rattle.reading_state.specs.Limits.{maxText};
 ghost use Rattle.writing.specs.Write.{writeValid, writeOf};
 ghost use Rattle.table.specs.Valid.{Valid};
-ghost use Rattle.pen.specs.Pen.{pen};
+ghost use Rattle.buffer.specs.Pen.{pen};
 ghost use Rattle.writer.specs.Told.{Held, Counted, Said, told};
+use reading_state::MAX_TEXT;
 use refusal::Refusal;
-use state::MAX_TEXT;
 use table::MAX_ATOMS;
 use table::MAX_BONDS;
 
@@ -54,7 +54,7 @@ fn draw(
     let mut his = [0u16; MAX_BONDS];
     let mut kinds = [0u8; MAX_BONDS];
     let mut marks = [0u16; MAX_ATOMS];
-    let k = rings::unused::unused(
+    let k = writing_bridges::unused::unused(
         ea,
         eb,
         ks,
@@ -112,7 +112,7 @@ fn text(
     let mut eb = [0u16; MAX_BONDS];
     let mut ks = [0u8; MAX_BONDS];
     let mut sums = [0u16; MAX_ATOMS];
-    tour::walk(
+    writing_visit::walk(
         bonds,
         n,
         m,
@@ -243,7 +243,7 @@ pub fn write(
 ) -> Written
     ensures { λ r. ⌜ told r (now (out .exit)) (now (ren .exit)) ≡ writeOf (now (atoms .entry)) (now (bonds .entry)) n m (now (out .entry)) (now (ren .entry)) ⌝ }
 {
-    if !validity::enough(atoms, bonds) {
+    if !table_validity::enough(atoms, bonds) {
         return Written::Refused(Refusal::Short);
     }
     if out.len() < MAX_TEXT {
@@ -252,7 +252,7 @@ pub fn write(
     if ren.len() < MAX_ATOMS {
         return Written::Refused(Refusal::Short);
     }
-    if !validity::valid(atoms, bonds, n, m) {
+    if !table_validity::valid(atoms, bonds, n, m) {
         clear_all(out, ren);
         return Written::Refused(Refusal::Invalid);
     }

@@ -9,8 +9,8 @@ use Rattle.element.specs.Lookup.{bare, bytesOf, selectedBytes}
 use Rattle.valence.specs.Valence.{implied}
 use Rattle.table.specs.Limits.{ISOTOPE, CHARGE, EXTENSION}
 use Rattle.table.specs.Cells.{number, atomCell, element, selected, hydrogens}
-use Rattle.graph.specs.Graph.{bondSum}
-use Rattle.walk.specs.Token.{Tok, apart, along, ring, branch, back}
+use Rattle.table_graph.specs.Graph.{bondSum}
+use Rattle.writing_walk.specs.Token.{Tok, apart, along, ring, branch, back}
 
 abbrev pub digitByte : ℕ → ℕ
 digitByte d = 48 + d

@@ -9,11 +9,11 @@ use Rattle.loops.specs.Loop.{pick, upTo}
 use Rattle.table.specs.Limits.{maxAtoms, maxBonds}
 use Rattle.table.specs.Cells.{end1, end2, kind}
 use Rattle.table.specs.Valid.{valid, enough}
-use Rattle.state.specs.Limits.{maxDepth, bridges, maxText}
-use Rattle.walk.specs.Token.{Bond, bond, Tok, apart, along, ring, branch, back}
-use Rattle.walk.specs.Emit.{pre}
-use Rattle.walk.specs.Walk.{forestOf, place, write}
-use Rattle.walk.specs.Check.{nests}
+use Rattle.reading_state.specs.Limits.{maxDepth, bridges, maxText}
+use Rattle.writing_walk.specs.Token.{Bond, bond, Tok, apart, along, ring, branch, back}
+use Rattle.writing_walk.specs.Emit.{pre}
+use Rattle.writing_walk.specs.Walk.{forestOf, place, write}
+use Rattle.writing_walk.specs.Check.{nests}
 use Rattle.writing.specs.Spell.{atomBytes, tokensBytes}
 
 abbrev pub bondAt : List ℤ → ℕ → Bond

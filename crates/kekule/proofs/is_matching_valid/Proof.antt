@@ -1,6 +1,6 @@
 use mathlib.Core.Path.{sym, _∙_}
 use denote.Ref.{now}
-use Rattle.graph.proofs.Graph.{built-shape, length-first, length-second, length-elided, length-flags}
+use Rattle.table_graph.proofs.Graph.{built-shape, length-first, length-second, length-elided, length-flags}
 use Rattle.kekule.proofs.Kekule.{matching-built}
 use Rattle.kekule.proofs.Unselected.{unselected-matching}
 use borrow.Author.Needs.{needs}

@@ -3,10 +3,10 @@ use native.Mathlib.Omega.{arith}
 use denote.Ref.{now}
 use lib.ListN.{replicate}
 use Rattle.table.specs.Limits.{maxAtoms, maxBonds}
-use Rattle.graph.proofs.Sums.{sums-length}
-use Rattle.graph.proofs.Graph.{flags-built, built-shape, length-first, length-second, length-elided, length-flags}
-use Rattle.graph.proofs.Localized.{unselected-matchable}
-use Rattle.answers.specs.Answers.{isGiven}
+use Rattle.table_graph.proofs.Sums.{sums-length}
+use Rattle.table_graph.proofs.Graph.{flags-built, built-shape, length-first, length-second, length-elided, length-flags}
+use Rattle.table_graph.proofs.Localized.{unselected-matchable}
+use Rattle.kekule_answers.specs.Answers.{isGiven}
 use Rattle.kekule.proofs.Exists.{first-matchable}
 use borrow.Author.Needs.{needs}
 use Rattle.kekule.proofs.matchable.Statement.{statement}

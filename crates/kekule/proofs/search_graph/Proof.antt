@@ -1,6 +1,6 @@
 use mathlib.Core.Path.{sym}
 use denote.Ref.{now}
-use Rattle.graph.proofs.Graph.{built-shape, length-first, length-second, length-elided, length-flags}
+use Rattle.table_graph.proofs.Graph.{built-shape, length-first, length-second, length-elided, length-flags}
 use Rattle.kekule.proofs.Kekule.{first-built, next-built}
 use borrow.Author.Needs.{needs}
 use Rattle.kekule.proofs.search_graph.Statement.{statement}

@@ -2,8 +2,8 @@ use native.Mathlib.Omega.{arith}
 use mathlib.Core.Path.{refl, sym}
 use denote.Ref.{now}
 use Rattle.table.specs.Limits.{maxAtoms}
-use Rattle.graph.proofs.Sums.{sums-length}
-use Rattle.graph.proofs.Graph.{wide}
+use Rattle.table_graph.proofs.Sums.{sums-length}
+use Rattle.table_graph.proofs.Graph.{wide}
 use Rattle.reader.proofs.Ends.{completed-atoms, completed-tables}
 use borrow.Author.Needs.{needs}
 use Rattle.reader.proofs.ending.complete.Statement.{statement}

@@ -1,7 +1,7 @@
 use mathlib.Core.Path.{sym, _∙_}
 use native.Mathlib.Omega.{arith}
 use borrow.Author.Tests.{not-true, not-false}
-use Rattle.field.proofs.Bytes.{nonzero-digit, digit-in}
+use Rattle.reading_fields.proofs.Bytes.{nonzero-digit, digit-in}
 use Rattle.reader.proofs.Pieces.{seen-digit, seen-atom, seen-wrong, seen-wrong-2, seen-percent}
 use borrow.Author.Needs.{needs}
 use Rattle.reader.proofs.piece.bridge_at.Statement.{statement}

@@ -3,7 +3,7 @@ use lib.ListN.{length}
 use mathlib.Core.Path.{sym, _∙_}
 use native.Mathlib.Omega.{arith}
 use borrow.Author.Needs.{needs}
-use Rattle.field.proofs.Bytes.{byte-in}
+use Rattle.reading_fields.proofs.Bytes.{byte-in}
 use Rattle.reader.specs.Went.{went}
 use Rattle.reader.proofs.Turns.{fair-chain}
 use Rattle.reader.proofs.Sequences.{left, Runs, run-start, run-past, sequence-refused, sequence-ends, sequence-stuck, branch-past, run-branch, run-less}
@@ -16,12 +16,12 @@ use Rattle.reader.proofs.sequence.+branch+sequence.Lts-branch as branch
 use Rattle.reader.proofs.sequence.sequence.Reads as sequence
 use Rattle.reader.proofs.sequence.sequence.Kinds as sequence-kinds
 use Rattle.reader.proofs.sequence.+branch+sequence.Lts-sequence as sequence-lts
-use Rattle.field.proofs.byte.peek.Reads as peek-reads
+use Rattle.reading_fields.proofs.byte.peek.Reads as peek-reads
 use Rattle.reader.proofs.bridge.refuse.Reads as refuse-reads
 use Rattle.reader.proofs.piece.joint_at.Reads as joint-at-reads
 use Rattle.reader.proofs.sequence.chain.Reads as chain-reads
-use Rattle.state.proofs.State.close.Reads as close-reads
-use Rattle.state.proofs.State.open.Reads as open-reads
+use Rattle.reading_state.proofs.State.close.Reads as close-reads
+use Rattle.reading_state.proofs.State.open.Reads as open-reads
 use Rattle.reader.proofs.sequence.+branch+sequence.{statement}
 use Rattle.reader.proofs.sequence.+branch+sequence.Tie.{close}
 

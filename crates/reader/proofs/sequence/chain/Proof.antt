@@ -4,7 +4,7 @@ use mathlib.Core.List.{List, []}
 use lib.ListN.{length}
 use native.Mathlib.Omega.{arith}
 use borrow.Author.Needs.{needs}
-use Rattle.state.specs.State.{steering}
+use Rattle.reading_state.specs.State.{steering}
 use Rattle.reader.specs.Went.{Fair}
 use Rattle.reader.proofs.Turns.{fair-bridge, Turn, turn-start, atom-lies, atom-in, atom-later, atom-room, turn-atom, end-atom, bridge-lies, bridge-later, turn-bridge, end-bridge, end-wrong, end-branch, end-fine}
 use Rattle.reader.proofs.sequence.chain.Statement.{statement}

@@ -1,6 +1,6 @@
 use Rattle.writer.proofs.Emission.{Onward, onward-start, onward-stop, onward-step, onward-end}
 use Rattle.writer.specs.Emit.{headBytes}
-use Rattle.pen.specs.Pen.{pen}
+use Rattle.buffer.specs.Pen.{pen}
 use borrow.Author.Tests.{not-true, not-false}
 use mathlib.Core.Path.{_≡_, refl, sym, _∙_}
 use lib.ListN.{length, replicate}

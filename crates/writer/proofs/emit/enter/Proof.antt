@@ -1,4 +1,4 @@
-use Rattle.pen.proofs.Laws.{as-is, nothing}
+use Rattle.buffer.proofs.Laws.{as-is, nothing}
 use Rattle.writer.proofs.Emission.{enters, passes}
 use borrow.Author.Needs.{needs}
 use Rattle.writer.proofs.emit.enter.Statement.{statement}

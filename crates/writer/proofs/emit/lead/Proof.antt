@@ -1,4 +1,4 @@
-use Rattle.pen.proofs.Laws.{also, as-is, nothing}
+use Rattle.buffer.proofs.Laws.{also, as-is, nothing}
 use Rattle.writer.proofs.Emission.{child-lead, first-lead, piece-lead}
 use borrow.Author.Needs.{needs}
 use Rattle.writer.proofs.emit.lead.Statement.{statement}

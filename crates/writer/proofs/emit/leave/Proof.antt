@@ -1,4 +1,4 @@
-use Rattle.pen.proofs.Laws.{as-is, nothing}
+use Rattle.buffer.proofs.Laws.{as-is, nothing}
 use Rattle.writer.proofs.Emission.{stays, leaves}
 use borrow.Author.Needs.{needs}
 use Rattle.writer.proofs.emit.leave.Statement.{statement}

@@ -1,0 +1,178 @@
+// The public calls for C and Rust: slices, counts and numbers in, codes out.
+ghost use mathlib.Core.Path.{_≡_};
+ghost use Rattle.kekule_answers.specs.Answers.{askedCode};
+ghost use Rattle.matching.specs.declared.Call.the-variants.{First, Next};
+ghost use Rattle.kekule.specs.Kekule.{callOn, askedOf, kekulizedOf};
+ghost use Rattle.kekule.specs.Calls.{replayedOf};
+ghost use Rattle.table.specs.Valid.{checkOf};
+ghost use Rattle.reading.specs.Read.{readOf};
+ghost use Rattle.writing.specs.Write.{writeOf};
+ghost use Rattle.balsa.specs.Capi.{readReplyOf, readOut, writeReplyOf, writeOut, checkCode, rowOut, rowOutOf, tablesOut, tablesOutOf, replayOut, replayOutOf};
+use kekule_answers::asked_code;
+use kekule_answers::found_code;
+use reader::ending::Answer;
+use table::Check;
+use writer::Written;
+
+// What reading hands back: code 0 with the counts of atoms and bonds, or the refusal's code with its offset.
+#[repr(C)]
+pub struct ReadReply {
+    pub code: u32,
+    pub place: usize,
+    pub atoms: usize,
+    pub bonds: usize,
+}
+
+// An answer of the reader in plain numbers.
+fn read_reply(a: Answer) -> ReadReply
+    ensures { λ r. ⌜ r ≡ readReplyOf a ⌝ }
+{
+    match a {
+        Answer::Molecule(n, m) => ReadReply {
+            code: 0,
+            place: 0,
+            atoms: n,
+            bonds: m,
+        },
+        Answer::Refused(r, p) => ReadReply {
+            code: refusal::code(r) as u32,
+            place: p,
+            atoms: 0,
+            bonds: 0,
+        },
+    }
+}
+
+// Reads a text into the tables: 0 with the counts, or 1 to 11 with the offset.
+#[no_mangle]
+pub extern "C" fn balsa_read(text: &[u8], atoms: &mut [i32], bonds: &mut [i32]) -> ReadReply
+    ensures { λ r. ⌜ readOut r (now (atoms .exit)) (now (bonds .exit)) ≡ readOf (now (text .entry)) (now (atoms .entry)) (now (bonds .entry)) ⌝ }
+{
+    read_reply(reader::read(text, atoms, bonds))
+}
+
+// What writing hands back: code 0 with the length of the text, or the refusal's code.
+#[repr(C)]
+pub struct WriteReply {
+    pub code: u32,
+    pub length: usize,
+}
+
+// An answer of the writer in plain numbers.
+fn write_reply(w: Written) -> WriteReply
+    ensures { λ r. ⌜ r ≡ writeReplyOf w ⌝ }
+{
+    match w {
+        Written::Text(k) => WriteReply { code: 0, length: k },
+        Written::Refused(r) => WriteReply {
+            code: refusal::code(r) as u32,
+            length: 0,
+        },
+    }
+}
+
+// Writes the molecule of the tables: 0 with the length, or 1, 13, 14, 15, 16.
+#[no_mangle]
+pub extern "C" fn balsa_write(
+    atoms: &[i32],
+    bonds: &[i32],
+    n: usize,
+    m: usize,
+    out: &mut [u8],
+    ren: &mut [u16],
+) -> WriteReply
+    ensures { λ r. ⌜ writeOut r (now (out .exit)) (now (ren .exit)) ≡ writeOf (now (atoms .entry)) (now (bonds .entry)) n m (now (out .entry)) (now (ren .entry)) ⌝ }
+{
+    write_reply(writer::write(atoms, bonds, n, m, out, ren))
+}
+
+// The code of a check: 0, or the refusal's.
+fn check_code(c: Check) -> u32
+    ensures { λ r. ⌜ r ≡ checkCode c ⌝ }
+{
+    match c {
+        Check::Fine => 0,
+        Check::Refused(r) => refusal::code(r) as u32,
+    }
+}
+
+// Whether the tables can be worked with: 0, 1 or 13.
+#[no_mangle]
+pub extern "C" fn balsa_check(atoms: &[i32], bonds: &[i32], n: usize, m: usize) -> u32
+    ensures { λ r. ⌜ r ≡ checkCode (checkOf (now (atoms .entry)) (now (bonds .entry)) n m) ⌝ }
+{
+    check_code(table_validity::check_tables(atoms, bonds, n, m))
+}
+
+// The first matching, into the row: 0, 1, 13 or 11.
+#[no_mangle]
+pub extern "C" fn balsa_first(
+    atoms: &[i32],
+    bonds: &[i32],
+    n: usize,
+    m: usize,
+    row: &mut [u8],
+) -> u32
+    ensures { λ r. ⌜ rowOut r (now (row .exit)) ≡ rowOutOf (callOn First (now (atoms .entry)) (now (bonds .entry)) n m (now (row .entry))) ⌝ }
+{
+    found_code(kekule::first(atoms, bonds, n, m, row)) as u32
+}
+
+// The next matching, into the row: 0, 255 for the end, 1, 13 or 12.
+#[no_mangle]
+pub extern "C" fn balsa_next(
+    atoms: &[i32],
+    bonds: &[i32],
+    n: usize,
+    m: usize,
+    row: &mut [u8],
+) -> u32
+    ensures { λ r. ⌜ rowOut r (now (row .exit)) ≡ rowOutOf (callOn Next (now (atoms .entry)) (now (bonds .entry)) n m (now (row .entry))) ⌝ }
+{
+    found_code(kekule::next(atoms, bonds, n, m, row)) as u32
+}
+
+// Whether the row is a matching: 0, 12 for no, 1 or 13.
+#[no_mangle]
+pub extern "C" fn balsa_is_matching(
+    atoms: &[i32],
+    bonds: &[i32],
+    n: usize,
+    m: usize,
+    row: &[u8],
+) -> u32
+    ensures { λ r. ⌜ r ≡ askedCode (askedOf (now (atoms .entry)) (now (bonds .entry)) n m (now (row .entry))) ⌝ }
+{
+    asked_code(kekule::is_matching(atoms, bonds, n, m, row))
+}
+
+// Kekulizes the tables by the row: 0, 1, 13 or 12.
+#[no_mangle]
+pub extern "C" fn balsa_kekulize(
+    atoms: &mut [i32],
+    bonds: &mut [i32],
+    n: usize,
+    m: usize,
+    row: &[u8],
+) -> u32
+    ensures { λ r. ⌜ tablesOut r (now (atoms .exit)) (now (bonds .exit)) ≡ tablesOutOf (kekulizedOf (now (atoms .entry)) (now (bonds .entry)) n m (now (row .entry))) ⌝ }
+{
+    check_code(kekule::kekulize(atoms, bonds, n, m, row))
+}
+
+// A list of calls on one row, 0 for the first matching and any other byte for the next; the code of each answer: 0, or 1 where
+// codes is shorter than calls.
+#[no_mangle]
+pub extern "C" fn balsa_replay(
+    calls: &[u8],
+    atoms: &[i32],
+    bonds: &[i32],
+    n: usize,
+    m: usize,
+    row: &mut [u8],
+    codes: &mut [u8],
+) -> u32
+    ensures { λ r. ⌜ replayOut r (now (row .exit)) (now (codes .exit)) ≡ replayOutOf (replayedOf (now (calls .entry)) (now (atoms .entry)) (now (bonds .entry)) n m (now (row .entry)) (now (codes .entry))) ⌝ }
+{
+    check_code(kekule::replay(calls, atoms, bonds, n, m, row, codes))
+}

@@ -1,0 +1,65 @@
+-- The texts that 01 marks with † as one table under one theorem, by computation. Assumes nothing.
+use mathlib.Core.Path.{_≡_, refl}
+use mathlib.Core.Bool.{Bool, true, false, _&&_, _||_, not}
+use mathlib.Core.List.{List, [], _∷_, map}
+use Prim.Native.Nat.{ℕ}
+use lib.IntN.{ℤ, pos}
+use Rattle.loops.specs.Loop.{each, run, upTo}
+use Rattle.element.specs.Symbols.{among, listed, starts, sameBytes, symbols, letters, marks}
+use Rattle.element.specs.Lookup.{indexFrom, numberOf, selectedOf, letterOf, bare, bytesOf, selectedBytes}
+use Rattle.valence.specs.Valence.{order, targets, firstTarget, firstRoom, implied, delocalized}
+use Rattle.reading_grammar.specs.Grammar.{nonzero, digits, several, bondSymbols, signs}
+use Rattle.reading_grammar.specs.Machine.{step, next, accepting, resting, atomOr, bridgeOr, closing, extending, charging, hydrating, symbolOr}
+use Rattle.reading_grammar.specs.Fold.{feed, read}
+use Rattle.matching.specs.Enumeration.{rows, passing}
+use Rattle.matching.specs.Graph.{isMatching, eachOnce, degree, chosenInduced}
+use Rattle.table.specs.Cells.{number}
+use Rattle.table.specs.Rows.{withAtom, withBond}
+use Rattle.table.specs.Valid.{enough}
+use Rattle.table_graph.specs.Graph.{touches, share, bondSum, matchable}
+use Rattle.reading_state.specs.State.{started, opened, closed, joined}
+use Rattle.reading.specs.Memory.{symbolKind, begun, joins, joinedAlready, closeRefusal}
+use Rattle.reading.specs.Bracket.{symbolled}
+use Rattle.reading.specs.Act.{atomAct, bridgeAct, branchAct, modeAct, act}
+use Rattle.reading.specs.Read.{hydrogenated, leftmost, ended, readFrom, readOf}
+use Rattle.writing_walk.specs.Walk.{forestOf, renumbered, unused, write}
+use Rattle.writing.specs.Spell.{decimal, hydrogenBytes, sizeBytes, bracketBytes, unbracketed, atomBytes, kindBytes, bridgeBytes, restBytes, tokensBytes}
+use Rattle.writing.specs.Write.{tokens, textOf}
+use Rattle.examples.specs.Said.{Said, said, accepted, refused}
+
+-- each text, and what the definitions say of it: its cells (element, selected, isotope, hydrogens, charge, extension), its bonds, its matchings, its writing
+pub texts : List (List ℕ)
+texts =
+    ([]) ∷  -- empty
+    (67 ∷ []) ∷  -- C
+    (67 ∷ 78 ∷ 40 ∷ 67 ∷ 41 ∷ 40 ∷ 67 ∷ 41 ∷ 67 ∷ []) ∷  -- CN(C)(C)C
+    (91 ∷ 67 ∷ 93 ∷ []) ∷  -- [C]
+    (99 ∷ 49 ∷ 99 ∷ 99 ∷ 99 ∷ 99 ∷ 99 ∷ 49 ∷ []) ∷  -- c1ccccc1
+    (111 ∷ 49 ∷ 99 ∷ 99 ∷ 99 ∷ 99 ∷ 49 ∷ []) ∷  -- o1cccc1
+    (99 ∷ 49 ∷ 99 ∷ 99 ∷ 91 ∷ 110 ∷ 72 ∷ 93 ∷ 99 ∷ 49 ∷ []) ∷  -- c1cc[nH]c1
+    (99 ∷ 40 ∷ 99 ∷ 41 ∷ 40 ∷ 99 ∷ 41 ∷ 99 ∷ []) ∷  -- c(c)(c)c
+    (99 ∷ 99 ∷ []) ∷  -- cc
+    (67 ∷ 49 ∷ 49 ∷ []) ∷  -- C11
+    (67 ∷ 61 ∷ 49 ∷ 67 ∷ 67 ∷ 35 ∷ 49 ∷ []) ∷  -- C=1CC#1
+    (67 ∷ 49 ∷ 46 ∷ 67 ∷ 49 ∷ []) ∷  -- C1.C1
+    []
+
+pub expected : List Said
+expected =
+    accepted ([]) ([]) (([]) ∷ []) ([]) ∷  -- empty
+    accepted (pos 6 ∷ pos 0 ∷ pos 0 ∷ pos 4 ∷ pos 0 ∷ pos 0 ∷ []) ([]) (([]) ∷ []) (67 ∷ []) ∷  -- C
+    accepted (pos 6 ∷ pos 0 ∷ pos 0 ∷ pos 3 ∷ pos 0 ∷ pos 0 ∷ pos 7 ∷ pos 0 ∷ pos 0 ∷ pos 1 ∷ pos 0 ∷ pos 0 ∷ pos 6 ∷ pos 0 ∷ pos 0 ∷ pos 3 ∷ pos 0 ∷ pos 0 ∷ pos 6 ∷ pos 0 ∷ pos 0 ∷ pos 3 ∷ pos 0 ∷ pos 0 ∷ pos 6 ∷ pos 0 ∷ pos 0 ∷ pos 3 ∷ pos 0 ∷ pos 0 ∷ []) (pos 0 ∷ pos 1 ∷ pos 0 ∷ pos 1 ∷ pos 2 ∷ pos 0 ∷ pos 1 ∷ pos 3 ∷ pos 0 ∷ pos 1 ∷ pos 4 ∷ pos 0 ∷ []) ((0 ∷ 0 ∷ 0 ∷ 0 ∷ []) ∷ []) (67 ∷ 78 ∷ 40 ∷ 67 ∷ 41 ∷ 40 ∷ 67 ∷ 41 ∷ 67 ∷ []) ∷  -- CN(C)(C)C
+    accepted (pos 6 ∷ pos 0 ∷ pos 0 ∷ pos 0 ∷ pos 0 ∷ pos 0 ∷ []) ([]) (([]) ∷ []) (91 ∷ 67 ∷ 93 ∷ []) ∷  -- [C]
+    accepted (pos 6 ∷ pos 1 ∷ pos 0 ∷ pos 1 ∷ pos 0 ∷ pos 0 ∷ pos 6 ∷ pos 1 ∷ pos 0 ∷ pos 1 ∷ pos 0 ∷ pos 0 ∷ pos 6 ∷ pos 1 ∷ pos 0 ∷ pos 1 ∷ pos 0 ∷ pos 0 ∷ pos 6 ∷ pos 1 ∷ pos 0 ∷ pos 1 ∷ pos 0 ∷ pos 0 ∷ pos 6 ∷ pos 1 ∷ pos 0 ∷ pos 1 ∷ pos 0 ∷ pos 0 ∷ pos 6 ∷ pos 1 ∷ pos 0 ∷ pos 1 ∷ pos 0 ∷ pos 0 ∷ []) (pos 0 ∷ pos 1 ∷ pos 0 ∷ pos 1 ∷ pos 2 ∷ pos 0 ∷ pos 2 ∷ pos 3 ∷ pos 0 ∷ pos 3 ∷ pos 4 ∷ pos 0 ∷ pos 4 ∷ pos 5 ∷ pos 0 ∷ pos 0 ∷ pos 5 ∷ pos 0 ∷ []) ((1 ∷ 0 ∷ 1 ∷ 0 ∷ 1 ∷ 0 ∷ []) ∷ (0 ∷ 1 ∷ 0 ∷ 1 ∷ 0 ∷ 1 ∷ []) ∷ []) (99 ∷ 49 ∷ 99 ∷ 99 ∷ 99 ∷ 99 ∷ 99 ∷ 49 ∷ []) ∷  -- c1ccccc1
+    accepted (pos 8 ∷ pos 1 ∷ pos 0 ∷ pos 0 ∷ pos 0 ∷ pos 0 ∷ pos 6 ∷ pos 1 ∷ pos 0 ∷ pos 1 ∷ pos 0 ∷ pos 0 ∷ pos 6 ∷ pos 1 ∷ pos 0 ∷ pos 1 ∷ pos 0 ∷ pos 0 ∷ pos 6 ∷ pos 1 ∷ pos 0 ∷ pos 1 ∷ pos 0 ∷ pos 0 ∷ pos 6 ∷ pos 1 ∷ pos 0 ∷ pos 1 ∷ pos 0 ∷ pos 0 ∷ []) (pos 0 ∷ pos 1 ∷ pos 0 ∷ pos 1 ∷ pos 2 ∷ pos 0 ∷ pos 2 ∷ pos 3 ∷ pos 0 ∷ pos 3 ∷ pos 4 ∷ pos 0 ∷ pos 0 ∷ pos 4 ∷ pos 0 ∷ []) ((0 ∷ 1 ∷ 0 ∷ 1 ∷ 0 ∷ []) ∷ []) (111 ∷ 49 ∷ 99 ∷ 99 ∷ 99 ∷ 99 ∷ 49 ∷ []) ∷  -- o1cccc1
+    accepted (pos 6 ∷ pos 1 ∷ pos 0 ∷ pos 1 ∷ pos 0 ∷ pos 0 ∷ pos 6 ∷ pos 1 ∷ pos 0 ∷ pos 1 ∷ pos 0 ∷ pos 0 ∷ pos 6 ∷ pos 1 ∷ pos 0 ∷ pos 1 ∷ pos 0 ∷ pos 0 ∷ pos 7 ∷ pos 1 ∷ pos 0 ∷ pos 1 ∷ pos 0 ∷ pos 0 ∷ pos 6 ∷ pos 1 ∷ pos 0 ∷ pos 1 ∷ pos 0 ∷ pos 0 ∷ []) (pos 0 ∷ pos 1 ∷ pos 0 ∷ pos 1 ∷ pos 2 ∷ pos 0 ∷ pos 2 ∷ pos 3 ∷ pos 0 ∷ pos 3 ∷ pos 4 ∷ pos 0 ∷ pos 0 ∷ pos 4 ∷ pos 0 ∷ []) ((0 ∷ 1 ∷ 0 ∷ 0 ∷ 1 ∷ []) ∷ []) (99 ∷ 49 ∷ 99 ∷ 99 ∷ 91 ∷ 110 ∷ 72 ∷ 93 ∷ 99 ∷ 49 ∷ []) ∷  -- c1cc[nH]c1
+    refused 11 0 ∷  -- c(c)(c)c
+    accepted (pos 6 ∷ pos 1 ∷ pos 0 ∷ pos 2 ∷ pos 0 ∷ pos 0 ∷ pos 6 ∷ pos 1 ∷ pos 0 ∷ pos 2 ∷ pos 0 ∷ pos 0 ∷ []) (pos 0 ∷ pos 1 ∷ pos 0 ∷ []) ((1 ∷ []) ∷ []) (99 ∷ 99 ∷ []) ∷  -- cc
+    refused 7 2 ∷  -- C11
+    refused 9 6 ∷  -- C=1CC#1
+    accepted (pos 6 ∷ pos 0 ∷ pos 0 ∷ pos 3 ∷ pos 0 ∷ pos 0 ∷ pos 6 ∷ pos 0 ∷ pos 0 ∷ pos 3 ∷ pos 0 ∷ pos 0 ∷ []) (pos 0 ∷ pos 1 ∷ pos 0 ∷ []) ((0 ∷ []) ∷ []) (67 ∷ 67 ∷ []) ∷  -- C1.C1
+    []
+
+pub marked-texts : map said texts ≡ expected
+unfolding texts expected each run upTo among listed starts sameBytes symbols letters marks indexFrom numberOf selectedOf letterOf bare bytesOf selectedBytes order targets firstTarget firstRoom implied delocalized nonzero digits several bondSymbols signs step next accepting resting atomOr bridgeOr closing extending charging hydrating symbolOr feed read rows passing isMatching eachOnce degree chosenInduced number withAtom withBond enough touches share bondSum started opened closed joined symbolKind begun joins joinedAlready closeRefusal symbolled atomAct bridgeAct branchAct modeAct act hydrogenated leftmost matchable ended readFrom readOf forestOf renumbered unused write decimal hydrogenBytes sizeBytes bracketBytes unbracketed atomBytes kindBytes bridgeBytes restBytes tokensBytes tokens textOf
+marked-texts = refl

@@ -1,0 +1,305 @@
+// The search that the calls on molecules use: first each bond in turn, with no way back; then a plain search under a budget,
+// which leaves a branch at once when an atom without a partner has no bond left; where it gives up, the certified one. Its
+// contracts are those of `matching_search`.
+use ids::AtomId;
+use ids::BondId;
+use ids::MAX_ATOMS;
+use matching::Answer;
+ghost use mathlib.Core.Path.{_≡_};
+ghost use mathlib.Core.Bool.{true};
+ghost use mathlib.Core.List.{[]};
+ghost use Prim.Native.Nat.{ℕ, _+_, _<_};
+ghost use lib.ListN.{length, take, set};
+ghost use Rattle.matching.specs.Enumeration.{rowFirst, rowNext};
+ghost use Rattle.matching.specs.Graph.{isMatching};
+ghost use Rattle.matching.specs.Model.{Shape, Tables, Searched, Ends, allFrom, laterFrom, matchingFrom, part, bondsOf, reply};
+ghost use Rattle.matching_engine.specs.Tried.{Tried, withBond, Lasts, noted, Stranded, Taken};
+
+// How many bonds the plain search may choose before it gives up.
+const BUDGET: usize = 400;
+
+// What a search under a budget says.
+pub enum Sought {
+    Found,
+    Absent,
+    GaveUp,
+}
+
+// The atom v gets the number x.
+fn note(last: &mut [usize], v: AtomId, x: usize)
+    ensures { λ _. ⌜ now (last .exit) ≡ set (now (last .entry)) (v .0) x ⌝ }
+{
+    let at = v.0;
+    if at < last.len() {
+        last[at] = x;
+    }
+}
+
+// Both ends of the bond k get its number and 1, if it can be chosen.
+fn note_bond(ea: &[u16], eb: &[u16], el: &[u8], need: &[u8], last: &mut [usize], k: BondId)
+    requires { ⌜ Ends (now ea) (now eb) (now need) (k .0) ⌝ }
+    requires { ⌜ k .0 < length (now el) ⌝ }
+    ensures { λ _. ⌜ now (last .exit) ≡ noted (now (ea .entry)) (now (eb .entry)) (now (el .entry)) (now (need .entry)) (k .0) (now (last .entry)) ⌝ }
+{
+    if matching_search::choosable(ea, eb, el, need, k) {
+        let after = k.0 + 1;
+        note(last, matching_search::end_of(ea, k), after);
+        note(last, matching_search::end_of(eb, k), after);
+    }
+}
+
+// One more than the number of the last bond that can be chosen at each atom.
+fn fill_lasts(ea: &[u16], eb: &[u16], el: &[u8], need: &[u8], last: &mut [usize])
+    requires { ⌜ Tables (now ea) (now eb) (now el) (now need) 0 ⌝ }
+    ensures { λ _. ⌜ Lasts (now (ea .entry)) (now (eb .entry)) (now (el .entry)) (now (need .entry)) (now (last .exit)) ⌝ }
+{
+    let mut j: usize = 0;
+    while j < ea.len() {
+        note_bond(ea, eb, el, need, last, BondId(j));
+        j += 1;
+    }
+}
+
+// The atom v has no partner, and no bond from `from` on that can be chosen.
+fn stranded(need: &[u8], last: &[usize], v: AtomId, from: usize) -> bool
+    requires { ⌜ v .0 < length (now need) ⌝ }
+    ensures { λ r. ⌜ (r ≡ true → Stranded (now (need .entry)) (now (last .entry)) (v .0) from) ⌝ }
+{
+    let at = v.0;
+    if at < last.len() {
+        return matching_search::unpaired(need, v) & (last[at] <= from);
+    }
+    false
+}
+
+// An end of the bond k is stranded behind it.
+fn dead_end(ea: &[u16], eb: &[u16], el: &[u8], need: &[u8], last: &[usize], k: BondId) -> bool
+    requires { ⌜ Tables (now ea) (now eb) (now el) (now need) (k .0 + 1) ⌝ }
+    requires { ⌜ Lasts (now ea) (now eb) (now el) (now need) (now last) ⌝ }
+    ensures { λ r. ⌜ (r ≡ true → allFrom (now (ea .entry)) (now (eb .entry)) (now (el .entry)) (now (need .entry)) (k .0 + 1) ≡ []) ⌝ }
+{
+    let after = k.0 + 1;
+    if stranded(need, last, matching_search::end_of(ea, k), after) {
+        return true;
+    }
+    stranded(need, last, matching_search::end_of(eb, k), after)
+}
+
+// Takes 1 from the budget; false if it is spent.
+fn spend(budget: &mut usize) -> bool {
+    let left = *budget;
+    if left == 0 {
+        return false;
+    }
+    *budget = left - 1;
+    true
+}
+
+// The first matching of the bonds from k on that chooses the bond k, if it can be chosen.
+fn choose(
+    ea: &[u16],
+    eb: &[u16],
+    el: &[u8],
+    need: &mut [u8],
+    row: &mut [u8],
+    last: &[usize],
+    k: BondId,
+    budget: &mut usize,
+) -> Sought
+    requires { ⌜ Shape (now ea) (now eb) (now el) (now need) (now row) (k .0) ⌝ }
+    requires { ⌜ (k .0 < length (now ea)) × Lasts (now ea) (now eb) (now el) (now need) (now last) ⌝ }
+    ensures { λ r. ⌜ Tried (now (need .entry)) (now (row .entry)) (k .0) (length (now (ea .entry))) (withBond (now (ea .entry)) (now (eb .entry)) (now (el .entry)) (now (need .entry)) (k .0)) r (now (need .exit)) (now (row .exit)) ⌝ }
+{
+    if !matching_search::choosable(ea, eb, el, need, k) {
+        return Sought::Absent;
+    }
+    if !spend(budget) {
+        return Sought::GaveUp;
+    }
+    let at = k.0;
+    let next = at + 1;
+    matching_search::mark(ea, eb, need, k, 0);
+    row[at] = 1;
+    let got = seek(ea, eb, el, need, row, last, BondId(next), budget);
+    matching_search::mark(ea, eb, need, k, 1);
+    got
+}
+
+// The first matching of the bonds from k on, under a budget.
+fn seek(
+    ea: &[u16],
+    eb: &[u16],
+    el: &[u8],
+    need: &mut [u8],
+    row: &mut [u8],
+    last: &[usize],
+    k: BondId,
+    budget: &mut usize,
+) -> Sought
+    requires { ⌜ Shape (now ea) (now eb) (now el) (now need) (now row) (k .0) ⌝ }
+    requires { ⌜ Lasts (now ea) (now eb) (now el) (now need) (now last) ⌝ }
+    ensures { λ r. ⌜ Tried (now (need .entry)) (now (row .entry)) (k .0) (length (now (ea .entry))) (allFrom (now (ea .entry)) (now (eb .entry)) (now (el .entry)) (now (need .entry)) (k .0)) r (now (need .exit)) (now (row .exit)) ⌝ }
+{
+    let mut at = k.0;
+    while at < ea.len() {
+        let got = choose(ea, eb, el, need, row, last, BondId(at), budget);
+        let Sought::Absent = got else {
+            return got;
+        };
+        row[at] = 0;
+        if dead_end(ea, eb, el, need, last, BondId(at)) {
+            return Sought::Absent;
+        }
+        at += 1;
+    }
+    if matching_search::all_paired(need) {
+        Sought::Found
+    } else {
+        Sought::Absent
+    }
+}
+
+// The first matching of the bonds from k on, written to the row from k on; zeros where there is none.
+fn seek_any(
+    ea: &[u16],
+    eb: &[u16],
+    el: &[u8],
+    need: &mut [u8],
+    row: &mut [u8],
+    last: &[usize],
+    k: BondId,
+) -> bool
+    requires { ⌜ Shape (now ea) (now eb) (now el) (now need) (now row) (k .0) ⌝ }
+    requires { ⌜ Lasts (now ea) (now eb) (now el) (now need) (now last) ⌝ }
+    ensures { λ r. ⌜ Searched (now (need .entry)) (now (row .entry)) (k .0) (length (now (ea .entry))) (allFrom (now (ea .entry)) (now (eb .entry)) (now (el .entry)) (now (need .entry)) (k .0)) r (now (need .exit)) (now (row .exit)) ⌝ }
+{
+    let mut budget = BUDGET;
+    let got = seek(ea, eb, el, need, row, last, k, &mut budget);
+    match got {
+        Sought::Found => true,
+        Sought::Absent => {
+            matching_search::blank(row, k.0, ea.len());
+            false
+        }
+        Sought::GaveUp => matching_certified::seek(ea, eb, el, need, row, k),
+    }
+}
+
+// The first matching of the bonds from k on that comes after the row, written over it; zeros where there is none.
+fn later(
+    ea: &[u16],
+    eb: &[u16],
+    el: &[u8],
+    need: &mut [u8],
+    row: &mut [u8],
+    last: &[usize],
+    k: BondId,
+) -> bool
+    requires { ⌜ Shape (now ea) (now eb) (now el) (now need) (now row) (k .0) ⌝ }
+    requires { ⌜ (matchingFrom (now ea) (now eb) (now el) (now need) (part (length (now ea)) (now row) (k .0)) (k .0) ≡ true) × Lasts (now ea) (now eb) (now el) (now need) (now last) ⌝ }
+    ensures { λ r. ⌜ Searched (now (need .entry)) (now (row .entry)) (k .0) (length (now (ea .entry))) (laterFrom (now (ea .entry)) (now (eb .entry)) (now (el .entry)) (now (need .entry)) (part (length (now (ea .entry))) (now (row .entry)) (k .0)) (k .0)) r (now (need .exit)) (now (row .exit)) ⌝ }
+{
+    let at = k.0;
+    if at == ea.len() {
+        return false;
+    }
+    let next = at + 1;
+    if row[at] == 1 {
+        matching_search::mark(ea, eb, need, k, 0);
+        let found = later(ea, eb, el, need, row, last, BondId(next));
+        matching_search::mark(ea, eb, need, k, 1);
+        if found {
+            return true;
+        }
+        row[at] = 0;
+        return seek_any(ea, eb, el, need, row, last, BondId(next));
+    }
+    later(ea, eb, el, need, row, last, BondId(next))
+}
+
+// Takes the bond k if it can be chosen: its digit in the row.
+fn take_bond(ea: &[u16], eb: &[u16], el: &[u8], need: &mut [u8], k: BondId) -> u8
+    requires { ⌜ Ends (now ea) (now eb) (now need) (k .0) ⌝ }
+    requires { ⌜ k .0 < length (now el) ⌝ }
+    ensures { λ r. ⌜ Taken (now (ea .entry)) (now (eb .entry)) (now (el .entry)) (now (need .entry)) (k .0) r (now (need .exit)) ⌝ }
+{
+    if !matching_search::choosable(ea, eb, el, need, k) {
+        return 0;
+    }
+    matching_search::mark(ea, eb, need, k, 0);
+    1
+}
+
+// Takes each bond that can be chosen, in order: true if every atom has its partner then. The flags are used up.
+fn greedy(ea: &[u16], eb: &[u16], el: &[u8], need: &mut [u8], row: &mut [u8]) -> bool
+    requires { ⌜ Shape (now ea) (now eb) (now el) (now need) (now row) 0 ⌝ }
+    ensures { λ r. ⌜ (r ≡ true → Searched (now (need .entry)) (now (row .entry)) 0 (length (now (ea .entry))) (allFrom (now (ea .entry)) (now (eb .entry)) (now (el .entry)) (now (need .entry)) 0) true (now (need .entry)) (now (row .exit))) ⌝ }
+{
+    let mut at = 0;
+    while at < ea.len() {
+        row[at] = take_bond(ea, eb, el, need, BondId(at));
+        at += 1;
+    }
+    matching_search::all_paired(need)
+}
+
+// The flags of all atoms, copied.
+fn copy(from: &[u8], to: &mut [u8])
+    requires { ⌜ length (now to) ≡ length (now from) ⌝ }
+    ensures { λ _. ⌜ now (to .exit) ≡ now (from .entry) ⌝ }
+{
+    let mut i = 0;
+    while i < from.len() {
+        to[i] = from[i];
+        i += 1;
+    }
+}
+
+// The same on a copy of the flags: true if the row is the first matching, false says nothing.
+fn try_greedy(ea: &[u16], eb: &[u16], el: &[u8], need: &[u8], row: &mut [u8]) -> bool
+    requires { ⌜ Shape (now ea) (now eb) (now el) (now need) (now row) 0 ⌝ }
+    ensures { λ r. ⌜ (r ≡ true → Searched (now (need .entry)) (now (row .entry)) 0 (length (now (ea .entry))) (allFrom (now (ea .entry)) (now (eb .entry)) (now (el .entry)) (now (need .entry)) 0) true (now (need .entry)) (now (row .exit))) ⌝ }
+{
+    let n = need.len();
+    if MAX_ATOMS < n {
+        return false;
+    }
+    let mut flags = [0u8; MAX_ATOMS];
+    let used = &mut flags[..n];
+    copy(need, used);
+    greedy(ea, eb, el, used, row)
+}
+
+// internal: the first matching.
+pub fn first(ea: &[u16], eb: &[u16], el: &[u8], need: &mut [u8], row: &mut [u8]) -> Answer
+    requires { ⌜ Shape (now ea) (now eb) (now el) (now need) (now row) 0 ⌝ }
+    ensures { λ r. ⌜ now (need .exit) ≡ now (need .entry) ⌝ }
+    ensures { λ r. ⌜ reply r (now (row .exit)) ≡ rowFirst (isMatching (now (need .entry)) (bondsOf (now (ea .entry)) (now (eb .entry)) (now (el .entry)))) (length (now (ea .entry))) (length (now (row .entry))) ⌝ }
+{
+    if try_greedy(ea, eb, el, need, row) {
+        matching_search::clear(row, ea.len());
+        return Answer::Given;
+    }
+    let mut last = [0usize; MAX_ATOMS];
+    fill_lasts(ea, eb, el, need, &mut last);
+    let found = seek_any(ea, eb, el, need, row, &last, BondId(0));
+    matching_search::clear(row, ea.len());
+    if found { Answer::Given } else { Answer::Absent }
+}
+
+// internal: the first matching that comes after the row.
+pub fn next(ea: &[u16], eb: &[u16], el: &[u8], need: &mut [u8], row: &mut [u8]) -> Answer
+    requires { ⌜ Shape (now ea) (now eb) (now el) (now need) (now row) 0 ⌝ }
+    ensures { λ r. ⌜ now (need .exit) ≡ now (need .entry) ⌝ }
+    ensures { λ r. ⌜ reply r (now (row .exit)) ≡ rowNext (isMatching (now (need .entry)) (bondsOf (now (ea .entry)) (now (eb .entry)) (now (el .entry)))) (length (now (ea .entry))) (length (now (row .entry))) (take (length (now (ea .entry))) (now (row .entry))) ⌝ }
+{
+    if !matching_search::is_matching(ea, eb, el, need, row, BondId(0)) {
+        matching_search::clear(row, 0);
+        return Answer::Refused;
+    }
+    let mut last = [0usize; MAX_ATOMS];
+    fill_lasts(ea, eb, el, need, &mut last);
+    let found = later(ea, eb, el, need, row, &last, BondId(0));
+    matching_search::clear(row, ea.len());
+    if found { Answer::Given } else { Answer::Ended }
+}

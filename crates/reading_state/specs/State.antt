@@ -1,0 +1,109 @@
+-- 01, The text: "What steers the reading is the hub, the open branches and the open bridges"
+use Prim.Native.Nat.{ℕ, _+_, _-_}
+use mathlib.Core.List.{List}
+use lib.ListN.{getD, set, replicate}
+use lib.Dec.{eqb}
+use Rattle.loops.specs.Loop.{pick}
+use Rattle.ids.specs.declared.AtomId.{AtomId}
+use Rattle.table.specs.Limits.{maxAtoms}
+use Rattle.reading_state.specs.Limits.{maxDepth, bridges}
+use Rattle.reading_state.specs.declared.State.{State}
+
+pub record Steering : Type 0 where
+  -- the atom to which the next one is joined
+  pub hub : AtomId
+  -- how many atoms and bonds there are so far
+  pub atoms : ℕ
+  pub bonds : ℕ
+  -- how many branches are open, and the hub of each; 0 past the depth
+  pub depth : ℕ
+  pub stack : List ℕ
+  -- of each bridge number: the opening atom and one, or 0 where it is free
+  pub opener : List ℕ
+  -- of each open bridge: the kind of its opening's symbol, and the opening's offset
+  pub symbol : List ℕ
+  pub offset : List ℕ
+  -- 1 for each atom that stood outside brackets
+  pub outside : List ℕ
+
+-- the code's state and the five arrays that are lent with it
+abbrev pub steering : State → List ℕ → List ℕ → List ℕ → List ℕ → List ℕ → Steering
+steering s h u k p x =
+    record {
+      hub = s .hub;
+      atoms = s .atoms;
+      bonds = s .bonds;
+      depth = s .depth;
+      stack = h;
+      opener = u;
+      symbol = k;
+      offset = p;
+      outside = x;
+    }
+
+-- nothing is read yet
+unfoldable pub started : Steering
+started =
+    record {
+      hub = record { 0 = 0 };
+      atoms = 0;
+      bonds = 0;
+      depth = 0;
+      stack = replicate maxDepth 0;
+      opener = replicate bridges 0;
+      symbol = replicate bridges 0;
+      offset = replicate bridges 0;
+      outside = replicate maxAtoms 0;
+    }
+
+-- "(": the hub is remembered
+unfoldable pub opened : Steering → Steering
+opened s =
+    record {
+      hub = s .hub;
+      atoms = s .atoms;
+      bonds = s .bonds;
+      depth = s .depth + 1;
+      stack = set (s .stack) (s .depth) (s .hub .0);
+      opener = s .opener;
+      symbol = s .symbol;
+      offset = s .offset;
+      outside = s .outside;
+    }
+
+-- ")": the hub "is again the atom it was before the matching `(`"
+unfoldable pub closed : Steering → Steering
+closed s =
+    record {
+      hub = record { 0 = getD (s .stack) (s .depth - 1) 0 };
+      atoms = s .atoms;
+      bonds = s .bonds;
+      depth = s .depth - 1;
+      stack = set (s .stack) (s .depth - 1) 0;
+      opener = s .opener;
+      symbol = s .symbol;
+      offset = s .offset;
+      outside = s .outside;
+    }
+
+-- a bridge number with another opener (the atom and one; 0: free), symbol and offset, and a bond count
+abbrev pub bridged : Steering → ℕ → ℕ → ℕ → ℕ → ℕ → Steering
+bridged s r a k p m =
+    record {
+      hub = s .hub;
+      atoms = s .atoms;
+      bonds = m;
+      depth = s .depth;
+      stack = s .stack;
+      opener = set (s .opener) r a;
+      symbol = set (s .symbol) r k;
+      offset = set (s .offset) r p;
+      outside = s .outside;
+    }
+
+-- "A number that is not open opens at the hub; an open one joins its opening atom to the hub and is free again, at once."
+unfoldable pub joined : Steering → ℕ → ℕ → ℕ → Steering
+joined s r k p =
+    pick (eqb (getD (s .opener) r 0) 0)
+    (bridged s r (s .hub .0 + 1) k p (s .bonds))
+    (bridged s r 0 0 0 (s .bonds + 1))

@@ -1,0 +1,75 @@
+// The line of the report for a text, by the public calls.
+ghost use Prim.Native.Nat.{_≤_};
+ghost use Rattle.refusal.specs.Code.{codeOf};
+ghost use Rattle.table.specs.Limits.{maxBonds};
+ghost use Rattle.buffer.specs.Pen.{pen};
+ghost use Rattle.report_entry.specs.Outcome.{refused, ofMolecule, Says, Reports};
+use reader::ending::Answer;
+use reading_state::MAX_TEXT;
+use refusal::Refusal;
+use table::ATOM_CELLS;
+use table::BOND_CELLS;
+use table::MAX_ATOMS;
+use table::MAX_BONDS;
+use writer::Written;
+
+// Room that is enough for a line: numbers and marks take 70 bytes at most, beside the row and the text.
+pub const LINE_ROOM: usize = 70 + (MAX_BONDS + MAX_TEXT);
+
+// Whether the text was accepted, and the place after its line.
+pub struct Reported {
+    pub accepted: bool,
+    pub at: usize,
+}
+
+// The line of a refused text.
+fn refuse(k: u64, r: Refusal, p: usize, out: &mut [u8], at: usize) -> Reported
+    ensures { λ s. ⌜ Says k (refused (codeOf r) p) s (pen (now (out .entry)) at) (now (out .exit)) ⌝ }
+{
+    let at = report_format::refused(out, at, k, refusal::code(r), p);
+    Reported {
+        accepted: false,
+        at,
+    }
+}
+
+// The line of a molecule that was read: its first matching and the text kekulized by it.
+fn report_molecule(
+    k: u64,
+    atoms: &mut [i32],
+    bonds: &mut [i32],
+    n: usize,
+    m: usize,
+    out: &mut [u8],
+    at: usize,
+) -> Reported
+    requires { ⌜ m ≤ maxBonds ⌝ }
+    ensures { λ r. ⌜ Says k (ofMolecule (now (atoms .entry)) (now (bonds .entry)) n m) r (pen (now (out .entry)) at) (now (out .exit)) ⌝ }
+{
+    let mut row = [0u8; MAX_BONDS];
+    let mut text = [0u8; MAX_TEXT];
+    let mut numbers = [0u16; MAX_ATOMS];
+    kekule::first(atoms, bonds, n, m, &mut row);
+    kekule::kekulize(atoms, bonds, n, m, &row);
+    let w = writer::write(atoms, bonds, n, m, &mut text, &mut numbers);
+    match w {
+        Written::Text(size) => {
+            let at = report_format::accepted(out, at, k, n, m, &row[..m], &text[..size]);
+            Reported { accepted: true, at }
+        }
+        Written::Refused(r) => refuse(k, r, 0, out, at),
+    }
+}
+
+// The line of the report for a text, whatever its bytes: laid into the buffer from a place on, as far as there is room.
+pub fn report_line(k: u64, s: &[u8], out: &mut [u8], at: usize) -> Reported
+    ensures { λ r. ⌜ Reports k (now (s .entry)) r (pen (now (out .entry)) at) (now (out .exit)) ⌝ }
+{
+    let mut atoms = [0i32; ATOM_CELLS * MAX_ATOMS];
+    let mut bonds = [0i32; BOND_CELLS * MAX_BONDS];
+    let a = reader::read(s, &mut atoms, &mut bonds);
+    match a {
+        Answer::Refused(r, p) => refuse(k, r, p, out, at),
+        Answer::Molecule(n, m) => report_molecule(k, &mut atoms, &mut bonds, n, m, out, at),
+    }
+}

@@ -1,0 +1,145 @@
+// The fields of an atom, in brackets and outside.
+ghost use mathlib.Core.Path.{_≡_};
+ghost use mathlib.Core.Bool.{true};
+ghost use Prim.Native.Nat.{_<_};
+ghost use lib.IntN.{pos, negsuc};
+ghost use Rattle.table.specs.Limits.{maxAtoms};
+ghost use Rattle.table.specs.Cells.{inRange};
+ghost use Rattle.buffer.specs.Pen.{pen, Wrote};
+ghost use Rattle.writing_atoms.specs.Fields.{letters, AtomFits, outside, spelledAtom};
+ghost use Rattle.writing.specs.Spell.{isotopeBytes, symbolBytes, hydrogenBytes, sizeBytes, chargeBytes, extensionBytes, bracketBytes};
+use crate::decimal;
+use element::Spelling;
+use ids::AtomId;
+use table::CHARGE;
+use table::ELEMENT;
+use table::EXTENSION;
+use table::HYDROGENS;
+use table::ISOTOPE;
+use table::SELECTED;
+
+// The isotope, nothing for 0.
+fn isotope(out: &mut [u8], at: usize, i: usize) -> usize
+    requires { ⌜ i < 1000 ⌝ }
+    ensures { λ r. ⌜ Wrote (isotopeBytes i) (pen (now (out .entry)) at) (pen (now (out .exit)) r) ⌝ }
+{
+    if i == 0 {
+        return at;
+    }
+    decimal(out, at, i)
+}
+
+// The letters of a symbol.
+fn spelled(out: &mut [u8], at: usize, s: Spelling) -> usize
+    ensures { λ r. ⌜ Wrote (letters s) (pen (now (out .entry)) at) (pen (now (out .exit)) r) ⌝ }
+{
+    if s.first == 0 {
+        return at;
+    }
+    let at = buffer::put(out, at, s.first);
+    if s.second == 0 {
+        return at;
+    }
+    buffer::put(out, at, s.second)
+}
+
+// The symbol of an element, or its selected letter.
+fn symbol(out: &mut [u8], at: usize, e: usize, selected: usize) -> usize
+    requires { ⌜ e < 119 ⌝ }
+    ensures { λ r. ⌜ Wrote (symbolBytes e selected) (pen (now (out .entry)) at) (pen (now (out .exit)) r) ⌝ }
+{
+    if selected == 1 {
+        return spelled(out, at, element::spell_selected(e as u8));
+    }
+    spelled(out, at, element::spell(e as u8))
+}
+
+// The hydrogens, nothing for 0.
+fn hydrogens(out: &mut [u8], at: usize, h: usize) -> usize
+    requires { ⌜ h < 10 ⌝ }
+    ensures { λ r. ⌜ Wrote (hydrogenBytes h) (pen (now (out .entry)) at) (pen (now (out .exit)) r) ⌝ }
+{
+    sized(out, at, b'H', h)
+}
+
+// A sign, and its size from 2 on; nothing for 0.
+fn sized(out: &mut [u8], at: usize, sign: u8, h: usize) -> usize
+    requires { ⌜ h < 10 ⌝ }
+    ensures { λ r. ⌜ Wrote (sizeBytes sign h) (pen (now (out .entry)) at) (pen (now (out .exit)) r) ⌝ }
+{
+    if h == 0 {
+        return at;
+    }
+    let at = buffer::put(out, at, sign);
+    if h == 1 {
+        return at;
+    }
+    crate::digit(out, at, h)
+}
+
+// The charge, nothing for 0.
+fn charge(out: &mut [u8], at: usize, c: i32) -> usize
+    requires { ⌜ inRange c (negsuc 8) (pos 9) ≡ true ⌝ }
+    ensures { λ r. ⌜ Wrote (chargeBytes c) (pen (now (out .entry)) at) (pen (now (out .exit)) r) ⌝ }
+{
+    if c < 0 {
+        return sized(out, at, b'-', (0 - c) as usize);
+    }
+    sized(out, at, b'+', c as usize)
+}
+
+// The extension, nothing for 0.
+fn extension(out: &mut [u8], at: usize, x: usize) -> usize
+    requires { ⌜ x < 10000 ⌝ }
+    ensures { λ r. ⌜ Wrote (extensionBytes x) (pen (now (out .entry)) at) (pen (now (out .exit)) r) ⌝ }
+{
+    if x == 0 {
+        return at;
+    }
+    let at = buffer::put(out, at, b':');
+    decimal(out, at, x)
+}
+
+// An atom in brackets.
+fn bracket(atoms: &[i32], a: AtomId, out: &mut [u8], at: usize) -> usize
+    requires { ⌜ a .0 < maxAtoms ⌝ }
+    requires { ⌜ AtomFits (now atoms) (a .0) ⌝ }
+    ensures { λ r. ⌜ Wrote (bracketBytes (now (atoms .entry)) (a .0)) (pen (now (out .entry)) at) (pen (now (out .exit)) r) ⌝ }
+{
+    let at = buffer::put(out, at, b'[');
+    let at = isotope(out, at, table::cell::atom_number(atoms, a, ISOTOPE));
+    let e = table::cell::atom_number(atoms, a, ELEMENT);
+    let at = symbol(out, at, e, table::cell::atom_number(atoms, a, SELECTED));
+    let at = hydrogens(out, at, table::cell::atom_number(atoms, a, HYDROGENS));
+    let at = charge(out, at, table::cell::atom_cell(atoms, a, CHARGE));
+    let at = extension(out, at, table::cell::atom_number(atoms, a, EXTENSION));
+    buffer::put(out, at, b']')
+}
+
+// Whether an atom with this bond sum stands without brackets.
+fn is_outside(atoms: &[i32], a: AtomId, sum: usize) -> bool
+    requires { ⌜ a .0 < maxAtoms ⌝ }
+    requires { ⌜ AtomFits (now atoms) (a .0) ⌝ }
+    ensures { λ r. ⌜ r ≡ outside (now (atoms .entry)) (a .0) sum ⌝ }
+{
+    let e = table::cell::atom_number(atoms, a, ELEMENT);
+    let implied = valence::implied(e, table::cell::atom_number(atoms, a, SELECTED), sum);
+    (table::cell::atom_number(atoms, a, ISOTOPE) == 0)
+        & table::cell::atom_within(atoms, a, CHARGE, 0, 0)
+        & (table::cell::atom_number(atoms, a, EXTENSION) == 0)
+        & element::is_bare(e as u8)
+        & (implied == table::cell::atom_number(atoms, a, HYDROGENS))
+}
+
+// internal: an atom with its bond sum.
+pub fn atom(atoms: &[i32], a: AtomId, sum: usize, out: &mut [u8], at: usize) -> usize
+    requires { ⌜ a .0 < maxAtoms ⌝ }
+    requires { ⌜ AtomFits (now atoms) (a .0) ⌝ }
+    ensures { λ r. ⌜ Wrote (spelledAtom (now (atoms .entry)) (a .0) sum) (pen (now (out .entry)) at) (pen (now (out .exit)) r) ⌝ }
+{
+    if is_outside(atoms, a, sum) {
+        let e = table::cell::atom_number(atoms, a, ELEMENT);
+        return symbol(out, at, e, table::cell::atom_number(atoms, a, SELECTED));
+    }
+    bracket(atoms, a, out, at)
+}

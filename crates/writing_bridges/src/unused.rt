@@ -1,0 +1,138 @@
+// The bonds that the walk does not use.
+ghost use mathlib.Core.Path.{_≡_};
+ghost use Prim.Native.Nat.{_-_, _<_, _≤_};
+ghost use lib.ListN.{length, replicate};
+ghost use Rattle.loops.specs.Loop.{run, upTo};
+ghost use Rattle.table.specs.Limits.{maxAtoms, maxBonds};
+ghost use Rattle.writing_walk.specs.Token.{bond};
+ghost use Rattle.writing_visit.specs.Tour.{BondsFit};
+ghost use Rattle.writing_visit.specs.Wires.{wires};
+ghost use Rattle.writing_bridges.specs.Unused.{bag, addBond, inWalk, Numbered, BagRoom, markOf, Marked};
+use ids::BondId;
+use table::MAX_ATOMS;
+use table::MAX_BONDS;
+
+// The mark of a walk number that is an end of several unused bonds.
+pub const MANY: u16 = 65535;
+
+// The mark of a walk number that is an end of the bond i, from its mark before.
+fn mark(old: u16, i: usize) -> u16
+    requires { ⌜ i < maxBonds ⌝ }
+    ensures { λ r. ⌜ r ≡ markOf old i ⌝ }
+{
+    if old == 0 { (i + 1) as u16 } else { MANY }
+}
+
+// A bond between two atoms, by their walk numbers plus 1, is added, and its ends get their marks, unless it joins an atom to its parent.
+fn add_bond(
+    up: &[u16],
+    los: &mut [u16],
+    his: &mut [u16],
+    kinds: &mut [u8],
+    marks: &mut [u16; MAX_ATOMS],
+    p: usize,
+    q: usize,
+    kind: usize,
+    used: usize,
+) -> usize
+    requires { ⌜ maxAtoms ≤ length (now up) ⌝ }
+    requires { ⌜ BagRoom (now los) (now his) (now kinds) ⌝ }
+    requires { ⌜ Marked (now marks) (now los) (now his) used ⌝ }
+    requires { ⌜ (0 < p) × (p < q) ⌝ }
+    requires { ⌜ (q ≤ maxAtoms) × (used < maxBonds) ⌝ }
+    requires { ⌜ kind < 4 ⌝ }
+    ensures { λ r. ⌜ bag (now (los .exit)) (now (his .exit)) (now (kinds .exit)) r ≡ addBond (now (up .entry)) (bond (p - 1) (q - 1) kind) (bag (now (los .entry)) (now (his .entry)) (now (kinds .entry)) used) ⌝ }
+    ensures { λ r. ⌜ Marked (now (marks .exit)) (now (los .exit)) (now (his .exit)) r ⌝ }
+{
+    let low = p - 1;
+    let high = q - 1;
+    if up[high] as usize == p {
+        return used;
+    }
+    los[used] = low as u16;
+    his[used] = high as u16;
+    kinds[used] = kind as u8;
+    marks[low] = mark(marks[low], used);
+    marks[high] = mark(marks[high], used);
+    used + 1
+}
+
+// A bond, in walk numbers, is added unless the walk uses it.
+fn add_unused(
+    ea: &[u16; MAX_BONDS],
+    eb: &[u16; MAX_BONDS],
+    ks: &[u8; MAX_BONDS],
+    n: usize,
+    m: usize,
+    number: &[u16],
+    up: &[u16],
+    los: &mut [u16],
+    his: &mut [u16],
+    kinds: &mut [u8],
+    marks: &mut [u16; MAX_ATOMS],
+    b: BondId,
+    used: usize,
+) -> usize
+    requires { ⌜ BondsFit (wires (now ea) (now eb) (now ks)) n m ⌝ }
+    requires { ⌜ Numbered (upTo (wires (now ea) (now eb) (now ks)) 0 m) n (now number) (now up) ⌝ }
+    requires { ⌜ BagRoom (now los) (now his) (now kinds) ⌝ }
+    requires { ⌜ Marked (now marks) (now los) (now his) used ⌝ }
+    requires { ⌜ (b .0 < m) × (used < maxBonds) ⌝ }
+    ensures { λ r. ⌜ bag (now (los .exit)) (now (his .exit)) (now (kinds .exit)) r ≡ addBond (now (up .entry)) (inWalk (wires (now (ea .entry)) (now (eb .entry)) (now (ks .entry))) n m (b .0)) (bag (now (los .entry)) (now (his .entry)) (now (kinds .entry)) used) ⌝ }
+    ensures { λ r. ⌜ Marked (now (marks .exit)) (now (los .exit)) (now (his .exit)) r ⌝ }
+{
+    let i = b.0;
+    let e = ea[i] as usize;
+    let f = eb[i] as usize;
+    let kind = ks[i] as usize;
+    let p = number[e] as usize;
+    let q = number[f] as usize;
+    if p < q {
+        return add_bond(up, los, his, kinds, marks, p, q, kind, used);
+    }
+    add_bond(up, los, his, kinds, marks, q, p, kind, used)
+}
+
+// internal: the bonds that the walk does not use, in walk numbers, by ascending number, and at each walk number a mark: 0 where it is an end of none, the number plus 1 of the only one, or MANY. How many there are.
+pub fn unused(
+    ea: &[u16; MAX_BONDS],
+    eb: &[u16; MAX_BONDS],
+    ks: &[u8; MAX_BONDS],
+    n: usize,
+    m: usize,
+    number: &[u16],
+    up: &[u16],
+    los: &mut [u16],
+    his: &mut [u16],
+    kinds: &mut [u8],
+    marks: &mut [u16; MAX_ATOMS],
+) -> usize
+    requires { ⌜ BondsFit (wires (now ea) (now eb) (now ks)) n m ⌝ }
+    requires { ⌜ Numbered (upTo (wires (now ea) (now eb) (now ks)) 0 m) n (now number) (now up) ⌝ }
+    requires { ⌜ BagRoom (now los) (now his) (now kinds) ⌝ }
+    requires { ⌜ now marks ≡ replicate maxAtoms 0 ⌝ }
+    ensures { λ r. ⌜ bag (now (los .exit)) (now (his .exit)) (now (kinds .exit)) r ≡ run (λ b. addBond (now (up .entry)) (inWalk (wires (now (ea .entry)) (now (eb .entry)) (now (ks .entry))) n m b)) 0 m (bag (now (los .entry)) (now (his .entry)) (now (kinds .entry)) 0) ⌝ }
+    ensures { λ r. ⌜ Marked (now (marks .exit)) (now (los .exit)) (now (his .exit)) r ⌝ }
+{
+    let mut used = 0;
+    let mut b = 0;
+    while b < m {
+        used = add_unused(
+            ea,
+            eb,
+            ks,
+            n,
+            m,
+            number,
+            up,
+            los,
+            his,
+            kinds,
+            marks,
+            BondId(b),
+            used,
+        );
+        b += 1;
+    }
+    used
+}

@@ -1,0 +1,193 @@
+-- The bonds in arrays, noted one by one from the last bond on. Assumes nothing.
+use Prim.Native.Nat.{ℕ, zero, suc, _+_, _*_, _-_, _<_, _≤_}
+use native.Mathlib.Omega.{arith}
+use mathlib.Core.Path.{_≡_, refl, sym, ap, _∙_, subst}
+use mathlib.Core.Bool.{Bool, true, false, _||_}
+use mathlib.Core.List.{List}
+use lib.ListN.{length, getD, set, replicate, length-set, length-replicate, List·getD-eq-default}
+use lib.Seq.{getD-set-same, getD-set-other, ext-getD}
+use lib.IntN.{ℤ}
+use lib.Dec.{eqb, ltb}
+use borrow.Author.Tests.{eqb-true, eqb-false, ltb-true, ltb-false}
+use Rattle.loops.specs.Loop.{pick, run, upTo}
+use Rattle.loops.proofs.Loops.{length-upTo, upTo-at}
+use Rattle.table.specs.Limits.{maxAtoms, maxBonds}
+use Rattle.table.specs.Cells.{end1, end2, kind}
+use Rattle.table_graph.specs.Graph.{share, addShare, bondSum}
+use Rattle.table_graph.specs.Built.{bump, withBond}
+use Rattle.table_graph.proofs.Graph.{upTo-ext}
+use Rattle.table_graph.proofs.Sums.{share-small, bond-at, bond-length, two-ends}
+use Rattle.valence.specs.Valence.{order}
+use Rattle.writing_walk.specs.Token.{Bond, bond}
+use Rattle.writing.specs.Write.{bondAt, bondList}
+use Rattle.writing_visit.specs.Tour.{touching, firstFrom, BondsFit, Linked, Walked}
+use Rattle.writing_visit.specs.Wires.{wires, Wired, sumFrom, Places}
+use Rattle.writing_visit.proofs.Lists.{linked-start, linked-cast, linked-step}
+
+-- bonds that agree below m
+module _ {f g : ℕ → Bond} {m : ℕ} (same : (b : ℕ) → b < m → f b ≡ g b) where
+  pub fit-same : {n : ℕ} → BondsFit f n m → BondsFit g n m
+  fit-same {n} fit =
+      record {
+        few-atoms = fit .few-atoms;
+        few-bonds = fit .few-bonds;
+        ends = λ b h. subst (λ (x : Bond). (x .lo < x .hi) × (x .hi < n)) (same b h) (fit .ends b h);
+        kinds = λ b h. subst (λ (x : Bond). x .kind < 4) (same b h) (fit .kinds b h);
+      }
+
+  first-same : (v w k d : ℕ) → v ≡ w → k + d ≤ m → firstFrom (touching f v) k d ≡ firstFrom (touching g w) k d
+  unfolding firstFrom touching
+  first-same v w k zero e h = refl
+  first-same v w k (suc d) e h =
+      (λ i. pick (eqb (same k (omega arith) i .lo) (e i) || eqb (same k (omega arith) i .hi) (e i)) k (firstFrom (touching f v) (suc k) d))
+      ∙ ap (pick (touching g w k) k) (first-same v w (suc k) d e (omega arith))
+
+  pub linked-same : {head after behind : List ℕ} → Linked f m 0 head after behind → Linked g m 0 head after behind
+  linked-same l =
+      record {
+        heads = λ v h. l .heads v h ∙ first-same v v 0 (m - 0) refl (omega arith);
+        afters = λ c h i. l .afters c h i ∙ first-same (f c .lo) (g c .lo) (suc c) (m - suc c) (ap (λ (x : Bond). x .lo) (same c i)) (omega arith);
+        behinds = λ c h i. l .behinds c h i ∙ first-same (f c .hi) (g c .hi) (suc c) (m - suc c) (ap (λ (x : Bond). x .hi) (same c i)) (omega arith);
+      }
+
+-- one cell more, before those that are noted
+note : (m : ℕ) (cell : ℕ → ℕ) (t : List ℕ) (k x : ℕ) → k < length t → x ≡ cell k → ((c : ℕ) → suc k ≤ c → c < m → getD t c 0 ≡ cell c) → (c : ℕ) → k ≤ c → c < m → getD (set t k x) c 0 ≡ cell c
+note m cell t k x room e old c i j = go (eqb c k) refl
+  where
+    go : (here : Bool) → eqb c k ≡ here → getD (set t k x) c 0 ≡ cell c
+    go true p = let q : c ≡ k = eqb-true c k p in rw (q, getD-set-same t k x 0 room) e
+    go false p = let q = eqb-false c k p in getD-set-other t k c x 0 q ∙ old c (omega arith) j
+
+-- the arrays hold the bonds
+module _ {bonds : List ℤ} {m : ℕ} where
+  pub wired-start : (ea eb ks : List ℕ) → Wired bonds m m ea eb ks
+  wired-start ea eb ks = record { firsts = λ c h i. absurd (omega arith); seconds = λ c h i. absurd (omega arith); kinds = λ c h i. absurd (omega arith) }
+
+  pub wired-cast : (b k : ℕ) (ea eb ks : List ℕ) → b ≡ k → Wired bonds m b ea eb ks → Wired bonds m k ea eb ks
+  wired-cast b k ea eb ks e w = subst (λ (j : ℕ). Wired bonds m j ea eb ks) e w
+
+  pub wired-step : (k : ℕ) (ea eb ks : List ℕ) → Wired bonds m (suc k) ea eb ks → k < length ea → k < length eb → k < length ks
+      → (e f q : ℕ) → e ≡ end1 bonds k → f ≡ end2 bonds k → q ≡ kind bonds k
+      → (ea2 eb2 ks2 : List ℕ) → ea2 ≡ set ea k e → eb2 ≡ set eb k f → ks2 ≡ set ks k q → Wired bonds m k ea2 eb2 ks2
+  wired-step k ea eb ks w ra rb rk e f q ee ef eq ea2 eb2 ks2 pa pb pk =
+      record {
+        firsts = λ c i j. ap (λ (t : List ℕ). getD t c 0) pa ∙ note m (end1 bonds) ea k e ra ee (w .firsts) c i j;
+        seconds = λ c i j. ap (λ (t : List ℕ). getD t c 0) pb ∙ note m (end2 bonds) eb k f rb ef (w .seconds) c i j;
+        kinds = λ c i j. ap (λ (t : List ℕ). getD t c 0) pk ∙ note m (kind bonds) ks k q rk eq (w .kinds) c i j;
+      }
+
+  pub wired-at : {ea eb ks : List ℕ} → Wired bonds m 0 ea eb ks → (b : ℕ) → b < m → bondAt bonds b ≡ wires ea eb ks b
+  wired-at w b h = λ i. bond (sym (w .firsts b (omega arith) h) i) (sym (w .seconds b (omega arith) h) i) (sym (w .kinds b (omega arith) h) i)
+
+  pub wired-list : {ea eb ks : List ℕ} → Wired bonds m 0 ea eb ks → upTo (wires ea eb ks) 0 m ≡ bondList bonds m
+  wired-list {ea} {eb} {ks} w = upTo-ext (wires ea eb ks) (bondAt bonds) 0 m (λ b h. sym (wired-at w b (omega arith)))
+
+  pub walked-table : {n : ℕ} {ea eb ks o v u k : List ℕ} → Wired bonds m 0 ea eb ks → Walked (upTo (wires ea eb ks) 0 m) n o v u k → Walked (bondList bonds m) n o v u k
+  walked-table {n} {ea} {eb} {ks} {o} {v} {u} {k} w d = subst (λ (bs : List Bond). Walked bs n o v u k) (wired-list w) d
+
+-- the bond sums, from the last bond on
+share-last : (bonds : List ℤ) (a k d s x : ℕ) → run (addShare bonds a) k d (s + x) ≡ run (addShare bonds a) k d s + x
+unfolding run
+share-last bonds a k zero s x = refl
+share-last bonds a k (suc d) s x = let e : s + x + share bonds a k ≡ s + share bonds a k + x = omega arith in rw e (share-last bonds a (suc k) d (s + share bonds a k) x)
+
+sum-small : (bonds : List ℤ) (a k d s : ℕ) → run (addShare bonds a) k d s ≤ s + 3 * d
+unfolding run
+sum-small bonds a k zero s = omega arith
+sum-small bonds a k (suc d) s = omega (arith, sum-small bonds a (suc k) d (s + share bonds a k), share-small bonds a k)
+
+module _ (bonds : List ℤ) (m : ℕ) where
+  sum-before : (b a : ℕ) → b < m → sumFrom bonds m b a ≡ sumFrom bonds m (suc b) a + share bonds a b
+  unfolding sumFrom run
+  sum-before b a h =
+      let d : m - b ≡ suc (m - suc b) = omega arith in
+      rw d (share-last bonds a (suc b) (m - suc b) 0 (share bonds a b))
+
+  zeros : (k len : ℕ) → replicate len 0 ≡ upTo (sumFrom bonds m m) k len
+  unfolding sumFrom run upTo
+  zeros k zero = refl
+  zeros k (suc len) = let z : m - m ≡ 0 = omega arith in rw (z, zeros (suc k) len)
+
+  pub sums-start : {s : List ℕ} → s ≡ replicate maxAtoms 0 → s ≡ upTo (sumFrom bonds m m) 0 maxAtoms
+  sums-start e = e ∙ zeros 0 maxAtoms
+
+  pub sums-before : (b : ℕ) {s t : List ℕ} → b < m → s ≡ upTo (sumFrom bonds m (suc b)) 0 maxAtoms → t ≡ withBond bonds b s → t ≡ upTo (sumFrom bonds m b) 0 maxAtoms
+  sums-before b {s} {t} h e q =
+      let n : length s ≡ maxAtoms = ap length e ∙ length-upTo (sumFrom bonds m (suc b)) 0 maxAtoms in
+      let n2 : length t ≡ maxAtoms = ap length q ∙ bond-length bonds b s ∙ n in
+      ext-getD 0 t (upTo (sumFrom bonds m b) 0 maxAtoms) (n2 ∙ sym (length-upTo (sumFrom bonds m b) 0 maxAtoms))
+      (λ a l.
+      let i : a < maxAtoms = omega arith in
+      let j : a < length s = omega arith in
+      ap (λ (x : List ℕ). getD x a 0) q ∙ bond-at bonds b a s j
+      ∙ ap (λ (x : ℕ). x + share bonds a b) (ap (λ (x : List ℕ). getD x a 0) e ∙ upTo-at (sumFrom bonds m (suc b)) maxAtoms a 0 i)
+      ∙ sym (sum-before b a h) ∙ sym (upTo-at (sumFrom bonds m b) maxAtoms a 0 i))
+
+  pub sums-bound : (b : ℕ) {s : List ℕ} → m ≤ maxBonds → s ≡ upTo (sumFrom bonds m b) 0 maxAtoms → (a : ℕ) → getD s a 0 ≤ 3 * maxBonds
+  unfolding sumFrom
+  sums-bound b h e a = rw e (go (ltb a maxAtoms) refl)
+    where
+      go : (t : Bool) → ltb a maxAtoms ≡ t → getD (upTo (sumFrom bonds m b) 0 maxAtoms) a 0 ≤ 3 * maxBonds
+      go true l = omega (arith, upTo-at (sumFrom bonds m b) maxAtoms a 0 (ltb-true a maxAtoms l), sum-small bonds a b (m - b) 0)
+      go false l =
+          let w : length (upTo (sumFrom bonds m b) 0 maxAtoms) ≤ a = omega (arith, length-upTo (sumFrom bonds m b) 0 maxAtoms, ltb-false a maxAtoms l) in
+          omega (arith, List·getD-eq-default (upTo (sumFrom bonds m b) 0 maxAtoms) 0 w)
+
+  pub sums-whole : {s : List ℕ} → s ≡ upTo (sumFrom bonds m 0) 0 maxAtoms → s ≡ upTo (bondSum bonds m) 0 maxAtoms
+  unfolding sumFrom bondSum
+  sums-whole e = let z : m - 0 ≡ m = omega arith in e ∙ upTo-ext (sumFrom bonds m 0) (bondSum bonds m) 0 maxAtoms (λ a h. simp z)
+
+-- the bonds from b on are noted and linked
+pub record Noted (bonds : List ℤ) (m b : ℕ) (head after behind ea eb ks sums : List ℕ) : Type 0 where
+  pub within : b ≤ m
+  pub linked : Linked (bondAt bonds) m b head after behind
+  pub wired : Wired bonds m b ea eb ks
+  pub summed : sums ≡ upTo (sumFrom bonds m b) 0 maxAtoms
+  pub heads : length head ≡ maxAtoms
+  pub places : Places after behind ea eb ks
+
+module _ {bonds : List ℤ} {m : ℕ} where
+  pub noted-start : {head after behind ea eb ks sums : List ℕ} → head ≡ replicate maxAtoms m → sums ≡ replicate maxAtoms 0 → Places after behind ea eb ks → Noted bonds m m head after behind ea eb ks sums
+  noted-start {head} {after} {behind} {ea} {eb} {ks} e z p =
+      record {
+        within = omega arith;
+        linked = linked-start head after behind e;
+        wired = wired-start ea eb ks;
+        summed = sums-start bonds m z;
+        heads = ap length e ∙ length-replicate maxAtoms m;
+        places = p;
+      }
+
+  module _ (fit : BondsFit (bondAt bonds) maxAtoms m) {b : ℕ} {head after behind ea eb ks sums : List ℕ} (n : Noted bonds m b head after behind ea eb ks sums) (some : 0 < b) where
+    pub noted-step : (e f q : ℕ) → e ≡ end1 bonds (b - 1) → f ≡ end2 bonds (b - 1) → q ≡ kind bonds (b - 1)
+        → (head2 after2 behind2 ea2 eb2 ks2 sums2 : List ℕ)
+        → head2 ≡ set (set head e (b - 1)) f (b - 1) → after2 ≡ set after (b - 1) (getD head e 0) → behind2 ≡ set behind (b - 1) (getD head f 0)
+        → ea2 ≡ set ea (b - 1) e → eb2 ≡ set eb (b - 1) f → ks2 ≡ set ks (b - 1) q → sums2 ≡ bump (bump sums e (order q)) f (order q)
+        → Noted bonds m (b - 1) head2 after2 behind2 ea2 eb2 ks2 sums2
+    noted-step e f q ee ef eq head2 after2 behind2 ea2 eb2 ks2 sums2 ph pa pb p1 p2 pk ps =
+        let d : b ≡ suc (b - 1) = omega arith in
+        let h : b - 1 < m = omega (arith, n .within) in
+        let w = fit .ends (b - 1) h in
+        let x = fit .few-bonds in
+        let r = n .places in
+        let ne : e ≡ f → ⊥ = λ i. omega (arith, w .0) in
+        let la : length after2 ≡ length after = ap length pa ∙ simp length-set in
+        let lb : length behind2 ≡ length behind = ap length pb ∙ simp length-set in
+        let l1 : length ea2 ≡ length ea = ap length p1 ∙ simp length-set in
+        let l2 : length eb2 ≡ length eb = ap length p2 ∙ simp length-set in
+        let lk : length ks2 ≡ length ks = ap length pk ∙ simp length-set in
+        record {
+          within = omega arith;
+          linked = linked-step fit (b - 1) h head after behind (linked-cast b (suc (b - 1)) head after behind d (n .linked)) (n .heads) (omega (arith, r .after)) (omega (arith, r .behind)) head2 after2 behind2 (rw (← ee, ← ef) ph) (rw (← ee) pa) (rw (← ef) pb);
+          wired = wired-step (b - 1) ea eb ks (wired-cast b (suc (b - 1)) ea eb ks d (n .wired)) (omega (arith, r .firsts)) (omega (arith, r .seconds)) (omega (arith, r .kinds)) e f q ee ef eq ea2 eb2 ks2 p1 p2 pk;
+          summed = sums-before bonds m (b - 1) h (n .summed ∙ ap (λ (j : ℕ). upTo (sumFrom bonds m j) 0 maxAtoms) d) (two-ends bonds (b - 1) sums ee ef eq refl ne refl ps);
+          heads = ap length ph ∙ simp length-set (n .heads);
+          places = record { after = omega (arith, r .after); behind = omega (arith, r .behind); firsts = omega (arith, r .firsts); seconds = omega (arith, r .seconds); kinds = omega (arith, r .kinds) };
+        }
+
+  pub noted-end : {b : ℕ} {head after behind ea eb ks sums : List ℕ} → Noted bonds m b head after behind ea eb ks sums → b ≤ 0
+      → Linked (wires ea eb ks) m 0 head after behind × Wired bonds m 0 ea eb ks × (sums ≡ upTo (bondSum bonds m) 0 maxAtoms)
+  noted-end {b} {head} {after} {behind} {ea} {eb} {ks} {sums} n z =
+      let d : b ≡ 0 = omega arith in
+      let w = wired-cast b 0 ea eb ks d (n .wired) in
+      (linked-same (wired-at w) (linked-cast b 0 head after behind d (n .linked)), w, sums-whole bonds m (n .summed ∙ ap (λ (j : ℕ). upTo (sumFrom bonds m j) 0 maxAtoms) d))

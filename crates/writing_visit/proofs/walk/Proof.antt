@@ -1,0 +1,76 @@
+use Rattle.writing_visit.proofs.Lists.{fit-wide}
+use Rattle.writing_visit.proofs.Wires.{fit-same, wired-at, walked-table}
+use Rattle.writing_visit.proofs.Laws.{kept-same, kept-then, room-kept}
+use Rattle.writing_visit.proofs.Roots.{Sofar, sofar-start, sofar-step, sofar-end}
+use Rattle.writing_visit.specs.Tour.{Kept, sheet}
+use Rattle.writing_visit.specs.Wires.{wires}
+use mathlib.Core.Path.{refl}
+use Prim.Native.Nat.{_-_}
+use native.Mathlib.Omega.{arith}
+use Rattle.writing_visit.proofs.walk.Statement.{statement}
+use Rattle.writing_visit.proofs.walk.Tie as tie
+
+abbrev Inv-loop : tie.InvT-loop
+Inv-loop bonds n m order₀ number₀ up₀ kind₀ ea eb ks sums head after behind count₀ a₀ order number up kind count a =
+    Sofar (wires ea eb ks) n m (sheet order₀ number₀ up₀ kind₀ 0) a (sheet order number up kind count) × Kept order₀ number₀ up₀ kind₀ order number up kind
+
+abbrev μ-loop : tie.MeasureT-loop
+μ-loop bonds n m order₀ number₀ up₀ kind₀ ea eb ks sums head after behind count₀ a₀ order number up kind count a = n - a
+
+cast-head : tie.Need-cast-head Inv-loop μ-loop
+cast-head c = let fit = c .pre .0 in omega (arith, fit .few-bonds)
+
+link-requires : tie.Need-link-requires Inv-loop μ-loop
+link-requires c κs =
+    let p = c .before .before .before .before .before .before .before .pre in
+    (fit-wide (p .0), ((refl, p .1 .1 .1 .1 .1), record { after = omega arith; behind = omega arith; firsts = p .1 .1 .1 .0 .0; seconds = p .1 .1 .1 .0 .1; kinds = p .1 .1 .1 .1 .0 }))
+
+loop-holds : tie.Need-loop-holds Inv-loop μ-loop
+loop-holds c =
+    let s = c .before .before .before .before .before .before .before .before in
+    (sofar-start (fit-same (wired-at (c .link .ensures .1 .0)) (s .pre .0)) _ _ _ _ (s .pre .1 .1 .0), kept-same)
+
+root-requires : tie.Need-root-requires Inv-loop μ-loop
+root-requires c κs =
+    let s = c .before .before .before .before .before .before .before .before .before .before .before .before .before .before .before .before .before .before .before .before in
+    let l = c .before .before .before .before .before .before .before .before .before .before .before .before .link .ensures in
+    (fit-same (wired-at (l .1 .0)) (s .pre .0), (l .0, (room-kept (s .pre .1 .0) (c .before .before .before .before .before .before .before .before .before .before .before .loop .inv .1), c .before .before .before .before .before .before .before .before .before .before .loop-test .taken)))
+
+add-a : tie.Need-add-a Inv-loop μ-loop
+add-a c =
+    let fit = c .before .before .before .before .before .before .before .before .before .before .before .before .before .before .before .before .before .before .before .before .before .pre .0 in
+    omega (arith, fit .few-atoms, c .before .before .before .before .before .before .before .before .before .before .before .loop-test .taken)
+
+loop-less : tie.Need-loop-less Inv-loop μ-loop
+loop-less c = omega (arith, c .before .before .before .before .before .before .before .before .before .before .before .loop-test .taken)
+
+loop-again : tie.Need-loop-again Inv-loop μ-loop
+loop-again c =
+    let s = c .before .before .before .before .before .before .before .before .before .before .before .before .before .before .before .before .before .before .before .before .before in
+    let l = c .before .before .before .before .before .before .before .before .before .before .before .before .before .link .ensures in
+    let i = c .before .before .before .before .before .before .before .before .before .before .before .before .loop .inv in
+    let r = c .root .ensures in
+    (sofar-step (fit-same (wired-at (l .1 .0)) (s .pre .0)) _ _ _ _ (c .before .before .before .before .before .before .before .before .before .before .before .loop-test .taken) (i .0) (r .0), kept-then (i .1) (r .1))
+
+returns : tie.Need-returns Inv-loop μ-loop
+returns c =
+    let s = c .before .before .before .before .before .before .before .before .before .before in
+    let l = c .before .before .link .ensures in
+    let i = c .before .loop .inv in
+    let w = sofar-end (fit-same (wired-at (l .1 .0)) (s .pre .0)) _ _ _ _ _ _ (c .loop-test .left) (s .pre .1 .0) (i .0) in
+    (walked-table (l .1 .0) w, (i .1, (l .1 .0, l .1 .1)))
+
+pub walk-spec : {M : Type 1} → statement M
+walk-spec =
+    tie.close
+    (tie.spec
+    Inv-loop
+    μ-loop
+    cast-head
+    link-requires
+    loop-holds
+    root-requires
+    add-a
+    loop-less
+    loop-again
+    returns)

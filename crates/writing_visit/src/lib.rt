@@ -1,0 +1,357 @@
+// The walk of a molecule, depth first, into arrays by walk number.
+ghost use mathlib.Core.Path.{_≡_};
+ghost use Prim.Native.Nat.{ℕ, suc, _+_, _*_, _<_, _≤_};
+ghost use mathlib.Core.Bool.{true};
+ghost use lib.ListN.{length, getD, replicate, set};
+ghost use lib.Dec.{eqb};
+ghost use Rattle.loops.specs.Loop.{pick, upTo};
+ghost use Rattle.table.specs.Limits.{maxAtoms, maxBonds};
+ghost use Rattle.table.specs.Cells.{end1, end2, kind};
+ghost use Rattle.valence.specs.Valence.{order};
+ghost use Rattle.table_graph.specs.Graph.{bondSum};
+ghost use Rattle.table_graph.specs.Built.{bump};
+ghost use Rattle.writing.specs.Write.{bondAt, bondList};
+ghost use Rattle.writing_visit.specs.Tour.{touching, grow, rootForest, BondsFit, Linked, Room, Kept, sheet, Grown, Walked};
+ghost use Rattle.writing_visit.specs.Wires.{wires, Wired, Places};
+use ids::AtomId;
+use ids::BondId;
+use table::MAX_ATOMS;
+use table::MAX_BONDS;
+
+// A bond in numbers: its ends and its kind.
+struct Wire {
+    first: usize,
+    second: usize,
+    kind: usize,
+}
+
+// A bond of the table in numbers.
+fn read_bond(bonds: &[i32], b: BondId) -> Wire
+    requires { ⌜ b .0 < maxBonds ⌝ }
+    ensures { λ r. ⌜ (r .first ≡ end1 (now (bonds .entry)) (b .0)) × (r .second ≡ end2 (now (bonds .entry)) (b .0)) ⌝ }
+    ensures { λ r. ⌜ r .kind ≡ kind (now (bonds .entry)) (b .0) ⌝ }
+{
+    let row = table::row::get_bond(bonds, b);
+    Wire {
+        first: table::cell::number(row.first),
+        second: table::cell::number(row.second),
+        kind: table::cell::number(row.kind),
+    }
+}
+
+// Notes a bond: its ends, its kind, and its order at the bond sums of its ends.
+fn note_bond(
+    b: BondId,
+    x: Wire,
+    ea: &mut [u16; MAX_BONDS],
+    eb: &mut [u16; MAX_BONDS],
+    ks: &mut [u8; MAX_BONDS],
+    sums: &mut [u16; MAX_ATOMS],
+)
+    requires { ⌜ b .0 < maxBonds ⌝ }
+    requires { ⌜ (x .first < x .second) × (x .second < maxAtoms) ⌝ }
+    requires { ⌜ x .kind < 4 ⌝ }
+    requires { ⌜ ((a : ℕ) → getD (now sums) a 0 ≤ 3 * maxBonds) ⌝ }
+    ensures { λ _. ⌜ now (ea .exit) ≡ set (now (ea .entry)) (b .0) (x .first) ⌝ }
+    ensures { λ _. ⌜ now (eb .exit) ≡ set (now (eb .entry)) (b .0) (x .second) ⌝ }
+    ensures { λ _. ⌜ now (ks .exit) ≡ set (now (ks .entry)) (b .0) (x .kind) ⌝ }
+    ensures { λ _. ⌜ now (sums .exit) ≡ bump (bump (now (sums .entry)) (x .first) (order (x .kind))) (x .second) (order (x .kind)) ⌝ }
+{
+    let i = b.0;
+    let e = x.first;
+    let f = x.second;
+    ea[i] = e as u16;
+    eb[i] = f as u16;
+    ks[i] = x.kind as u8;
+    let order = valence::order(x.kind) as u16;
+    sums[e] += order;
+    sums[f] += order;
+}
+
+// Puts a bond in front of the lists of its two ends.
+fn link_bond(
+    b: BondId,
+    x: Wire,
+    head: &mut [u16; MAX_ATOMS],
+    after: &mut [u16; MAX_BONDS],
+    behind: &mut [u16; MAX_BONDS],
+)
+    requires { ⌜ b .0 < maxBonds ⌝ }
+    requires { ⌜ (x .first < maxAtoms) × (x .second < maxAtoms) ⌝ }
+    ensures { λ _. ⌜ now (head .exit) ≡ set (set (now (head .entry)) (x .first) (b .0)) (x .second) (b .0) ⌝ }
+    ensures { λ _. ⌜ now (after .exit) ≡ set (now (after .entry)) (b .0) (getD (now (head .entry)) (x .first) 0) ⌝ }
+    ensures { λ _. ⌜ now (behind .exit) ≡ set (now (behind .entry)) (b .0) (getD (now (head .entry)) (x .second) 0) ⌝ }
+{
+    let i = b.0;
+    let e = x.first;
+    let f = x.second;
+    after[i] = head[e];
+    behind[i] = head[f];
+    head[e] = i as u16;
+    head[f] = i as u16;
+}
+
+// The bonds in arrays, with the bond sums, and those at each atom as lists, from heads that are all m.
+fn link(
+    bonds: &[i32],
+    m: usize,
+    head: &mut [u16; MAX_ATOMS],
+    after: &mut [u16; MAX_BONDS],
+    behind: &mut [u16; MAX_BONDS],
+    ea: &mut [u16; MAX_BONDS],
+    eb: &mut [u16; MAX_BONDS],
+    ks: &mut [u8; MAX_BONDS],
+    sums: &mut [u16; MAX_ATOMS],
+)
+    requires { ⌜ BondsFit (bondAt (now bonds)) maxAtoms m ⌝ }
+    requires { ⌜ (now head ≡ replicate maxAtoms m) × (now sums ≡ replicate maxAtoms 0) ⌝ }
+    requires { ⌜ Places (now after) (now behind) (now ea) (now eb) (now ks) ⌝ }
+    ensures { λ _. ⌜ Linked (wires (now (ea .exit)) (now (eb .exit)) (now (ks .exit))) m 0 (now (head .exit)) (now (after .exit)) (now (behind .exit)) ⌝ }
+    ensures { λ _. ⌜ Wired (now (bonds .entry)) m 0 (now (ea .exit)) (now (eb .exit)) (now (ks .exit)) ⌝ }
+    ensures { λ _. ⌜ now (sums .exit) ≡ upTo (bondSum (now (bonds .entry)) m) 0 maxAtoms ⌝ }
+{
+    let mut b = m;
+    while 0 < b {
+        b -= 1;
+        let x = read_bond(bonds, BondId(b));
+        note_bond(BondId(b), x, ea, eb, ks, sums);
+        link_bond(BondId(b), x, head, after, behind);
+    }
+}
+
+// A bond as the walk sees it from an atom: the other end, and the next bond at the atom.
+struct Step {
+    other: usize,
+    next: usize,
+}
+
+// The other end of a bond at an atom, and the next bond at the atom behind it; m where there is none.
+fn follow(
+    ea: &[u16; MAX_BONDS],
+    eb: &[u16; MAX_BONDS],
+    after: &[u16; MAX_BONDS],
+    behind: &[u16; MAX_BONDS],
+    b: BondId,
+    v: AtomId,
+) -> Step
+    requires { ⌜ b .0 < maxBonds ⌝ }
+    requires { ⌜ (getD (now ea) (b .0) 0 < maxAtoms) × (getD (now eb) (b .0) 0 < maxAtoms) ⌝ }
+    requires { ⌜ (getD (now after) (b .0) 0 ≤ maxBonds) × (getD (now behind) (b .0) 0 ≤ maxBonds) ⌝ }
+    ensures { λ r. ⌜ r .other ≡ pick (eqb (getD (now (ea .entry)) (b .0) 0) (v .0)) (getD (now (eb .entry)) (b .0) 0) (getD (now (ea .entry)) (b .0) 0) ⌝ }
+    ensures { λ r. ⌜ r .next ≡ pick (eqb (getD (now (ea .entry)) (b .0) 0) (v .0)) (getD (now (after .entry)) (b .0) 0) (getD (now (behind .entry)) (b .0) 0) ⌝ }
+{
+    let i = b.0;
+    let first = ea[i] as usize;
+    if first == v.0 {
+        return Step {
+            other: eb[i] as usize,
+            next: after[i] as usize,
+        };
+    }
+    Step {
+        other: first,
+        next: behind[i] as usize,
+    }
+}
+
+// One more atom is visited, with its parent's walk number plus 1 and the kind of the bond to it.
+fn add(
+    order: &mut [u16; MAX_ATOMS],
+    number: &mut [u16; MAX_ATOMS],
+    up: &mut [u16; MAX_ATOMS],
+    kind: &mut [u8; MAX_ATOMS],
+    v: AtomId,
+    parent: usize,
+    k: usize,
+    count: usize,
+)
+    requires { ⌜ (v .0 < maxAtoms) × (count < maxAtoms) ⌝ }
+    requires { ⌜ (parent ≤ maxAtoms) × (k < 4) ⌝ }
+    ensures { λ _. ⌜ now (order .exit) ≡ set (now (order .entry)) count (v .0) ⌝ }
+    ensures { λ _. ⌜ now (number .exit) ≡ set (now (number .entry)) (v .0) (count + 1) ⌝ }
+    ensures { λ _. ⌜ now (up .exit) ≡ set (now (up .entry)) count parent ⌝ }
+    ensures { λ _. ⌜ now (kind .exit) ≡ set (now (kind .entry)) count k ⌝ }
+{
+    let a = v.0;
+    order[count] = a as u16;
+    number[a] = (count + 1) as u16;
+    up[count] = parent as u16;
+    kind[count] = k as u8;
+}
+
+// The part of the walk at an atom, from one of its bonds on (m for none): each atom not yet visited, with all that is reached from it first. The number of atoms visited then.
+fn visit(
+    ea: &[u16; MAX_BONDS],
+    eb: &[u16; MAX_BONDS],
+    ks: &[u8; MAX_BONDS],
+    n: usize,
+    m: usize,
+    head: &[u16; MAX_ATOMS],
+    after: &[u16; MAX_BONDS],
+    behind: &[u16; MAX_BONDS],
+    order: &mut [u16; MAX_ATOMS],
+    number: &mut [u16; MAX_ATOMS],
+    up: &mut [u16; MAX_ATOMS],
+    kind: &mut [u8; MAX_ATOMS],
+    v: AtomId,
+    hub: usize,
+    from: usize,
+    count: usize,
+) -> usize
+    requires { ⌜ BondsFit (wires (now ea) (now eb) (now ks)) n m ⌝ }
+    requires { ⌜ Linked (wires (now ea) (now eb) (now ks)) m 0 (now head) (now after) (now behind) ⌝ }
+    requires { ⌜ Room (now order) (now number) (now up) (now kind) ⌝ }
+    requires { ⌜ (hub < maxAtoms) × (from ≤ m) ⌝ }
+    requires { ⌜ (from < m → touching (wires (now ea) (now eb) (now ks)) (v .0) from ≡ true) ⌝ }
+    ensures { λ r. ⌜ Grown n (suc hub) (grow (wires (now (ea .entry)) (now (eb .entry)) (now (ks .entry))) n m (v .0) from) (sheet (now (order .entry)) (now (number .entry)) (now (up .entry)) (now (kind .entry)) count) (sheet (now (order .exit)) (now (number .exit)) (now (up .exit)) (now (kind .exit)) r) ⌝ }
+    ensures { λ _. ⌜ Kept (now (order .entry)) (now (number .entry)) (now (up .entry)) (now (kind .entry)) (now (order .exit)) (now (number .exit)) (now (up .exit)) (now (kind .exit)) ⌝ }
+{
+    let mut b = from;
+    let mut next = count;
+    while b < m {
+        let i = b;
+        let seen = follow(ea, eb, after, behind, BondId(i), v);
+        let w = seen.other;
+        b = seen.next;
+        if number[w] != 0 {
+            continue;
+        }
+        if n <= next {
+            return next;
+        }
+        let k = ks[i] as usize;
+        add(order, number, up, kind, AtomId(w), hub + 1, k, next);
+        next = visit(
+            ea,
+            eb,
+            ks,
+            n,
+            m,
+            head,
+            after,
+            behind,
+            order,
+            number,
+            up,
+            kind,
+            AtomId(w),
+            next,
+            head[w] as usize,
+            next + 1,
+        );
+    }
+    next
+}
+
+// A root of the walk, if the atom was not visited, with all that is reached from it. The number of atoms visited then.
+fn root(
+    ea: &[u16; MAX_BONDS],
+    eb: &[u16; MAX_BONDS],
+    ks: &[u8; MAX_BONDS],
+    n: usize,
+    m: usize,
+    head: &[u16; MAX_ATOMS],
+    after: &[u16; MAX_BONDS],
+    behind: &[u16; MAX_BONDS],
+    order: &mut [u16; MAX_ATOMS],
+    number: &mut [u16; MAX_ATOMS],
+    up: &mut [u16; MAX_ATOMS],
+    kind: &mut [u8; MAX_ATOMS],
+    a: AtomId,
+    count: usize,
+) -> usize
+    requires { ⌜ BondsFit (wires (now ea) (now eb) (now ks)) n m ⌝ }
+    requires { ⌜ Linked (wires (now ea) (now eb) (now ks)) m 0 (now head) (now after) (now behind) ⌝ }
+    requires { ⌜ Room (now order) (now number) (now up) (now kind) ⌝ }
+    requires { ⌜ a .0 < n ⌝ }
+    ensures { λ r. ⌜ Grown n 0 (rootForest (wires (now (ea .entry)) (now (eb .entry)) (now (ks .entry))) n m (a .0)) (sheet (now (order .entry)) (now (number .entry)) (now (up .entry)) (now (kind .entry)) count) (sheet (now (order .exit)) (now (number .exit)) (now (up .exit)) (now (kind .exit)) r) ⌝ }
+    ensures { λ _. ⌜ Kept (now (order .entry)) (now (number .entry)) (now (up .entry)) (now (kind .entry)) (now (order .exit)) (now (number .exit)) (now (up .exit)) (now (kind .exit)) ⌝ }
+{
+    let v = a.0;
+    if number[v] != 0 {
+        return count;
+    }
+    if n <= count {
+        return count;
+    }
+    add(order, number, up, kind, AtomId(v), 0, 0, count);
+    visit(
+        ea,
+        eb,
+        ks,
+        n,
+        m,
+        head,
+        after,
+        behind,
+        order,
+        number,
+        up,
+        kind,
+        AtomId(v),
+        count,
+        head[v] as usize,
+        count + 1,
+    )
+}
+
+// internal: the walk of a molecule, by walk number: the atom, its parent's walk number plus 1 (0 for a root) and the kind of the bond to it; and each atom's walk number plus 1. Also the bonds: their ends, their kinds and the bond sums.
+pub fn walk(
+    bonds: &[i32],
+    n: usize,
+    m: usize,
+    order: &mut [u16; MAX_ATOMS],
+    number: &mut [u16; MAX_ATOMS],
+    up: &mut [u16; MAX_ATOMS],
+    kind: &mut [u8; MAX_ATOMS],
+    ea: &mut [u16; MAX_BONDS],
+    eb: &mut [u16; MAX_BONDS],
+    ks: &mut [u8; MAX_BONDS],
+    sums: &mut [u16; MAX_ATOMS],
+)
+    requires { ⌜ BondsFit (bondAt (now bonds)) n m ⌝ }
+    requires { ⌜ Room (now order) (now number) (now up) (now kind) ⌝ }
+    requires { ⌜ now number ≡ replicate (length (now number)) 0 ⌝ }
+    requires { ⌜ (maxBonds ≤ length (now ea)) × (maxBonds ≤ length (now eb)) ⌝ }
+    requires { ⌜ (maxBonds ≤ length (now ks)) × (now sums ≡ replicate maxAtoms 0) ⌝ }
+    ensures { λ _. ⌜ Walked (bondList (now (bonds .entry)) m) n (now (order .exit)) (now (number .exit)) (now (up .exit)) (now (kind .exit)) ⌝ }
+    ensures { λ _. ⌜ Kept (now (order .entry)) (now (number .entry)) (now (up .entry)) (now (kind .entry)) (now (order .exit)) (now (number .exit)) (now (up .exit)) (now (kind .exit)) ⌝ }
+    ensures { λ _. ⌜ Wired (now (bonds .entry)) m 0 (now (ea .exit)) (now (eb .exit)) (now (ks .exit)) ⌝ }
+    ensures { λ _. ⌜ now (sums .exit) ≡ upTo (bondSum (now (bonds .entry)) m) 0 maxAtoms ⌝ }
+{
+    let mut head = [m as u16; MAX_ATOMS];
+    let mut after = [0u16; MAX_BONDS];
+    let mut behind = [0u16; MAX_BONDS];
+    link(
+        bonds,
+        m,
+        &mut head,
+        &mut after,
+        &mut behind,
+        ea,
+        eb,
+        ks,
+        sums,
+    );
+    let mut count = 0;
+    let mut a = 0;
+    while a < n {
+        count = root(
+            ea,
+            eb,
+            ks,
+            n,
+            m,
+            &head,
+            &after,
+            &behind,
+            order,
+            number,
+            up,
+            kind,
+            AtomId(a),
+            count,
+        );
+        a += 1;
+    }
+}
