@@ -26,7 +26,7 @@ use Rattle.table.specs.declared.Atom.{Atom}
 use Rattle.table.specs.declared.Bond.{Bond}
 use Rattle.reading_state.specs.State.{Steering}
 use Rattle.reading_state.specs.declared.Fields.{Fields}
-use Rattle.reading.specs.Memory.{Memory, nothing, kindOf, bondRow, extended, begun, described, drafted}
+use Rattle.reading.specs.Memory.{Memory, nothing, kindOf, newBond, withNextAtom, begun, described, drafted}
 use Rattle.reading.specs.Act.{Acts, modeAct, atomAct, firstByte}
 use Rattle.reading_fields.specs.Rest.{rest, memory}
 use Rattle.reading_fields.specs.Spelled.{Begins, Admitted, SpellsRow, SpellsNothing, SpellsNot, Spells}
@@ -39,18 +39,18 @@ use Rattle.reader.specs.declared.atom.Crowd.{Crowd}
 use Rattle.reader.specs.Piece.{pendingOf}
 use Rattle.reader.specs.Added.{bondedBy, crowdOf, Counts, AddsNot, Adds}
 
-pub bond-row : (a b k : ℕ) → a < 65536 → b < 65536 → k < 256 → _≡_ {A = Bond} (record { first = toZ w32 a; second = toZ w32 b; kind = toZ w32 k }) (bondRow a b k)
+pub bond-row : (a b k : ℕ) → a < 65536 → b < 65536 → k < 256 → _≡_ {A = Bond} (record { first = toZ w32 a; second = toZ w32 b; kind = toZ w32 k }) (newBond a b k)
 bond-row a b k ha hb hk = simp (toZ-pos w32 {n = a} (omega arith), toZ-pos w32 {n = b} (omega arith), toZ-pos w32 {n = k} (omega arith))
 
 -- the memory after an atom that is not bonded, and after one that is
 unbonded-memory : (j : Joint) (t : Steering) (a b : List ℤ) {a′ : List ℤ} (y : Atom) (o : ℕ) {m : ℕ} (i : ℕ) (f g : Fields) → bondedBy (t .atoms) j ≡ false → a′ ≡ withAtom a (t .atoms) y → m ≡ t .bonds
-    → drafted g (described y (begun o (memory t a b (pendingOf j) i f))) ≡ memory (extended t o m) a′ b nothing i g
+    → drafted g (described y (begun o (memory t a b (pendingOf j) i f))) ≡ memory (withNextAtom t o m) a′ b nothing i g
 unfolding begun
 unbonded-memory j t a b y o i f g hb ea em = rw (hb, ea, em)
 
 bonded-memory : (j : Joint) (t : Steering) (a b : List ℤ) {a′ b′ : List ℤ} (y : Atom) (o : ℕ) {m : ℕ} (i : ℕ) (f g : Fields) → bondedBy (t .atoms) j ≡ true → a′ ≡ withAtom a (t .atoms) y → m ≡ t .bonds
-    → b′ ≡ withBond b (t .bonds) (bondRow (t .hub .0) (t .atoms) (kindOf (pendingOf j)))
-    → drafted g (described y (begun o (memory t a b (pendingOf j) i f))) ≡ memory (extended t o (m + 1)) a′ b′ nothing i g
+    → b′ ≡ withBond b (t .bonds) (newBond (t .hub .0) (t .atoms) (kindOf (pendingOf j)))
+    → drafted g (described y (begun o (memory t a b (pendingOf j) i f))) ≡ memory (withNextAtom t o (m + 1)) a′ b′ nothing i g
 unfolding begun
 bonded-memory j t a b y o i f g hb ea em eb = rw (hb, ea, em, eb)
 
@@ -124,7 +124,7 @@ module _ (s : List ℕ) (at : ℕ) (j : Joint) (hub : AtomId) (n m : ℕ) (a b :
           right true v g k = k
           right false v g k = absurd (let z : _≡_ {A = ℕ} 0 1 = cc in omega arith)
 
-      pub adds-bonded : {k : ℕ} {r : Bond} {b′ : List ℤ} → x ≡ true → k ≡ kindOf (pendingOf j) → r ≡ bondRow (hub .0) n k → b′ ≡ putBond b m r → Adds s at j hub n m a b a′ b′ (Added.Atom o (m + 1) p)
+      pub adds-bonded : {k : ℕ} {r : Bond} {b′ : List ℤ} → x ≡ true → k ≡ kindOf (pendingOf j) → r ≡ newBond (hub .0) n k → b′ ≡ putBond b m r → Adds s at j hub n m a b a′ b′ (Added.Atom o (m + 1) p)
       unfolding putBond
       adds-bonded {k} {r} {b′} h ek er eb = record {
         within = w .within;
@@ -134,8 +134,8 @@ module _ (s : List ℕ) (at : ℕ) (j : Joint) (hub : AtomId) (n m : ℕ) (a b :
         is = λ t q i f. let v = w .is (held t i f) (admitted e t q i f) in
             let hb : bondedBy (t .atoms) j ≡ true = ap (λ (z : ℕ). bondedBy z j) (q .1) ∙ sym ex ∙ h in
             let et : a′ ≡ withAtom a (t .atoms) y = row-put ∙ ap (λ (z : ℕ). withAtom a z y) (sym (q .1)) in
-            let eu : b′ ≡ withBond b m (bondRow (hub .0) n (kindOf (pendingOf j))) = eb ∙ rw (lt-ltb m maxBonds (bonds-room h), er, ek) in
-            let ev : withBond b m (bondRow (hub .0) n (kindOf (pendingOf j))) ≡ withBond b (t .bonds) (bondRow (t .hub .0) (t .atoms) (kindOf (pendingOf j))) = rw (q .0, q .1, q .2) in
+            let eu : b′ ≡ withBond b m (newBond (hub .0) n (kindOf (pendingOf j))) = eb ∙ rw (lt-ltb m maxBonds (bonds-room h), er, ek) in
+            let ev : withBond b m (newBond (hub .0) n (kindOf (pendingOf j))) ≡ withBond b (t .bonds) (newBond (t .hub .0) (t .atoms) (kindOf (pendingOf j))) = rw (q .0, q .1, q .2) in
             record { tens = i; draft = v .0; is = v .1 ∙ ap (rest s p (seq plain)) (bonded-memory j t a b y o i f (v .0) hb et (sym (q .2)) (eu ∙ ev)) };
       }
 

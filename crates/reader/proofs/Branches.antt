@@ -20,7 +20,7 @@ use Rattle.reading_grammar.specs.Machine.{next, resting, atomOr, bridgeOr}
 use Rattle.reading_grammar.specs.Fold.{keeps, good, bad}
 use Rattle.table.specs.Limits.{maxAtoms}
 use Rattle.reading_state.specs.declared.Fields.{Fields}
-use Rattle.reading_state.specs.Limits.{maxDepth}
+use Rattle.ids.specs.Limits.{maxDepth}
 use Rattle.reading_state.specs.State.{Steering, opened, closed}
 use Rattle.reading.specs.Memory.{Memory, nothing, moved}
 use Rattle.reading.specs.Act.{modeAct, branchAct}

@@ -29,12 +29,12 @@ use Rattle.table.specs.Valid.{Valid, enough}
 use Rattle.table_graph.specs.Graph.{bondSum, matchable}
 use Rattle.table_graph.specs.Built.{Wired, Prepared}
 use Rattle.reading_state.specs.declared.Fields.{Fields}
-use Rattle.reading_state.specs.Limits.{maxText, maxDepth, bridges}
+use Rattle.ids.specs.Limits.{maxText, maxDepth, bridges}
 use Rattle.reading_state.specs.State.{Steering, steering, started}
 use Rattle.reading_state.specs.declared.State.{State}
 use Rattle.reading.specs.Memory.{Memory, nothing, blank}
 use Rattle.reading.specs.Act.{act, modeAct}
-use Rattle.reading.specs.Read.{Told, zeros, refused, short, beginning, hydrogenate, hydrogenated, earlier, leftmost, ended, finished, readFrom, readOf}
+use Rattle.reading.specs.Read.{ReadResult, zeros, refused, short, beginning, hydrogenate, hydrogenated, earlier, leftmost, ended, finished, readFrom, readOf}
 use Rattle.reading.proofs.Hydrogens.{implied-small}
 use Rattle.reading.proofs.Valid.{sane-valid}
 use Rattle.reading.proofs.Claims.{read-sane}
@@ -192,7 +192,7 @@ module _ (t : Steering) (a b : List ℤ) {p : ℕ} (e : p ≡ leftmost (t .opene
     ended-unmatched m ex ey = rw (ex, ey, ← e, le-ltb p maxText h, ← ev, m)
 
 -- ---- the public call
-abbrev byAnswer : List ℤ → List ℤ → Answer Memory → Told
+abbrev byAnswer : List ℤ → List ℤ → Answer Memory → ReadResult
 byAnswer a b (good μ) = ended μ
 byAnswer a b (bad c p) = refused c p a b
 
@@ -250,7 +250,7 @@ module _ (s : List ℕ) (a b : List ℤ) where
             let r = good-going (length s) (read act 0 (going start (beginning (zeros a) (zeros b))) s) (memory (o .st) x y nothing (fine .0) (fine .1)) e in
             sane-valid {σ = r .0} (read-sane s a b {σ = r .0} (record { room = h; short = l }) (r .1))
 
-        pub told-fine : {z : Told} → z ≡ endedOf (o .st) x y → z ≡ readOf s a b
+        pub told-fine : {z : ReadResult} → z ≡ endedOf (o .st) x y → z ≡ readOf s a b
         unfolding ended
         told-fine q = q ∙ sym (whole ∙ ap (byAnswer a b) (fine .3))
 

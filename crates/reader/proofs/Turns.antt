@@ -17,8 +17,8 @@ use Rattle.table.specs.Limits.{maxAtoms}
 use Rattle.reading_state.specs.State.{Steering, steering}
 use Rattle.reading_state.specs.declared.State.{State}
 use Rattle.reading_state.specs.declared.Fields.{Fields}
-use Rattle.reading_state.specs.Limits.{bridges}
-use Rattle.reading.specs.Memory.{Memory, Pending, nothing, extended}
+use Rattle.ids.specs.Limits.{bridges}
+use Rattle.reading.specs.Memory.{Memory, Pending, nothing, withNextAtom}
 use Rattle.reading.specs.Act.{bridgeAct}
 use Rattle.reading_fields.specs.Rest.{rest, memory}
 use Rattle.reader.specs.declared.piece.Joint.{Joint}
@@ -105,7 +105,7 @@ module _ {s : List ℕ} {j : Joint} {p₀ : ℕ} {f₀ : Bool} {t : Steering} {a
           pub atom-room : u .atoms < maxAtoms
           atom-room = atom-added .atoms
 
-          pub turn-atom : length a′ ≡ length a → length b′ ≡ length b → Turn s j p₀ f₀ t a₀ b₀ m false (extended u o l) a′ b′
+          pub turn-atom : length a′ ≡ length a → length b′ ≡ length b → Turn s j p₀ f₀ t a₀ b₀ m false (withNextAtom u o l) a′ b′
           turn-atom ka kb = let w = atom-added in record {
             stands = λ i d. let y = atom-stands i d in let c = w .is u (refl, refl, refl) (y .tens) (y .draft) in record { tens = c .tens; draft = c .draft; is = y .is ∙ c .is };
             within = atom-in;

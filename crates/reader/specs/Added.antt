@@ -18,7 +18,7 @@ use Rattle.reading_grammar.specs.Fold.{Answer, bad}
 use Rattle.table.specs.Limits.{maxAtoms, maxBonds}
 use Rattle.reading_state.specs.State.{Steering}
 use Rattle.reading_state.specs.declared.Fields.{Fields}
-use Rattle.reading.specs.Memory.{Memory, Pending, nothing, afterDot, extended}
+use Rattle.reading.specs.Memory.{Memory, Pending, nothing, afterDot, withNextAtom}
 use Rattle.reading_fields.specs.Rest.{rest, memory}
 use Rattle.reader.specs.declared.piece.Joint.{Joint}
 use Rattle.reader.specs.declared.atom.Added.{Added}
@@ -48,7 +48,7 @@ pub record AddsAtom (s : List ℕ) (at : ℕ) (j : Joint) (hub : AtomId) (n m : 
   pub later : at < p
   pub atoms : n < maxAtoms
   pub bonds : m ≤ maxBonds → l ≤ maxBonds
-  pub is : (t : Steering) → Counts t hub n m → (i : ℕ) (f : Fields) → Reaches s (rest s at dot (memory t a b (pendingOf j) i f)) p (seq plain) nothing (extended t o l) a′ b′
+  pub is : (t : Steering) → Counts t hub n m → (i : ℕ) (f : Fields) → Reaches s (rest s at dot (memory t a b (pendingOf j) i f)) p (seq plain) nothing (withNextAtom t o l) a′ b′
 
 pub record AddsNot (s : List ℕ) (at : ℕ) (j : Joint) (hub : AtomId) (n m : ℕ) (a b : List ℤ) (r : Refusal) (p : ℕ) : Type 0 where
   pub is : (t : Steering) → Counts t hub n m → (i : ℕ) (f : Fields) → rest s at dot (memory t a b (pendingOf j) i f) ≡ bad (codeOf r) p

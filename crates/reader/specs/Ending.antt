@@ -15,17 +15,17 @@ use Rattle.table.specs.Cells.{atomPlace, element, selected}
 use Rattle.table_graph.specs.Graph.{matchable}
 use Rattle.reading_state.specs.State.{Steering}
 use Rattle.reading_state.specs.declared.Fields.{Fields}
-use Rattle.reading_state.specs.Limits.{maxDepth, bridges}
+use Rattle.ids.specs.Limits.{maxDepth, bridges}
 use Rattle.reading.specs.Memory.{Memory, nothing, blank}
 use Rattle.reading.specs.Act.{act}
-use Rattle.reading.specs.Read.{Told, beginning, hydrogenated, ended}
+use Rattle.reading.specs.Read.{ReadResult, beginning, hydrogenated, ended}
 use Rattle.reading_fields.specs.Rest.{memory}
 use Rattle.reader.specs.declared.bridge.Why.{Why}
 use Rattle.reader.specs.declared.ending.Answer as reply
 use Rattle.reader.specs.Went.{Fair, Went}
 
 -- 0 with the counts, or the refusal's code with its offset and counts of 0; and both tables
-abbrev pub told : reply.Answer → List ℤ → List ℤ → Told
+abbrev pub told : reply.Answer → List ℤ → List ℤ → ReadResult
 told (reply.Answer.Molecule n m) a b = record { code = 0; offset = 0; atomCount = n; bondCount = m; atoms = a; bonds = b }
 told (reply.Answer.Refused r p) a b = record { code = codeOf r; offset = p; atomCount = 0; bondCount = 0; atoms = a; bonds = b }
 
@@ -43,7 +43,7 @@ pub record Completed (outside : List ℕ) (atoms bonds : List ℤ) (n m : ℕ) (
   pub matched : r ≡ matchable atoms′ bonds n m
 
 -- what comes after the last byte, in a state and with tables
-abbrev pub endedOf : Steering → List ℤ → List ℤ → Told
+abbrev pub endedOf : Steering → List ℤ → List ℤ → ReadResult
 endedOf t a b = ended (memory t a b nothing 0 blank)
 
 -- reading the whole text into tables that stand so, as the byte machine answers

@@ -15,7 +15,7 @@ use Rattle.reading_grammar.specs.declared.Mode.the-variants.{Seq as seq, Bond a
 use Rattle.reading_grammar.specs.Fold.{Answer, bad, keeps, refuses}
 use Rattle.reading_state.specs.State.{Steering}
 use Rattle.reading_state.specs.declared.Fields.{Fields}
-use Rattle.reading_state.specs.Limits.{bridges}
+use Rattle.ids.specs.Limits.{bridges}
 use Rattle.reading.specs.Memory.{Memory, Pending, nothing, dotted, symbol}
 use Rattle.reading.specs.Act.{Acts, bridgeAct}
 use Rattle.reading_fields.specs.Rest.{rest, memory}

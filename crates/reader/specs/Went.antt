@@ -13,7 +13,7 @@ use Rattle.reading_grammar.specs.Fold.{Answer, bad}
 use Rattle.table.specs.Limits.{maxAtoms, maxBonds}
 use Rattle.reading_state.specs.State.{Steering, steering}
 use Rattle.reading_state.specs.declared.Fields.{Fields}
-use Rattle.reading_state.specs.Limits.{maxDepth}
+use Rattle.ids.specs.Limits.{maxDepth}
 use Rattle.reading.specs.Memory.{Memory, Pending, nothing}
 use Rattle.reading_fields.specs.Rest.{rest, memory}
 use Rattle.reader.specs.declared.piece.Joint.{Joint}

@@ -23,11 +23,11 @@ use Rattle.reading_grammar.specs.Machine.{alive, turn, next, atomOr, bridgeOr}
 use Rattle.reading_grammar.specs.Machine as machine
 use Rattle.reading_grammar.specs.Fold.{keeps}
 use Rattle.reading_grammar.proofs.Ends.{never}
-use Rattle.reading_state.specs.Limits.{bridges}
+use Rattle.ids.specs.Limits.{bridges}
 use Rattle.reading_state.specs.State.{closed}
 use Rattle.reading.specs.Memory.{Memory, moved, counting}
 use Rattle.reading.specs.Bracket.{digit}
-use Rattle.reading.specs.Act.{Acts, orAtom, atomAct, bridgeAct, branchAct, jointAct, secondLetter, goesOn, modeAct}
+use Rattle.reading.specs.Act.{Acts, orAtom, atomAct, bridgeAct, branchAct, jointAct, secondLetter, letterAct, modeAct}
 use Rattle.reading.proofs.Draft.{any-digit, nonzero-digit}
 use Rattle.reading.proofs.Letters.{Begins, begins}
 
@@ -83,7 +83,7 @@ module _ (P : State → Acts → Type 0) (d i : ℕ) (μ : Memory) (b : ℕ) whe
     goes-down zero q v = never v
     goes-down (suc e) q v = w .unbranch e q
 
-    goes-on : (x : Last) → (Second x b → (e : ℕ) → e ≤ 118 → P (at (seq plain) d) (secondLetter e μ)) → alive (turn (machine.goesOn x b) d) ≡ true → P (turn (machine.goesOn x b) d) (goesOn x μ)
+    goes-on : (x : Last) → (Second x b → (e : ℕ) → e ≤ 118 → P (at (seq plain) d) (secondLetter e μ)) → alive (turn (machine.goesOn x b) d) ≡ true → P (turn (machine.goesOn x b) d) (letterAct x μ)
     goes-on plain f v = never v
     goes-on afterC f v = second-letter 17 (eqb b 108) (λ e. f (eqb-true b 108 e) 17 (omega arith)) v
     goes-on afterB f v = second-letter 35 (eqb b 114) (λ e. f (eqb-true b 114 e) 35 (omega arith)) v
@@ -95,7 +95,7 @@ module _ (P : State → Acts → Type 0) (d i : ℕ) (μ : Memory) (b : ℕ) whe
         split : (t1 t2 t3 t4 t5 t6 : Bool) → among b nonzero ≡ t1
             → let τ : State = turn (pick t1 (to (seq plain)) (pick t2 (to percent) (pick t3 (to bond) (pick t4 (to dot) (pick t5 up (pick t6 down (machine.goesOn x b))))))) d in
             alive τ ≡ true
-            → P τ (pick t1 (bridgeAct (digit b) i μ) (pick t2 (keeps μ) (pick t3 (jointAct b μ) (pick t4 (jointAct b μ) (pick t5 (branchAct i μ) (pick t6 (keeps (moved (closed (μ .st)) μ)) (goesOn x μ)))))))
+            → P τ (pick t1 (bridgeAct (digit b) i μ) (pick t2 (keeps μ) (pick t3 (jointAct b μ) (pick t4 (jointAct b μ) (pick t5 (branchAct i μ) (pick t6 (keeps (moved (closed (μ .st)) μ)) (letterAct x μ)))))))
         split true t2 t3 t4 t5 t6 e v = digit-bridge e
         split false true t3 t4 t5 t6 e v = w .sign
         split false false true t4 t5 t6 e v = w .symbol

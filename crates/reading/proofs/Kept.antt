@@ -27,7 +27,7 @@ use Rattle.reading_grammar.proofs.Fold.{Goes, goes, read-append, prefix-goes}
 use Rattle.table.specs.Limits.{atomCells}
 use Rattle.table.specs.Rows.{atomRow, bondRow}
 use Rattle.reading.specs.Memory.{Memory, rowOf, bareRow, begun, described}
-use Rattle.reading.specs.Act.{firstByte, closing, charging, hydrating, modeAct, act}
+use Rattle.reading.specs.Act.{firstByte, closeAct, chargeAct, hydrogenAct, modeAct, act}
 use Rattle.reading.specs.Read.{zeros, beginning, readOf}
 use Rattle.reading.proofs.Sane.{Sane}
 use Rattle.reading.proofs.Rows.{with-atom-row}

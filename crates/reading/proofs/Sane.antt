@@ -15,7 +15,7 @@ use Rattle.reading_grammar.specs.Fold.{Reading, going, halted, Act, keeps, refu
 use Rattle.table.specs.Limits.{maxAtoms, maxBonds, atomCells, bondCells, FIRST}
 use Rattle.table.specs.Cells.{inRange, bondCell, end1, end2}
 use Rattle.table.specs.Valid.{atomOk, kindOk, selectable}
-use Rattle.reading_state.specs.Limits.{maxDepth, bridges}
+use Rattle.ids.specs.Limits.{maxDepth, bridges}
 use Rattle.reading_state.specs.State.{Steering}
 use Rattle.reading_state.specs.declared.Fields.{Fields}
 use Rattle.reading.specs.Memory.{Memory, kindOf}

@@ -29,10 +29,10 @@ use Rattle.table.specs.declared.Atom.{Atom}
 use Rattle.table.specs.declared.Bond.{Bond}
 use Rattle.table.specs.Limits.{maxAtoms, maxBonds, atomCells, bondCells}
 use Rattle.table.specs.Rows.{atomRow, bondRow, withAtom, withBond}
-use Rattle.reading_state.specs.Limits.{maxDepth}
+use Rattle.ids.specs.Limits.{maxDepth}
 use Rattle.reading_state.specs.State.{opened, closed, bridged, joined}
 use Rattle.reading.specs.Memory.{Memory, kindOf, rowOf, bareRow, bonded, begun, described, moved, drafted, closeRefusal}
-use Rattle.reading.specs.Act.{Acts, firstByte, atomAct, bridgeBond, orRefuse, bridgeAct, branchAct, closing, charging, hydrating, modeAct, act}
+use Rattle.reading.specs.Act.{Acts, firstByte, atomAct, bridgeBond, orRefuse, bridgeAct, branchAct, closeAct, chargeAct, hydrogenAct, modeAct, act}
 use Rattle.reading.proofs.Cases.{by-test}
 use Rattle.reading.proofs.Sane.{Tables, Sane, SaneReading}
 use Rattle.reading.proofs.Rows.{with-atom-other, same-atom-row, with-bond-other, same-bond-row}
@@ -263,16 +263,16 @@ module _ {p q d i n k : ℕ} {μ : Memory} (h : Held p q d i μ) (na : n ≤ μ 
     draft-left : (f : _) → LeftAct n k μ τ (keeps (drafted f μ))
     draft-left f = record { complete = complete-any τ n (drafted f μ) na (l .0) (l .1); bonds = kb; same = record { rows = λ a s. refl; flags = λ a s. refl; bonds = λ b s. refl } }
 
-    close-left : (b : ℕ) → LeftAct n k μ τ (closing b μ)
+    close-left : (b : ℕ) → LeftAct n k μ τ (closeAct b μ)
     close-left b =
         by-test (λ ν. Left n k μ τ ν) (eqb b 93) (described (rowOf (μ .draft)) μ) μ
         (λ e. record { complete = complete-any τ n (described (rowOf (μ .draft)) μ) na (l .0) (l .1); bonds = kb; same = described-same (rowOf (μ .draft)) (h .tables) (l .0) (h .hub) })
         (λ e. record { complete = complete-any τ n μ na (l .0) (l .1); bonds = kb; same = same-itself n k μ })
 
-    charge-left : (b : ℕ) → LeftAct n k μ τ (charging b μ)
+    charge-left : (b : ℕ) → LeftAct n k μ τ (chargeAct b μ)
     charge-left b = by-test (LeftAct n k μ τ) (among b signs) _ _ (λ e. draft-left _) (λ e. close-left b)
 
-    hydrate-left : (b : ℕ) → LeftAct n k μ τ (hydrating b μ)
+    hydrate-left : (b : ℕ) → LeftAct n k μ τ (hydrogenAct b μ)
     hydrate-left b = by-test (LeftAct n k μ τ) (eqb b 72) _ _ (λ e. draft-left _) (λ e. charge-left b)
 
 -- ---- every byte

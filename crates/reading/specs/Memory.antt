@@ -63,18 +63,18 @@ rowOf f =
 abbrev pub bareRow : ℕ → ℕ → Atom
 bareRow e selected = record { element = pos e; selected = pos selected; isotope = pos 0; hydrogens = pos 0; charge = pos 0; extension = pos 0 }
 
-abbrev pub bondRow : ℕ → ℕ → ℕ → Bond
-bondRow a b k = record { first = pos a; second = pos b; kind = pos k }
+abbrev pub newBond : ℕ → ℕ → ℕ → Bond
+newBond a b k = record { first = pos a; second = pos b; kind = pos k }
 
 -- the first end is "the lower atom number, wherever a bridge opened"
 abbrev pub between : ℕ → ℕ → ℕ → Bond
-between a b k = pick (ltb a b) (bondRow a b k) (bondRow b a k)
+between a b k = pick (ltb a b) (newBond a b k) (newBond b a k)
 
 -- ---- a new atom
 
 -- one atom more, which is the hub; x: 1 if it stands outside brackets
-abbrev pub extended : Steering → ℕ → ℕ → Steering
-extended s x m =
+abbrev pub withNextAtom : Steering → ℕ → ℕ → Steering
+withNextAtom s x m =
     record {
       hub = record { 0 = s .atoms };
       atoms = s .atoms + 1;
@@ -95,9 +95,9 @@ bonded μ = not (eqb (μ .st .atoms) 0) && not (afterDot (μ .pending))
 unfoldable pub begun : ℕ → Memory → Memory
 begun x μ =
     record {
-      st = extended (μ .st) x (pick (bonded μ) (μ .st .bonds + 1) (μ .st .bonds));
+      st = withNextAtom (μ .st) x (pick (bonded μ) (μ .st .bonds + 1) (μ .st .bonds));
       atoms = μ .atoms;
-      bonds = pick (bonded μ) (withBond (μ .bonds) (μ .st .bonds) (bondRow (μ .st .hub .0) (μ .st .atoms) (kindOf (μ .pending)))) (μ .bonds);
+      bonds = pick (bonded μ) (withBond (μ .bonds) (μ .st .bonds) (newBond (μ .st .hub .0) (μ .st .atoms) (kindOf (μ .pending)))) (μ .bonds);
       pending = nothing;
       tens = μ .tens;
       draft = blank;

@@ -12,7 +12,7 @@ use Rattle.loops.proofs.Loops.{and-left, and-right}
 use Rattle.table.specs.Limits.{maxAtoms, maxBonds}
 use Rattle.table.specs.Valid.{valid}
 use Rattle.table.proofs.Valid.{facts}
-use Rattle.reading_state.specs.Limits.{maxDepth, bridges}
+use Rattle.ids.specs.Limits.{maxDepth, bridges}
 use Rattle.writing_walk.specs.Token.{Tok, apart, along, ring, branch, back}
 use Rattle.writing_walk.specs.Emit.{size}
 use Rattle.writing_walk.specs.Walk.{forestOf, relabel, unused}

@@ -14,7 +14,7 @@ use Rattle.table.specs.Cells.{number, inRange, atomCell, end1, end2}
 use Rattle.table.specs.Valid.{selectable, selectedOk, sameEnds, fresh, atomOk, bondOk, Valid}
 use Rattle.table.specs.Valid as spec
 use Rattle.table.proofs.Valid.{range-of, bond-fine-back}
-use Rattle.reading_state.specs.Limits.{maxDepth}
+use Rattle.ids.specs.Limits.{maxDepth}
 use Rattle.writing_walk.specs.Token.{Bond, Tok, apart, along, ring, branch, back}
 use Rattle.writing_walk.specs.Emit.{pre}
 use Rattle.writing_walk.specs.Walk.{forestOf, renumber, renumbered}

@@ -23,7 +23,7 @@ use Rattle.reading_grammar.specs.declared.State.the-variants.{At as at}
 use Rattle.reading_grammar.specs.Machine.{turn, step, next, atomOr, bridgeOr}
 use Rattle.reading_grammar.specs.Fold.{keeps}
 use Rattle.table.specs.declared.Atom.{Atom}
-use Rattle.reading_state.specs.Limits.{bridges}
+use Rattle.ids.specs.Limits.{bridges}
 use Rattle.reading.specs.Memory.{Memory, Pending, nothing, dotted, symbol, symbolKind, kindOf, afterDot, awaiting, counting}
 use Rattle.reading.specs.Bracket.{digit}
 use Rattle.reading.specs.Act.{act, modeAct, bridgeAct}

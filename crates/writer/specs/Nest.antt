@@ -5,7 +5,7 @@ use mathlib.Core.List.{List}
 use lib.ListN.{getD}
 use lib.Dec.{eqb, leb, ltb}
 use Rattle.loops.specs.Loop.{pick}
-use Rattle.reading_state.specs.Limits.{maxDepth}
+use Rattle.ids.specs.Limits.{maxDepth}
 
 -- a branch is left before a child that is not the first
 unfoldable pub depthLeft : ℕ → ℕ → ℕ → ℕ
