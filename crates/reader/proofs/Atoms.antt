@@ -18,7 +18,7 @@ use Rattle.refusal.specs.declared.Refusal.{Refusal}
 use Rattle.refusal.specs.declared.Refusal.the-variants.{Grammar, ManyAtoms, ManyBonds}
 use Rattle.refusal.specs.Code.{codeOf}
 use Rattle.reading_grammar.specs.declared.Last.the-variants.{Plain as plain}
-use Rattle.reading_grammar.specs.declared.Mode.the-variants.{Seq as seq, Dot as dot}
+use Rattle.reading_grammar.specs.declared.Mode.the-variants.{Seq as seq, AtomNext as atomNext}
 use Rattle.reading_grammar.specs.Fold.{keeps, refuses}
 use Rattle.table.specs.Limits.{maxAtoms, maxBonds}
 use Rattle.table.specs.Rows.{withAtom, putAtom, withBond, putBond}
@@ -84,7 +84,7 @@ module _ (s : List ℕ) (at : ℕ) (j : Joint) (hub : AtomId) (n m : ℕ) (a b :
 
     pub adds-crowded : {r : Refusal} → Begins s at → c ≡ Crowd.Refused r → AddsNot s at j hub n m a b r at
     unfolding modeAct
-    adds-crowded w e = record { is = λ t q i f. rest-refused s at dot (held t i f) (there s at) (w .within) (w .goes) (act-by (getD s at 0) t q i f ∙ ap (byCrowd (getD s at 0) (held t i f)) (crowd-is ∙ e)) }
+    adds-crowded w e = record { is = λ t q i f. rest-refused s at atomNext (held t i f) (there s at) (w .within) (w .goes) (act-by (getD s at 0) t q i f ∙ ap (byCrowd (getD s at 0) (held t i f)) (crowd-is ∙ e)) }
 
     pub adds-broken : {p : ℕ} → SpellsNot s at p → c ≡ Crowd.Fine → AddsNot s at j hub n m a b Grammar p
     adds-broken w e = record { is = λ t q i f. w .is (held t i f) (admitted e t q i f) }

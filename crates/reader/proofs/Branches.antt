@@ -14,7 +14,7 @@ use Rattle.refusal.specs.declared.Refusal.{Refusal}
 use Rattle.refusal.specs.declared.Refusal.the-variants.{Grammar, DeepBranch}
 use Rattle.reading_grammar.specs.Grammar.{nonzero, bondSymbols}
 use Rattle.reading_grammar.specs.declared.Last.the-variants.{Plain as plain}
-use Rattle.reading_grammar.specs.declared.Mode.the-variants.{Seq as seq, Dot as dot}
+use Rattle.reading_grammar.specs.declared.Mode.the-variants.{Seq as seq, AtomNext as atomNext}
 use Rattle.reading_grammar.specs.declared.Out.the-variants.{Up as up, Down as down}
 use Rattle.reading_grammar.specs.Machine.{next, resting, atomOr, bridgeOr}
 use Rattle.reading_grammar.specs.Fold.{keeps, good, bad}
@@ -74,18 +74,18 @@ module _ (s : List ℕ) (p : ℕ) (t : Steering) (a b : List ℤ) (l : p < lengt
   })
 
   module _ (h : t .depth < maxDepth) {u : Steering} (eu : u ≡ opened t) {r : Start} (j : Joined s (p + 1) r) where
-    goes-in : (i : ℕ) (f : Fields) → rest s p (seq plain) (memory t a b nothing i f) ≡ rest s (r .at) dot (memory u a b (pendingOf (r .joint)) i f)
+    goes-in : (i : ℕ) (f : Fields) → rest s p (seq plain) (memory t a b nothing i f) ≡ rest s (r .at) atomNext (memory u a b (pendingOf (r .joint)) i f)
     unfolding branchAct opened
     goes-in i f =
         rest-up s p (seq plain) (memory t a b nothing i f) (there s p) l (open-up (getD s p 0) e) {ν = memory (opened t) a b nothing i f}
         (open-act (getD s p 0) p (memory t a b nothing i f) e ∙ rw (lt-leb maxDepth (t .depth) h)) (add-one (t .depth))
-        ∙ j .is (opened t) a b i f ∙ ap (λ (v : Steering). rest s (r .at) dot (memory v a b (pendingOf (r .joint)) i f)) (sym eu)
+        ∙ j .is (opened t) a b i f ∙ ap (λ (v : Steering). rest s (r .at) atomNext (memory v a b (pendingOf (r .joint)) i f)) (sym eu)
 
     module _ {a′ b′ : List ℤ} {o : Went} (g : Sequenced s (r .at) (r .joint) u a b a′ b′ o) where
       pub branch-refused : {c : Refusal} {q : ℕ} → o .why ≡ Why.Refused c q → Branched s p t a b a′ b′ o
       branch-refused w = record {
         goes = subst⁻¹ (λ (z : Why). Goes s p (seq plain) nothing t a b z (o .at) (o .st) a′ b′) w
-            (λ i f. goes-in i f ∙ subst (λ (z : Why). Goes s (r .at) dot (pendingOf (r .joint)) u a b z (o .at) (o .st) a′ b′) w (g .goes) i f);
+            (λ i f. goes-in i f ∙ subst (λ (z : Why). Goes s (r .at) atomNext (pendingOf (r .joint)) u a b z (o .at) (o .st) a′ b′) w (g .goes) i f);
         past = subst⁻¹ (λ (z : Why). Past s p t z (o .at) (o .st)) w tt;
       }
 
@@ -98,7 +98,7 @@ module _ (s : List ℕ) (p : ℕ) (t : Steering) (a b : List ℤ) (l : p < lengt
         inner-deep = inner-past .deep ∙ ap (λ (v : Steering). v .depth) eu
 
         inner : (i : ℕ) (f : Fields) → Reaches s (rest s p (seq plain) (memory t a b nothing i f)) (o .at) (seq plain) nothing (o .st) a′ b′
-        inner i f = let y = subst (λ (z : Why). Goes s (r .at) dot (pendingOf (r .joint)) u a b z (o .at) (o .st) a′ b′) w (g .goes) i f in
+        inner i f = let y = subst (λ (z : Why). Goes s (r .at) atomNext (pendingOf (r .joint)) u a b z (o .at) (o .st) a′ b′) w (g .goes) i f in
             record { tens = y .tens; draft = y .draft; is = goes-in i f ∙ y .is }
 
         pub branch-closes : {c : ℕ} {v : Steering} → Peeked s (o .at) c → c ≡ 41 → v ≡ closed (o .st) → Branched s p t a b a′ b′ (record { why = Why.Fine; at = o .at + 1; st = v })

@@ -18,7 +18,7 @@ use Rattle.refusal.specs.declared.Refusal.{Refusal}
 use Rattle.refusal.specs.declared.Refusal.the-variants.{Short, LongText, Grammar, OpenBridge, NoMatching}
 use Rattle.valence.specs.Valence.{implied}
 use Rattle.reading_grammar.specs.declared.Last.the-variants.{Plain as plain}
-use Rattle.reading_grammar.specs.declared.Mode.the-variants.{Seq as seq, Dot as dot}
+use Rattle.reading_grammar.specs.declared.Mode.the-variants.{Seq as seq, AtomNext as atomNext}
 use Rattle.reading_grammar.specs.declared.State as machine
 use Rattle.reading_grammar.specs.declared.State.the-variants.{Start as start}
 use Rattle.reading_grammar.specs.Machine.{next, step, resting, accepting}
@@ -50,7 +50,7 @@ use Rattle.reader.proofs.Branches.{close-down}
 
 -- ---- the whole text
 -- before its first byte the machine stands as before an atom
-start-dot : (s : List ℕ) (a b : List ℤ) → 0 < length s → answerOf s a b ≡ rest s 0 dot (memory started a b nothing 0 blank)
+start-dot : (s : List ℕ) (a b : List ℤ) → 0 < length s → answerOf s a b ≡ rest s 0 atomNext (memory started a b nothing 0 blank)
 unfolding answer rest read feed act step next modeAct started
 start-dot [] a b h = absurd (omega arith)
 start-dot (x ∷ s) a b h = refl
@@ -82,13 +82,13 @@ module _ (s : List ℕ) (a b : List ℤ) (h : length s ≡ 0 → ⊥) {u : Steer
       split zero k = absurd (k refl)
       split (suc n) k = omega arith
 
-  begun-at : answerOf s a b ≡ rest s 0 dot (memory u a b nothing 0 blank)
-  begun-at = start-dot s a b positive ∙ ap (λ (v : Steering). rest s 0 dot (memory v a b nothing 0 blank)) (sym eu)
+  begun-at : answerOf s a b ≡ rest s 0 atomNext (memory u a b nothing 0 blank)
+  begun-at = start-dot s a b positive ∙ ap (λ (v : Steering). rest s 0 atomNext (memory v a b nothing 0 blank)) (sym eu)
 
   pub text-refused : {c : Refusal} {p : ℕ} → o .why ≡ Why.Refused c p → TextRead s a b a′ b′ o
   text-refused w = record {
     is = subst⁻¹ (λ (z : Why). TextGoes s a b a′ b′ z (o .st)) w
-        (begun-at ∙ subst (λ (z : Why). Goes s 0 dot nothing u a b z (o .at) (o .st) a′ b′) w (g .goes) 0 blank);
+        (begun-at ∙ subst (λ (z : Why). Goes s 0 atomNext nothing u a b z (o .at) (o .st) a′ b′) w (g .goes) 0 blank);
   }
 
   module _ (w : o .why ≡ Why.Fine) where
@@ -100,7 +100,7 @@ module _ (s : List ℕ) (a b : List ℤ) (h : length s ≡ 0 → ⊥) {u : Steer
     flat = past .deep ∙ ap (λ (v : Steering). v .depth) eu
 
     reached : (i : ℕ) × (f : Fields) × (answerOf s a b ≡ rest s (o .at) (seq plain) (memory (o .st) a′ b′ nothing i f))
-    reached = let y = subst (λ (z : Why). Goes s 0 dot nothing u a b z (o .at) (o .st) a′ b′) w (g .goes) 0 blank in (y .tens, y .draft, begun-at ∙ y .is)
+    reached = let y = subst (λ (z : Why). Goes s 0 atomNext nothing u a b z (o .at) (o .st) a′ b′) w (g .goes) 0 blank in (y .tens, y .draft, begun-at ∙ y .is)
 
     -- a `)` that closes nothing
     pub text-wrong : {x : Went} → o .at < length s → x ≡ refusedAt Grammar (o .at) (o .st) → TextRead s a b a′ b′ x

@@ -8,7 +8,7 @@ use lib.ListN.{length, getD}
 use lib.IntN.{ℤ}
 use Rattle.refusal.specs.declared.Refusal.{Refusal}
 use Rattle.reading_grammar.specs.declared.Last.the-variants.{Plain as plain}
-use Rattle.reading_grammar.specs.declared.Mode.the-variants.{Seq as seq, Dot as dot}
+use Rattle.reading_grammar.specs.declared.Mode.the-variants.{Seq as seq, AtomNext as atomNext}
 use Rattle.reading_grammar.specs.Fold.{Answer}
 use Rattle.reading_state.specs.State.{Steering}
 use Rattle.reading_state.specs.declared.Fields.{Fields}
@@ -34,7 +34,7 @@ Pauses s (Why.Refused r e) q = Unit {0}
 
 -- ---- what holds at each turn of the loop, in a sequence from p with the joint j in t with the tables a₀, b₀
 pub record Run (s : List ℕ) (p : ℕ) (j : Joint) (t : Steering) (a₀ b₀ : List ℤ) (o : Went) (a b : List ℤ) : Type 0 where
-  pub goes : Goes s p dot (pendingOf j) t a₀ b₀ (o .why) (o .at) (o .st) a b
+  pub goes : Goes s p atomNext (pendingOf j) t a₀ b₀ (o .why) (o .at) (o .st) a b
   pub past : Past s p t (o .why) (o .at) (o .st)
   pub pauses : Pauses s (o .why) (o .at)
   pub long-a : length a ≡ length a₀
@@ -46,7 +46,7 @@ Runs s o₀ a₁ b₁ o a b = (p : ℕ) (j : Joint) (t : Steering) (a₀ b₀ : 
 
 module _ {s : List ℕ} {p : ℕ} {j : Joint} {t : Steering} {a₀ b₀ : List ℤ} where
   -- a chain was read after a part of the sequence that ended in u
-  run-chain : {q : ℕ} {k : Joint} {f : Bool} {u : Steering} {a b a′ b′ : List ℤ} {o : Went} → ((i : ℕ) (d : Fields) → Reaches s (rest s p dot (memory t a₀ b₀ (pendingOf j) i d)) q (startMode f) (startPending f k) u a b)
+  run-chain : {q : ℕ} {k : Joint} {f : Bool} {u : Steering} {a b a′ b′ : List ℤ} {o : Went} → ((i : ℕ) (d : Fields) → Reaches s (rest s p atomNext (memory t a₀ b₀ (pendingOf j) i d)) q (startMode f) (startPending f k) u a b)
       → ((z : Why) → ChainEnds s q f u z (o .at) (o .st) → Past s p t z (o .at) (o .st)) → Chained s q k f u a b a′ b′ o → length a′ ≡ length a₀ → length b′ ≡ length b₀ → Run s p j t a₀ b₀ o a′ b′
   run-chain {q = q} {f = f} {u = u} {a′ = a′} {b′ = b′} {o = o} h past g la lb = record {
     goes = λ i d. let y = h i d in subst⁻¹ (λ (x : Answer Memory). GoesOn s x (o .why) (o .at) (o .st) a′ b′) (y .is) (g .goes (y .tens) (y .draft));
@@ -76,8 +76,8 @@ module _ {s : List ℕ} {p : ℕ} {j : Joint} {t : Steering} {a₀ b₀ : List �
       pub run-past : PastFine s p t (o .at) (o .st)
       run-past = subst (λ (z : Why). Past s p t z (o .at) (o .st)) w (v .past)
 
-      run-goes : Goes s p dot (pendingOf j) t a₀ b₀ Why.Fine (o .at) (o .st) a b
-      run-goes = subst (λ (z : Why). Goes s p dot (pendingOf j) t a₀ b₀ z (o .at) (o .st) a b) w (v .goes)
+      run-goes : Goes s p atomNext (pendingOf j) t a₀ b₀ Why.Fine (o .at) (o .st) a b
+      run-goes = subst (λ (z : Why). Goes s p atomNext (pendingOf j) t a₀ b₀ z (o .at) (o .st) a b) w (v .goes)
 
       -- no branch comes next
       pub sequence-ends : {c : ℕ} → Peeked s (o .at) c → (c ≡ 40 → ⊥) → Sequenced s p j t a₀ b₀ a b o
@@ -91,7 +91,7 @@ module _ {s : List ℕ} {p : ℕ} {j : Joint} {t : Steering} {a₀ b₀ : List �
       module _ {x : Went} {a₁ b₁ : List ℤ} (g : Branched s (o .at) (o .st) a b a₁ b₁ x) where
         pub sequence-stuck : {c : Refusal} {e : ℕ} → x .why ≡ Why.Refused c e → Sequenced s p j t a₀ b₀ a₁ b₁ x
         sequence-stuck n = record {
-          goes = subst⁻¹ (λ (z : Why). Goes s p dot (pendingOf j) t a₀ b₀ z (x .at) (x .st) a₁ b₁) n
+          goes = subst⁻¹ (λ (z : Why). Goes s p atomNext (pendingOf j) t a₀ b₀ z (x .at) (x .st) a₁ b₁) n
               (λ i f. let y = run-goes i f in y .is ∙ subst (λ (z : Why). Goes s (o .at) (seq plain) nothing (o .st) a b z (x .at) (x .st) a₁ b₁) n (g .goes) (y .tens) (y .draft));
           past = subst⁻¹ (λ (z : Why). Past s p t z (x .at) (x .st)) n tt;
           stops = subst⁻¹ (λ (z : Why). Stops s z (x .at)) n tt;
@@ -106,7 +106,7 @@ module _ {s : List ℕ} {p : ℕ} {j : Joint} {t : Steering} {a₀ b₀ : List �
             pub run-branch : length a′ ≡ length a₀ → length b′ ≡ length b₀ → Run s p j t a₀ b₀ y a′ b′
             run-branch la lb = run-chain reached by k la lb
               where
-                reached : (i : ℕ) (f : Fields) → Reaches s (rest s p dot (memory t a₀ b₀ (pendingOf j) i f)) (x .at) (seq plain) nothing (x .st) a₁ b₁
+                reached : (i : ℕ) (f : Fields) → Reaches s (rest s p atomNext (memory t a₀ b₀ (pendingOf j) i f)) (x .at) (seq plain) nothing (x .st) a₁ b₁
                 reached i f = let m = run-goes i f in let c = subst (λ (z : Why). Goes s (o .at) (seq plain) nothing (o .st) a b z (x .at) (x .st) a₁ b₁) n (g .goes) (m .tens) (m .draft) in
                     record { tens = c .tens; draft = c .draft; is = m .is ∙ c .is }
 

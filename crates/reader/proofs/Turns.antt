@@ -11,7 +11,7 @@ use Rattle.refusal.specs.declared.Refusal.the-variants.{Grammar}
 use Rattle.refusal.specs.Code.{codeOf}
 use Rattle.reading_grammar.specs.declared.Last.the-variants.{Plain as plain}
 use Rattle.reading_grammar.specs.declared.Mode.{Mode}
-use Rattle.reading_grammar.specs.declared.Mode.the-variants.{Seq as seq, Dot as dot}
+use Rattle.reading_grammar.specs.declared.Mode.the-variants.{Seq as seq, AtomNext as atomNext}
 use Rattle.reading_grammar.specs.Fold.{Answer, bad}
 use Rattle.table.specs.Limits.{maxAtoms}
 use Rattle.reading_state.specs.State.{Steering, steering}
@@ -40,7 +40,7 @@ fair-bridge g = record { atoms = g .atoms; bonds = g .bonds; depth = g .depth; h
 
 -- the machine rests only where it is not fresh
 resting-older : (f : Bool) → startMode f ≡ seq plain → f ≡ false
-resting-older true e = let z : _≡_ {A = Mode} dot (seq plain) = e in cc
+resting-older true e = let z : _≡_ {A = Mode} atomNext (seq plain) = e in cc
 resting-older false e = refl
 
 -- a reading that reached p rests there
@@ -85,7 +85,7 @@ module _ {s : List ℕ} {j : Joint} {p₀ : ℕ} {f₀ : Bool} {t : Steering} {a
       atom-seen : SeenAtom s p (startMode f) (startPending f j) k q
       atom-seen = subst (Seen s p (startMode f) (startPending f j)) e h
 
-      atom-stands : (i : ℕ) (d : Fields) → Reaches s (begun s j p₀ f₀ t a₀ b₀ i d) q dot (pendingOf k) u a b
+      atom-stands : (i : ℕ) (d : Fields) → Reaches s (begun s j p₀ f₀ t a₀ b₀ i d) q atomNext (pendingOf k) u a b
       atom-stands i d = let y = v .stands i d in record { tens = y .tens; draft = y .draft; is = y .is ∙ atom-seen .is u a b (y .tens) (y .draft) }
 
       pub atom-lies : q ≤ length s

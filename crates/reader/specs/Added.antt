@@ -13,7 +13,7 @@ use Rattle.refusal.specs.declared.Refusal.the-variants.{ManyAtoms, ManyBonds}
 use Rattle.refusal.specs.Code.{codeOf}
 use Rattle.reading_grammar.specs.declared.Last.the-variants.{Plain as plain}
 use Rattle.reading_grammar.specs.declared.Mode.{Mode}
-use Rattle.reading_grammar.specs.declared.Mode.the-variants.{Seq as seq, Dot as dot}
+use Rattle.reading_grammar.specs.declared.Mode.the-variants.{Seq as seq, AtomNext as atomNext}
 use Rattle.reading_grammar.specs.Fold.{Answer, bad}
 use Rattle.table.specs.Limits.{maxAtoms, maxBonds}
 use Rattle.reading_state.specs.State.{Steering}
@@ -48,10 +48,10 @@ pub record AddsAtom (s : List ℕ) (at : ℕ) (j : Joint) (hub : AtomId) (n m : 
   pub later : at < p
   pub atoms : n < maxAtoms
   pub bonds : m ≤ maxBonds → l ≤ maxBonds
-  pub is : (t : Steering) → Counts t hub n m → (i : ℕ) (f : Fields) → Reaches s (rest s at dot (memory t a b (pendingOf j) i f)) p (seq plain) nothing (withNextAtom t o l) a′ b′
+  pub is : (t : Steering) → Counts t hub n m → (i : ℕ) (f : Fields) → Reaches s (rest s at atomNext (memory t a b (pendingOf j) i f)) p (seq plain) nothing (withNextAtom t o l) a′ b′
 
 pub record AddsNot (s : List ℕ) (at : ℕ) (j : Joint) (hub : AtomId) (n m : ℕ) (a b : List ℤ) (r : Refusal) (p : ℕ) : Type 0 where
-  pub is : (t : Steering) → Counts t hub n m → (i : ℕ) (f : Fields) → rest s at dot (memory t a b (pendingOf j) i f) ≡ bad (codeOf r) p
+  pub is : (t : Steering) → Counts t hub n m → (i : ℕ) (f : Fields) → rest s at atomNext (memory t a b (pendingOf j) i f) ≡ bad (codeOf r) p
 
 abbrev pub Adds : List ℕ → ℕ → Joint → AtomId → ℕ → ℕ → List ℤ → List ℤ → List ℤ → List ℤ → Added → Type 0
 Adds s at j hub n m a b a′ b′ (Added.Atom o l p) = AddsAtom s at j hub n m a b a′ b′ o l p

@@ -17,7 +17,7 @@ use Rattle.reading_grammar.specs.Grammar.{nonzero, digits, several, bondSymbols
 use Rattle.reading_grammar.specs.declared.Last.{Last}
 use Rattle.reading_grammar.specs.declared.Last.the-variants.{Plain as plain, AfterC as afterC, AfterB as afterB}
 use Rattle.reading_grammar.specs.declared.Mode.{Mode}
-use Rattle.reading_grammar.specs.declared.Mode.the-variants.{Seq as seq, Bond as bond, Dot as dot, Inside as inside, Percent as percent, Percent1 as percent1, LetterA as letterA, LetterT as letterT, Bracket as bracket, Isotope as isotope, Symbol1 as symbol1, Symbolled as symbolled, Hydrogen as hydrogen, Hydrogens as hydrogens, Sign as sign, Charged as charged, Colon as colon, Extension as extension}
+use Rattle.reading_grammar.specs.declared.Mode.the-variants.{Seq as seq, Bond as bond, AtomNext as atomNext, Inside as inside, Percent as percent, Percent1 as percent1, LetterA as letterA, LetterT as letterT, Bracket as bracket, Isotope as isotope, Symbol1 as symbol1, Symbolled as symbolled, Hydrogen as hydrogen, Hydrogens as hydrogens, Sign as sign, Charged as charged, Colon as colon, Extension as extension}
 use Rattle.reading_grammar.specs.declared.Out.{Out}
 use Rattle.reading_grammar.specs.declared.Out.the-variants.{Stop as stop}
 use Rattle.reading_grammar.specs.declared.State.{State}
@@ -145,7 +145,7 @@ module _ (d b i : ℕ) (μ : Memory) where
       by-test (Explained (at (seq x) d) b i μ) (eqb b 40) (branchAct i μ) _ (λ e. branch-why (at (seq x) d) b i μ (eqb-true b 40 e)) (λ e5.
       by-test (Explained (at (seq x) d) b i μ) (eqb b 41) _ (letterAct x μ) (λ e. tt) (λ e6. goes-why (at (seq x) d) b i μ x)))))))
   mode-why bond = first-why (at bond d) b i μ _ (by-test (Explained (at bond d) b i μ) (among b nonzero) (bridgeAct (digit b) i μ) _ (digit-why (at bond d)) (λ e. tt))
-  mode-why dot = atom-why (at dot d) b i μ (atom-only b d)
+  mode-why atomNext = atom-why (at atomNext d) b i μ (atom-only b d)
   mode-why inside = first-why (at inside d) b i μ (jointAct b μ) tt
   mode-why percent = tt
   mode-why percent1 = bridge-why (at percent1 d) b i μ (10 * μ .tens + digit b) (i - 2) Completes.by-percent

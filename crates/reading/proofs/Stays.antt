@@ -18,7 +18,7 @@ use Rattle.reading_grammar.specs.Grammar.{digits, several, signs}
 use Rattle.reading_grammar.specs.declared.Last.{Last}
 use Rattle.reading_grammar.specs.declared.Last.the-variants.{Plain as plain, AfterC as afterC, AfterB as afterB}
 use Rattle.reading_grammar.specs.declared.Mode.{Mode}
-use Rattle.reading_grammar.specs.declared.Mode.the-variants.{Seq as seq, Bond as bond, Dot as dot, Inside as inside, Percent as percent, Percent1 as percent1, LetterA as letterA, LetterT as letterT, Bracket as bracket, Isotope as isotope, Symbol1 as symbol1, Symbolled as symbolled, Hydrogen as hydrogen, Hydrogens as hydrogens, Sign as sign, Charged as charged, Colon as colon, Extension as extension}
+use Rattle.reading_grammar.specs.declared.Mode.the-variants.{Seq as seq, Bond as bond, AtomNext as atomNext, Inside as inside, Percent as percent, Percent1 as percent1, LetterA as letterA, LetterT as letterT, Bracket as bracket, Isotope as isotope, Symbol1 as symbol1, Symbolled as symbolled, Hydrogen as hydrogen, Hydrogens as hydrogens, Sign as sign, Charged as charged, Colon as colon, Extension as extension}
 use Rattle.reading_grammar.specs.declared.Out.{Out}
 use Rattle.reading_grammar.specs.declared.State.{State}
 use Rattle.reading_grammar.specs.declared.State.the-variants.{Dead as dead, Start as start, At as at}
@@ -55,7 +55,7 @@ writing (seq plain) = no-row
 writing (seq afterC) = half-letter
 writing (seq afterB) = half-letter
 writing bond = no-row
-writing dot = no-row
+writing atomNext = no-row
 writing inside = no-row
 writing percent = no-row
 writing percent1 = no-row
@@ -248,7 +248,7 @@ module _ {p q d i n k : ℕ} {μ : Memory} (h : Held p q d i μ) (na : n ≤ μ 
         atom = λ o w. atom-left (ready h) na kb b w;
         bridge = λ r o hr ho. bridge-left r o;
         symbol = quiet bond d refl _ refl refl refl refl refl;
-        joint = quiet dot d refl _ refl refl refl refl refl;
+        joint = quiet atomNext d refl _ refl refl refl refl refl;
         branch = branch-left;
         unbranch = down-left;
         sign = quiet percent d refl μ refl refl refl refl refl;
@@ -281,7 +281,7 @@ module _ (n k : ℕ) {p q i : ℕ} {μ : Memory} where
   unfolding next modeAct
   mode-left (seq x) w c kb b v = seq-left (held-of w) (c .0) kb x b (half x b n μ (c .1)) v
   mode-left bond {d} w c kb b v = in-bond (LeftAct n k μ) d i μ b (outside (held-of w) (c .0) kb b) v
-  mode-left dot {d} w c kb b v = only-atom (LeftAct n k μ) d i μ b (outside (held-of w) (c .0) kb b .atom) v
+  mode-left atomNext {d} w c kb b v = only-atom (LeftAct n k μ) d i μ b (outside (held-of w) (c .0) kb b .atom) v
   mode-left inside {d} w c kb b v = in-branch (LeftAct n k μ) d i μ b (outside (held-of w) (c .0) kb b) v
   mode-left percent {d} w c kb b v = in-percent (LeftAct n k μ) d i μ b (outside (held-of w) (c .0) kb b) v
   mode-left percent1 {d} w c kb b v = in-percent1 (LeftAct n k μ) d i μ b (outside (held-of w) (c .0) kb b) (w .stands .half .1) v

@@ -13,7 +13,7 @@ use Rattle.reading_grammar.specs.Grammar.{nonzero, digits, several, bondSymbols
 use Rattle.reading_grammar.specs.declared.Last.{Last}
 use Rattle.reading_grammar.specs.declared.Last.the-variants.{Plain as plain, AfterC as afterC, AfterB as afterB}
 use Rattle.reading_grammar.specs.declared.Mode.{Mode}
-use Rattle.reading_grammar.specs.declared.Mode.the-variants.{Seq as seq, Bond as bond, Dot as dot, Inside as inside, Percent as percent, Percent1 as percent1, LetterA as letterA, LetterT as letterT, Bracket as bracket, Isotope as isotope, Symbol1 as symbol1, Symbolled as symbolled, Hydrogen as hydrogen, Hydrogens as hydrogens, Sign as sign, Charged as charged, Colon as colon, Extension as extension}
+use Rattle.reading_grammar.specs.declared.Mode.the-variants.{Seq as seq, Bond as bond, AtomNext as atomNext, Inside as inside, Percent as percent, Percent1 as percent1, LetterA as letterA, LetterT as letterT, Bracket as bracket, Isotope as isotope, Symbol1 as symbol1, Symbolled as symbolled, Hydrogen as hydrogen, Hydrogens as hydrogens, Sign as sign, Charged as charged, Colon as colon, Extension as extension}
 use Rattle.reading_grammar.specs.declared.State.{State}
 use Rattle.reading_grammar.specs.declared.State.the-variants.{Dead as dead, Start as start, At as at}
 use Rattle.reading_grammar.specs.Fold.{Act, keeps, refuses}
@@ -116,7 +116,7 @@ modeAct (seq x) b i μ =
     (pick (eqb b 46) (jointAct b μ)
     (pick (eqb b 40) (branchAct i μ) (pick (eqb b 41) (keeps (moved (closed (μ .st)) μ)) (letterAct x μ)))))))
 modeAct bond b i μ = orAtom (letterOf b) (atomAct b i μ) (pick (among b nonzero) (bridgeAct (digit b) i μ) (keeps μ))
-modeAct dot b i μ = atomAct b i μ
+modeAct atomNext b i μ = atomAct b i μ
 modeAct inside b i μ = orAtom (letterOf b) (atomAct b i μ) (jointAct b μ)
 modeAct percent b i μ = keeps (counting (digit b) μ)
 modeAct percent1 b i μ = bridgeAct (10 * μ .tens + digit b) (i - 2) μ

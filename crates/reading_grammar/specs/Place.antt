@@ -6,7 +6,7 @@ use Prim.Native.Nat.{ℕ, zero, suc, _≤_, _<_}
 use lib.Dec.{eqb}
 use lib.ListN.{length, take, replicate}
 use Rattle.reading_grammar.specs.Grammar.{pick, symbols, Text}
-use Rattle.reading_grammar.specs.Machine.{Mode, seq, bond, dot, inside, percent, percent1, letterA, letterT, bracket, isotope, symbol1, symbolled, hydrogen, hydrogens, sign, charged, colon, extension, State, dead, start, at}
+use Rattle.reading_grammar.specs.Machine.{Mode, seq, bond, atomNext, inside, percent, percent1, letterA, letterT, bracket, isotope, symbol1, symbolled, hydrogen, hydrogens, sign, charged, colon, extension, State, dead, start, at}
 
 -- some text begins with these bytes
 abbrev pub Viable : List ℕ → Type 0
@@ -29,7 +29,7 @@ restOf a ((b ∷ t) ∷ l) = pick (eqb a b) t (restOf a l)
 unfoldable pub fill : Mode → List ℕ
 fill (seq x) = []
 fill bond = 67 ∷ []
-fill dot = 67 ∷ []
+fill atomNext = 67 ∷ []
 fill inside = 67 ∷ []
 fill percent = 49 ∷ 48 ∷ []
 fill percent1 = 48 ∷ []

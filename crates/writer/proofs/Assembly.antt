@@ -26,11 +26,11 @@ use Rattle.writing_walk.proofs.Whole.{inv-start}
 use Rattle.writing_walk.proofs.Trip.{renumbering, place-lt, size-length, back-of}
 use Rattle.writing_walk.proofs.Twice.{Distinct}
 use Rattle.writing_walk.proofs.Rows.{rows-text}
-use Rattle.writing.specs.Spell.{atomBytes, unbracketed, tokensBytes}
+use Rattle.writing.specs.Spell.{atomBytes, tokensBytes, spelledAtom}
 use Rattle.writing.specs.Write.{walkBond, bondList, tokens, textOf, fewBridges}
 use Rattle.buffer.specs.Pen.{Pen}
 use Rattle.buffer.proofs.Laws.{as-is}
-use Rattle.writing_atoms.specs.Fields.{AtomFits, outside, spelledAtom}
+use Rattle.writing_atoms.specs.Fields.{AtomFits}
 use Rattle.writing_visit.specs.Visit.{BondsFit, Room, Kept, Walked}
 use Rattle.writing_visit.specs.Wires.{wires, Wired}
 use Rattle.writing_visit.proofs.Ways.{bonds-inside}
@@ -111,8 +111,7 @@ module _ {atoms bonds : List ℤ} {n m : ℕ} (v : Valid atoms bonds n m) where
 
 -- an atom's bytes, with its bond sum
 spelled-is : (atoms bonds : List ℤ) (m a s : ℕ) → s ≡ bondSum bonds m a → spelledAtom atoms a s ≡ atomBytes atoms bonds m a
-unfolding spelledAtom outside atomBytes unbracketed
-spelled-is atoms bonds m a s e = rw e
+spelled-is atoms bonds m a s e = ap (spelledAtom atoms a) e
 
 same-atoms : (G : Forest) → relabel (λ a. a) G ≡ G
 same-atoms leaf = refl

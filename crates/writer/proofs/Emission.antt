@@ -17,10 +17,9 @@ use Rattle.writing_walk.proofs.Count.{count, All, none, more}
 use Rattle.writing_walk.proofs.Read.{openOf, Within, pending, Back, closes-within, inv-rings}
 use Rattle.writing_walk.proofs.Walk.{Inside}
 use Rattle.writing_walk.proofs.Trip.{back-of}
-use Rattle.writing.specs.Spell.{kindBytes}
+use Rattle.writing.specs.Spell.{kindBytes, spelledAtom}
 use Rattle.buffer.specs.Pen.{Pen, pen, Wrote}
 use Rattle.buffer.proofs.Laws.{also, as-is, nothing}
-use Rattle.writing_atoms.specs.Fields.{spelledAtom}
 use Rattle.writing_bridges.specs.Slots.{Bridged, Slots, closesFrom, opensFrom, fits, Ended}
 use Rattle.writer.specs.Emit.{leaveBytes, enterBytes, leadBytes, headBytes, moreAt, Emitted, Texted, Pending, nextSlots, bytesFrom, fewFrom}
 
