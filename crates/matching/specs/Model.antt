@@ -1,4 +1,4 @@
--- Matchings as a search meets them. Bonds stand in three tables: first ends, second ends, and 1 for an elided bond.
+-- auxiliary: matchings as a search meets them, for the contracts of the engines. Bonds stand in three tables: first ends, second ends, and 1 for an elided bond.
 -- need has a 1 for each delocalized atom that has no partner yet.
 use mathlib.Core.Path.{_≡_}
 use mathlib.Core.Bool.{Bool, true, false, _&&_}

@@ -1,4 +1,4 @@
--- What the contracts of the search under a budget ask and promise
+-- auxiliary: what the contracts of the search under a budget ask and promise
 use mathlib.Core.Path.{_≡_}
 use mathlib.Core.Bool.{true, false}
 use mathlib.Core.List.{List, [], _∷_, map}

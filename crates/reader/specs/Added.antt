@@ -1,4 +1,4 @@
--- What adding an atom promises
+-- auxiliary: what adding an atom promises
 use Prim.Native.Nat.{ℕ, _≤_, _<_}
 use mathlib.Core.Path.{_≡_}
 use mathlib.Core.List.{List}

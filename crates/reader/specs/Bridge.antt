@@ -1,4 +1,4 @@
--- What a bridge promises
+-- auxiliary: what a bridge promises
 use Prim.Native.Nat.{ℕ}
 use mathlib.Core.Path.{_≡_}
 use mathlib.Core.List.{List}

@@ -1,4 +1,4 @@
--- What reading a chain promises: atoms and bridges up to a branch or the end of the sequence
+-- auxiliary: what reading a chain promises: atoms and bridges up to a branch or the end of the sequence
 use Prim.Native.Nat.{ℕ, _≤_, _<_}
 use mathlib.Core.Path.{_≡_}
 use mathlib.Core.Bool.{Bool, true}

@@ -1,4 +1,4 @@
--- What reading a sequence and a branch promises: the work that remained at the start is the work that remains at the end
+-- auxiliary: what reading a sequence and a branch promises: the work that remained at the start is the work that remains at the end
 use Prim.Native.Nat.{ℕ, _+_, _≤_, _<_}
 use mathlib.Core.Path.{_≡_}
 use mathlib.Core.List.{List}

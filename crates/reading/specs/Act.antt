@@ -1,4 +1,4 @@
--- What a byte does beside the grammar: 01, "The text", and the refusals 4 to 9 of "When a call says no". The grammar was asked first
+-- 01, The text, and the refusals 4 to 9 of "When a call says no": what a byte does beside the grammar, which was asked first
 use Prim.Native.Nat.{ℕ, zero, suc, _+_, _-_, _*_}
 use mathlib.Core.Bool.{Bool, true, false, _&&_, not}
 use mathlib.Core.List.{List, [], _∷_}

@@ -1,4 +1,4 @@
--- What a reading remembers beside the grammar, and how atoms, bonds and branches change it
+-- 01, The text: what a reading remembers beside the grammar, and how atoms, bonds and branches change it
 use Prim.Native.Nat.{ℕ, zero, suc, _+_, _-_, _*_}
 use mathlib.Core.Bool.{Bool, true, false, _&&_, _||_, not}
 use mathlib.Core.List.{List, [], _∷_}

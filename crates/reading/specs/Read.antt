@@ -1,4 +1,4 @@
--- 01: reading a text into two tables: the refusals 1 to 11 in the stated order, and what every answer leaves behind
+-- 01, When a call says no: reading a text into two tables: the refusals 1 to 11 in the stated order, and what every answer leaves behind
 use Prim.Native.Nat.{ℕ, zero, suc, _+_}
 use mathlib.Core.Bool.{Bool, true, false, _&&_, not}
 use mathlib.Core.List.{List, [], _∷_}

@@ -1,4 +1,4 @@
--- What reading an atom's spelling promises: the reading goes on after it, with the atom begun and described
+-- auxiliary: what reading an atom's spelling promises: the reading goes on after it, with the atom begun and described
 use Prim.Native.Nat.{ℕ, _≤_, _<_}
 use mathlib.Core.Path.{_≡_}
 use mathlib.Core.List.{List}

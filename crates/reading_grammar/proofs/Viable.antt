@@ -11,7 +11,8 @@ use lib.ListN.{length, take, drop, replicate, take-append-drop}
 use borrow.Author.Tests.{eqb-true, eq-eqb}
 use Rattle.reading_grammar.specs.Grammar.{starts, pick, among, listed, sameBytes, nonzero, digits, several, bondSymbols, signs, letters, marks, symbols, Hydrogens, Charge, Extension, Text}
 use Rattle.reading_grammar.specs.Machine.{Last, plain, afterC, afterB, Mode, seq, bond, atomNext, inside, percent, percent1, letterA, letterT, bracket, isotope, symbol1, symbolled, hydrogen, hydrogens, sign, charged, colon, extension, Out, stop, to, up, down, State, dead, start, at, lastOf, goesOn, atomOr, bridgeOr, closing, extending, charging, hydrating, symbolOr, next, turn, step, run, resting, accepting, alive, reach, Verdict, fine, refused, verdict}
-use Rattle.reading_grammar.specs.Place.{Viable, Place, restOf, fill, completion}
+use Rattle.reading_grammar.specs.Place.{Viable, Place}
+use Rattle.reading_grammar.specs.Completion.{restOf, fill, completion}
 use Rattle.reading_grammar.proofs.Ends.{EndExtension, EndCharge, EndHydrogens, never, run-append, run-dead}
 use Rattle.reading_grammar.proofs.Complete.{Runs, Goes, Reaches, via, stay, along, onward, one-down, takes-element, takes-bracket, on-element, complete}
 use Rattle.reading_grammar.proofs.Sound.{sound}

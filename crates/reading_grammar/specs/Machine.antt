@@ -1,4 +1,4 @@
--- A machine that reads a text byte by byte, by the grammar alone.
+-- 01, The text: a machine that reads a text byte by byte, by the grammar alone (it accepts exactly the texts of the grammar, a theorem)
 use mathlib.Core.Path.{_≡_, refl}
 use mathlib.Core.Bool.{Bool, true, false}
 use mathlib.Core.List.{List, [], _∷_, _++_}

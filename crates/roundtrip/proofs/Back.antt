@@ -19,7 +19,8 @@ use Rattle.table.proofs.Valid.{AtomFine, atom-row, range-pos, Enough}
 use Rattle.ids.specs.Limits.{maxText, maxDepth, bridges}
 use Rattle.reading.specs.Memory.{Memory}
 use Rattle.reading.specs.Read.{hydrogenated, leftmost, refused, placed, ended, finished, readFrom}
-use Rattle.writing_walk.specs.Token.{Bond, Tok, apart, along, ring, branch, back, St, st, startTokens}
+use Rattle.writing_walk.specs.Token.{Bond, Tok, apart, along, ring, branch, back}
+use Rattle.writing_walk.specs.Reading.{St, st, startTokens}
 use Rattle.writing_walk.specs.Emit.{pre}
 use Rattle.writing_walk.specs.Walk.{forestOf, place, renumber, renumbered}
 use Rattle.writing_walk.specs.Check.{fine, reading}

@@ -16,7 +16,7 @@ use Rattle.table.specs.Limits.{atomCells, ELEMENT, SELECTED, HYDROGENS}
 use Rattle.table.specs.Cells.{atomPlace, atomCell, element, selected}
 use Rattle.ids.specs.Limits.{maxText, bridges}
 use Rattle.reading.specs.Read.{hydrogenate, hydrogenated, earlier, leftmost}
-use Rattle.writing_walk.specs.Token.{Closure, vacant, at, closureAt, shut}
+use Rattle.writing_walk.specs.Reading.{Closure, vacant, at, closureAt, shut}
 use Rattle.roundtrip.proofs.Held.{openerOf, Bridging}
 
 -- ---- bridges

@@ -16,7 +16,8 @@ use Rattle.table.specs.Cells.{atomPlace, bondPlace, atomCell, bondCell}
 use Rattle.table.specs.Rows.{withAtom, withBond}
 use Rattle.ids.specs.Limits.{maxDepth, bridges}
 use Rattle.reading.specs.Memory.{newBond}
-use Rattle.writing_walk.specs.Token.{Bond, bond, Closure, vacant, at, closureAt, setClosure}
+use Rattle.writing_walk.specs.Token.{Bond, bond}
+use Rattle.writing_walk.specs.Reading.{Closure, vacant, at, closureAt, setClosure}
 use Rattle.writing_walk.proofs.Count.{All, none, more, all-append}
 use Rattle.roundtrip.proofs.Cells.{sets-before, sets-after, sets-in, atomCellsOf, bondCellsOf, with-atom, with-bond}
 

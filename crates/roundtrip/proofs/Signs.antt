@@ -27,7 +27,7 @@ use Rattle.ids.specs.Limits.{bridges}
 use Rattle.reading.specs.Memory.{Memory, Pending, nothing, dotted, symbol, symbolKind, kindOf, afterDot, awaiting, counting}
 use Rattle.reading.specs.Bracket.{digit}
 use Rattle.reading.specs.Act.{act, modeAct, bridgeAct}
-use Rattle.writing_walk.specs.Token.{St}
+use Rattle.writing_walk.specs.Reading.{St}
 use Rattle.writing.specs.Spell.{digitByte, decimal, kindBytes, bridgeBytes}
 use Rattle.roundtrip.proofs.Feed.{Takes, stays, joins, byte}
 use Rattle.roundtrip.proofs.Decimal.{digit-of, is-digit, is-nonzero, two}

@@ -20,8 +20,9 @@ use Rattle.reading_state.specs.State.{opened, closed, bridged, joined}
 use Rattle.reading.specs.Memory.{Memory, nothing, kindOf, between, bonded, begun, described, drafted, moved, awaiting, counting, joins, joinedAlready, closeRefusal}
 use Rattle.reading.specs.Memory as bytes
 use Rattle.reading.specs.Act.{bridgeBond, bridgeAct}
-use Rattle.writing_walk.specs.Token.{Bond, bond, Closure, vacant, at, closureAt, setClosure, meet, St, st, bridge}
-use Rattle.writing_walk.specs.Token as token
+use Rattle.writing_walk.specs.Token.{Bond, bond}
+use Rattle.writing_walk.specs.Reading.{Closure, vacant, at, closureAt, setClosure, meet, St, st, bridge}
+use Rattle.writing_walk.specs.Reading as token
 use Rattle.writing_walk.specs.Check.{ends, some, clash, refusedBridge}
 use Rattle.writing_walk.proofs.Count.{All, more, all-map, all-at}
 use Rattle.roundtrip.proofs.Held.{openerOf, symbolOf, Bridging, bridging-set, Branching, branching-push, branching-pop, AtomTable, atom-add, nobond, rowOfBond, BondTable, bond-add}

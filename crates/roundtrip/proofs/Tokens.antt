@@ -23,8 +23,9 @@ use Rattle.ids.specs.Limits.{maxDepth, bridges}
 use Rattle.reading_state.specs.State.{opened, closed}
 use Rattle.reading.specs.Memory.{Memory, nothing, dotted, kindOf, bonded, begun, moved, awaiting, counting}
 use Rattle.reading.specs.Act.{act, modeAct, branchAct}
-use Rattle.writing_walk.specs.Token.{Bond, Tok, apart, along, ring, branch, back, Closure, closureAt, St, st, bridge}
-use Rattle.writing_walk.specs.Token as token
+use Rattle.writing_walk.specs.Token.{Bond, Tok, apart, along, ring, branch, back}
+use Rattle.writing_walk.specs.Reading.{Closure, closureAt, St, st, bridge}
+use Rattle.writing_walk.specs.Reading as token
 use Rattle.writing_walk.specs.Check.{refusedBridge}
 use Rattle.writing.specs.Spell.{atomBytes, kindBytes, bridgeBytes}
 use Rattle.roundtrip.proofs.Feed.{Takes, stays, joins, byte}

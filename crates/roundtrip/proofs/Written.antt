@@ -20,8 +20,9 @@ use Rattle.ids.specs.Limits.{maxDepth, bridges}
 use Rattle.reading_state.specs.State.{started}
 use Rattle.reading.specs.Memory.{Memory, nothing}
 use Rattle.reading.specs.Read.{zeros, beginning}
-use Rattle.writing_walk.specs.Token.{Tok, apart, along, ring, branch, back, Closure, closureAt, St, st, startTokens}
-use Rattle.writing_walk.specs.Token as token
+use Rattle.writing_walk.specs.Token.{Tok, apart, along, ring, branch, back}
+use Rattle.writing_walk.specs.Reading.{Closure, closureAt, St, st, startTokens}
+use Rattle.writing_walk.specs.Reading as token
 use Rattle.writing_walk.specs.Check.{refusal, fine, orNumber, reading, grammar, acceptedTokens}
 use Rattle.writing_walk.proofs.Count.{All, none, more}
 use Rattle.writing.specs.Spell.{atomBytes, tokenBytes, restBytes, tokensBytes}

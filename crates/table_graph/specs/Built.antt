@@ -1,4 +1,4 @@
--- What the buffers hold that the graph of a molecule is built in
+-- auxiliary: what the buffers hold that the graph of a molecule is built in
 use Prim.Native.Nat.{ℕ, _+_, _<_, _≤_}
 use mathlib.Core.Path.{_≡_}
 use mathlib.Core.List.{List}

@@ -19,7 +19,8 @@ use Rattle.ids.specs.Limits.{maxDepth}
 use Rattle.writing_walk.specs.Token.{Bond, Tok}
 use Rattle.writing_walk.specs.Emit.{Forest, leaf, node, size, pre, Slot, text, closeAll}
 use Rattle.writing_walk.specs.Walk.{forestOf, member, relabel, closingBonds, openingBonds, unused, write}
-use Rattle.writing_walk.specs.Check.{ends, nests}
+use Rattle.writing_walk.specs.Check.{ends}
+use Rattle.writing_walk.specs.Depth.{nests}
 use Rattle.writing_walk.specs.Flat.{kinds, ups, flat, rowsOf}
 use Rattle.writing_walk.proofs.Count.{bit, count, All, none, more, all-append, and-left, and-right}
 use Rattle.writing_walk.proofs.Whole.{inv-start}
@@ -221,7 +222,7 @@ module _ {atoms bonds : List ℤ} {n m : ℕ} (v : Valid atoms bonds n m) {o w u
       ap (tokensBytes g) tok ∙ text-bytes ws ks us n lw lk lu f k br g n [] refl (λ h. first-root G) ∙ sym (bytes-same (headBytes atoms o u kd last sums) (headAt ws ks us n lw lk lu f k br g) f n k n 0 [] (omega arith) hd) in
       record {
         numbers = T .0 ∙ sym (ap fewBridges tok ∙ few-from ws ks us n lw lk lu f k br g n 0 [] (omega arith) pe (omega arith));
-        depth = sh ∙ nest-same u us (moreAt u last) (laterOne ws ks us n lw lk lu) n n 0 0 (omega arith) (walked .up) mo ∙ sym (ap (λ (ts : List Tok). nests maxAtoms maxBonds maxDepth ts 0) tok ∙ nests-from ws ks us n lw lk lu f k br g n 0 0 [] (omega arith) (omega arith));
+        depth = sh ∙ nest-same u us (moreAt u last) (laterOne ws ks us n lw lk lu) n n 0 0 (omega arith) (walked .up) mo ∙ sym (ap (λ (ts : List Tok). nests maxDepth ts 0) tok ∙ nests-from ws ks us n lw lk lu f k br g n 0 0 [] (omega arith) (omega arith));
         text = λ y. as-is tb (T .1 y);
       }
 

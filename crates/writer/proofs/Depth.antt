@@ -14,14 +14,14 @@ use Rattle.ids.specs.Limits.{maxDepth}
 use Rattle.writing_walk.specs.Token.{Bond, Tok, apart, along, ring, branch, back}
 use Rattle.writing_walk.specs.Emit.{Slot, find, release, lowest, insert, closeAll, closeToks, openToks, ringToks}
 use Rattle.writing_walk.specs.Flat.{Position, root, first, later, WalkRow, lead, child, flat, positionOf, rowsOf}
-use Rattle.writing_walk.specs.Check.{nests}
+use Rattle.writing_walk.specs.Depth.{nests}
 use Rattle.writing_bridges.specs.Slots.{Bridged}
 use Rattle.writer.specs.Emit.{nextSlots}
 use Rattle.writer.specs.Nest.{depthLeft, depthAfter, nestFrom}
 use Rattle.writer.proofs.Tokens.{rowsFrom, laterOne, rows-end, c, o, flat-step}
 
 abbrev N : List Tok → ℕ → Bool
-N ts d = nests maxAtoms maxBonds maxDepth ts d
+N ts d = nests maxDepth ts d
 
 close-nests : (l : List Bond) (t : List Slot) (ts : List Tok) (d : ℕ) → N (closeToks l t ++ ts) d ≡ N ts d
 close-nests [] t ts d = refl

@@ -1,4 +1,4 @@
--- Emission by arrays: what is written at an atom of the walk (01, Writing)
+-- auxiliary: emission by arrays: what is written at an atom of the walk (01, Writing)
 use Prim.Native.Nat.{ℕ, zero, suc, _+_, _<_, _≤_}
 use mathlib.Core.Path.{_≡_}
 use mathlib.Core.Bool.{Bool, true, false, not, _&&_}

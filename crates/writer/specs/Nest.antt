@@ -1,4 +1,4 @@
--- How deep the written branches nest, by the parents in walk order (01, Writing; refusal 15)
+-- auxiliary: how deep the written branches nest, by the parents in walk order (01, Writing; refusal 15)
 use Prim.Native.Nat.{ℕ, zero, suc, _+_, _-_}
 use mathlib.Core.Bool.{Bool, true, false, _&&_}
 use mathlib.Core.List.{List}

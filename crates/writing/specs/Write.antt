@@ -13,7 +13,7 @@ use Rattle.ids.specs.Limits.{maxDepth, bridges, maxText}
 use Rattle.writing_walk.specs.Token.{Bond, bond, Tok, apart, along, ring, branch, back}
 use Rattle.writing_walk.specs.Emit.{pre}
 use Rattle.writing_walk.specs.Walk.{forestOf, place, write}
-use Rattle.writing_walk.specs.Check.{nests}
+use Rattle.writing_walk.specs.Depth.{nests}
 use Rattle.writing.specs.Spell.{atomBytes, tokensBytes}
 
 abbrev pub walkBond : List ℤ → ℕ → Bond
@@ -46,7 +46,7 @@ fewBridges (back ∷ ts) = fewBridges ts
 
 -- 15: "the written branches nest over 64 deep"
 abbrev pub shallow : List Tok → Bool
-shallow ts = nests maxAtoms maxBonds maxDepth ts 0
+shallow ts = nests maxDepth ts 0
 
 -- what writing hands back: 0 with the length, or a code with the length 0; the output and the renumbering as they are then
 pub record WriteResult : Type 0 where

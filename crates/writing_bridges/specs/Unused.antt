@@ -1,4 +1,4 @@
--- The bonds that the walk does not use, in three arrays (01, Writing: they become bridges)
+-- auxiliary: the bonds that the walk does not use, in three arrays (01, Writing: they become bridges)
 use Prim.Native.Nat.{ℕ, suc, _-_, _<_, _≤_}
 use mathlib.Core.Path.{_≡_}
 use mathlib.Core.Bool.{Bool}

@@ -1,4 +1,4 @@
--- The walk as it fills arrays: what stands in them after a part of the walk (01, Writing)
+-- auxiliary: the walk as it fills arrays: what stands in them after a part of the walk (01, Writing)
 use Prim.Native.Nat.{ℕ, zero, suc, _-_, _<_, _≤_}
 use mathlib.Core.Path.{_≡_}
 use mathlib.Core.Bool.{Bool, _||_}

@@ -7,10 +7,12 @@ use native.Mathlib.Omega.{arith}
 use lib.Dec.{eqb, ltb}
 use lib.ListN.{length}
 use borrow.Author.Tests.{eq-eqb, ne-eqb, eqb-true, lt-ltb}
-use Rattle.writing_walk.specs.Token.{Bond, bond, bondBetween, Tok, apart, along, ring, branch, back, Closure, vacant, at, closureAt, meet, bridge, stepToken, St, st, runTokens, startTokens}
+use Rattle.writing_walk.specs.Token.{Bond, bond, bondBetween, Tok, apart, along, ring, branch, back}
+use Rattle.writing_walk.specs.Reading.{Closure, vacant, at, closureAt, meet, bridge, stepToken, St, st, runTokens, startTokens}
 use Rattle.writing_walk.specs.Emit.{Forest, leaf, node, size, pre, Slot, lowest, insert, find, release, closeAll, closeToks, openToks, wrap, rings, ringToks, after, text, toks, done, hubAfter, endHub}
 use Rattle.writing_walk.specs.Walk.{forestOf, renumber, closingBonds, openingBonds, relabel, renumbered, unused, write}
-use Rattle.writing_walk.specs.Check.{ends, some, clash, refusedBridge, refusal, fine, orNumber, reading, nests}
+use Rattle.writing_walk.specs.Check.{ends, some, clash, refusedBridge, refusal, fine, orNumber, reading}
+use Rattle.writing_walk.specs.Depth.{nests}
 use Rattle.writing_walk.proofs.Count.{bit, count, count-append, and-left, and-right, never, All, none, more, all-map, nobody}
 use Rattle.writing_walk.proofs.Read.{Back, Inv, hooks, hang-at, lowest-vacant, bridged, read-closes, read-rings, read-body, read-wrap, read-kids, inv-rings, inv-after, closes-at, closes-within, opens-at}
 use Rattle.writing_walk.proofs.Whole.{inv-start}
@@ -246,19 +248,19 @@ module _ (am bm dm : ℕ) where
   no-refusal branch (st xs bs h n hs stk) f c d = rw d
   no-refusal back s f c d = refl
 
-  nests-step : (t : Tok) (ts : List Tok) (s : St) → nests am bm dm (t ∷ ts) (depthOf s) ≡ true → (mayOpen t (depthOf s) ≡ true) × (nests am bm dm ts (depthOf (stepToken t s)) ≡ true)
+  nests-step : (t : Tok) (ts : List Tok) (s : St) → nests dm (t ∷ ts) (depthOf s) ≡ true → (mayOpen t (depthOf s) ≡ true) × (nests dm ts (depthOf (stepToken t s)) ≡ true)
   nests-step (apart w) ts (st xs bs h n hs stk) e = (refl, e)
   nests-step (along k w) ts (st xs bs h n hs stk) e = (refl, e)
   nests-step (ring k m) ts (st xs bs h n hs stk) e = (refl, go (closureAt hs m))
     where
-      go : (x : Closure) → nests am bm dm ts (depthOf (bridge x k m xs bs h n hs stk)) ≡ true
+      go : (x : Closure) → nests dm ts (depthOf (bridge x k m xs bs h n hs stk)) ≡ true
       go vacant = e
       go (at u j) = e
-  nests-step branch ts (st xs bs h n hs stk) e = (and-left (ltb (length stk) dm) (nests am bm dm ts (suc (length stk))) e, and-right (ltb (length stk) dm) (nests am bm dm ts (suc (length stk))) e)
+  nests-step branch ts (st xs bs h n hs stk) e = (and-left (ltb (length stk) dm) (nests dm ts (suc (length stk))) e, and-right (ltb (length stk) dm) (nests dm ts (suc (length stk))) e)
   nests-step back ts (st xs bs h n hs []) e = (refl, e)
   nests-step back ts (st xs bs h n hs (g ∷ stk)) e = (refl, e)
 
-  reading-fine : (ts : List Tok) (s : St) → Fits am bm (runTokens ts s) → clean ts s ≡ true → nests am bm dm ts (depthOf s) ≡ true → reading am bm dm ts s ≡ fine (runTokens ts s)
+  reading-fine : (ts : List Tok) (s : St) → Fits am bm (runTokens ts s) → clean ts s ≡ true → nests dm ts (depthOf s) ≡ true → reading am bm dm ts s ≡ fine (runTokens ts s)
   reading-fine [] s f c d = refl
   reading-fine (t ∷ ts) s f c d =
       let q = nests-step t ts s d in
@@ -266,7 +268,7 @@ module _ (am bm dm : ℕ) where
       ap (λ (r : ℕ). orNumber r (reading am bm dm ts (stepToken t s))) z ∙ reading-fine ts (stepToken t s) f (and-right (cleanAt t s) (clean ts (stepToken t s)) c) (q .1)
 
 -- THE STATEMENT: within the limits, and if its branches nest no deeper, a written text is read without a refusal
-pub read-written : (am bm dm n : ℕ) (pay : ℕ → ℕ) (bs : List Bond) → Inside n bs → Distinct bs → n ≤ am → length bs ≤ bm → nests am bm dm (write n pay bs) 0 ≡ true
+pub read-written : (am bm dm n : ℕ) (pay : ℕ → ℕ) (bs : List Bond) → Inside n bs → Distinct bs → n ≤ am → length bs ≤ bm → nests dm (write n pay bs) 0 ≡ true
     → reading am bm dm (write n pay bs) startTokens ≡ fine (runTokens (write n pay bs) startTokens)
 unfolding renumbered
 read-written am bm dm n pay bs i d a b e =

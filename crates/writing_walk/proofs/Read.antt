@@ -6,7 +6,8 @@ use Prim.Native.Nat.{ℕ, suc, _+_, _≤_, _<_}
 use native.Mathlib.Omega.{arith}
 use lib.Dec.{eqb, ltb, leb}
 use borrow.Author.Tests.{eq-eqb, ne-eqb, eqb-true, eqb-false, lt-ltb, ltb-true, ltb-false, le-leb, lt-leb, le-ltb}
-use Rattle.writing_walk.specs.Token.{Bond, bond, eqBond, Tok, along, ring, back, Closure, vacant, at, closureAt, setClosure, St, st, bondBetween, bridge, stepToken, runTokens}
+use Rattle.writing_walk.specs.Token.{Bond, bond, eqBond, Tok, along, ring, back, bondBetween}
+use Rattle.writing_walk.specs.Reading.{Closure, vacant, at, closureAt, setClosure, St, st, bridge, stepToken, runTokens}
 use Rattle.writing_walk.specs.Emit.{Forest, leaf, node, size, pre, Slot, free, held, lowest, insert, find, release, closeAll, closeToks, openAll, openToks, wrap, rings, ringToks, after, toks, text, done, doneAll, hubAfter, endHub, lastHub}
 use Rattle.writing_walk.proofs.Count.{bit, count, and-left, and-right, bond-same, bond-eq, All, none, more, all-map, nobody, all-of}
 

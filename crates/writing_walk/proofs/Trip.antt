@@ -7,7 +7,8 @@ use native.Mathlib.Omega.{arith}
 use lib.Dec.{eqb, ltb}
 use lib.ListN.{length, length-append}
 use borrow.Author.Tests.{eq-eqb, ne-eqb, eqb-true, eqb-false, lt-ltb, le-ltb}
-use Rattle.writing_walk.specs.Token.{Bond, bond, eqBond, Closure, st, runTokens, startTokens, shut}
+use Rattle.writing_walk.specs.Token.{Bond, bond, eqBond}
+use Rattle.writing_walk.specs.Reading.{Closure, st, runTokens, startTokens, shut}
 use Rattle.writing_walk.specs.Emit.{Forest, leaf, node, size, pre, done, doneAll, tree, trees}
 use Rattle.writing_walk.specs.Walk.{Neighbour, neighbour, member, neighbours, roots, forestOf, place, renumber, remove, removeAll, keepIf, keep, sweep, closingBonds, openingBonds, relabel, renumbered, unused, write}
 use Rattle.writing_walk.proofs.Count.{bit, count, count-append, eqb-same, bond-same, bond-eq, All, none, more, all-map, all-append, nobody}

@@ -8,7 +8,8 @@ use native.Mathlib.Nat.{zero-add}
 use lib.Dec.{eqb, ltb}
 use lib.ListN.{length, length-append, getD}
 use borrow.Author.Tests.{eq-eqb, eqb-true, eqb-false, lt-ltb}
-use Rattle.writing_walk.specs.Token.{Bond, bond, eqBond, Tok, St, st, runTokens, startTokens}
+use Rattle.writing_walk.specs.Token.{Bond, bond, eqBond, Tok}
+use Rattle.writing_walk.specs.Reading.{St, st, runTokens, startTokens}
 use Rattle.writing_walk.specs.Emit.{Forest, leaf, node, size, pre, text, done, doneAll, tree, trees}
 use Rattle.writing_walk.specs.Walk.{forestOf, place, renumber, removeAll, keep, sweep, closingBonds, openingBonds, relabel, renumbered, unused, write}
 use Rattle.writing_walk.specs.Check.{ends}

@@ -7,7 +7,8 @@ use native.Mathlib.Omega.{arith}
 use native.Mathlib.Nat.{zero-add}
 use lib.Dec.{eqb, ltb}
 use borrow.Author.Tests.{eqb-true, eqb-false, lt-ltb, ltb-true, ltb-false, lt-leb, le-ltb}
-use Rattle.writing_walk.specs.Token.{Bond, Closure, st, runTokens, shut, startTokens}
+use Rattle.writing_walk.specs.Token.{Bond}
+use Rattle.writing_walk.specs.Reading.{Closure, st, runTokens, shut, startTokens}
 use Rattle.writing_walk.specs.Emit.{Forest, leaf, node, size, pre, Slot, free, held, after, text, done, doneAll, lastHub, tree, trees}
 use Rattle.writing_walk.proofs.Count.{bit, count, count-append, All, none, more, all-map, nobody}
 use Rattle.writing_walk.proofs.Read.{Back, Inv, hooks, openOf, pending, inv-after, read-text}

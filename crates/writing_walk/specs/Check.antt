@@ -1,10 +1,11 @@
--- 01, When a call says no: reading tokens with the refusals 4 to 9, and the grammar of tokens (3)
+-- auxiliary: reading tokens with the refusals 4 to 9, and the grammar of tokens (3), for the round trip
 use mathlib.Core.Bool.{Bool, true, false, _&&_, _||_, cond, not}
 use mathlib.Core.List.{List, [], _∷_}
 use Prim.Native.Nat.{ℕ, zero, suc}
 use lib.Dec.{eqb, ltb}
 use lib.ListN.{length}
-use Rattle.writing_walk.specs.Token.{Bond, Tok, apart, along, ring, branch, back, Closure, vacant, at, closureAt, St, st, bondBetween, stepToken}
+use Rattle.writing_walk.specs.Token.{Bond, Tok, apart, along, ring, branch, back, bondBetween}
+use Rattle.writing_walk.specs.Reading.{Closure, vacant, at, closureAt, St, st, stepToken}
 
 abbrev pub ends : ℕ → ℕ → Bond → Bool
 ends a c b = eqb (b .lo) a && eqb (b .hi) c
@@ -46,16 +47,6 @@ module _ (am bm dm : ℕ) where
   abbrev pub reading : List Tok → St → Res
   reading [] s = fine s
   reading (t ∷ ts) s = let r : Res = reading ts (stepToken t s) in orNumber (refusal t s) r
-
-  -- 15: no branch opens inside dm others; d branches are open
-  abbrev pub nests : List Tok → ℕ → Bool
-  nests [] d = true
-  nests (apart w ∷ ts) d = nests ts d
-  nests (along k w ∷ ts) d = nests ts d
-  nests (ring k m ∷ ts) d = nests ts d
-  nests (branch ∷ ts) d = ltb d dm && nests ts (suc d)
-  nests (back ∷ ts) zero = nests ts zero
-  nests (back ∷ ts) (suc d) = nests ts d
 
 -- the grammar: d branches are open; fresh: an atom must come (at the start, and after a branch opens)
 abbrev pub grammar : List Tok → ℕ → Bool → Bool

@@ -1,4 +1,4 @@
--- Emission by rows in walk order, with no tree and no stack: what stands before an atom depends on two flags of its row
+-- auxiliary: emission by rows in walk order, with no tree and no stack: what stands before an atom depends on two flags of its row
 use mathlib.Core.Bool.{Bool, true, false, cond}
 use mathlib.Core.List.{List, [], _∷_, _++_}
 use Prim.Native.Nat.{ℕ, zero, suc, _+_}
