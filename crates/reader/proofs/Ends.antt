@@ -15,7 +15,7 @@ use mir.Facts.{toZ-pos}
 use Rattle.loops.specs.Loop.{pick, upTo, run}
 use Rattle.loops.proofs.Loops.{and-left, and-right, upTo-at}
 use Rattle.refusal.specs.declared.Refusal.{Refusal}
-use Rattle.refusal.specs.declared.Refusal.the-variants.{Short, LongText, Grammar, OpenBridge, NoMatching}
+use Rattle.refusal.specs.declared.Refusal.the-variants.{Short, LongText, Grammar, OpenBridge, Unmatchable}
 use Rattle.valence.specs.Valence.{implied}
 use Rattle.reading_grammar.specs.declared.Last.the-variants.{Plain as plain}
 use Rattle.reading_grammar.specs.declared.Mode.the-variants.{Seq as seq, AtomNext as atomNext}
@@ -187,7 +187,7 @@ module _ (t : Steering) (a b : List ℤ) {p : ℕ} (e : p ≡ leftmost (t .opene
     unfolding ended
     ended-matched m = rw (← e, le-ltb p maxText h, ← ev, m)
 
-    pub ended-unmatched : {x y : List ℤ} → matchable v b (t .atoms) (t .bonds) ≡ false → x ≡ zeros v → y ≡ zeros b → told (reply.Answer.Refused NoMatching 0) x y ≡ endedOf t a b
+    pub ended-unmatched : {x y : List ℤ} → matchable v b (t .atoms) (t .bonds) ≡ false → x ≡ zeros v → y ≡ zeros b → told (reply.Answer.Refused Unmatchable 0) x y ≡ endedOf t a b
     unfolding ended
     ended-unmatched m ex ey = rw (ex, ey, ← e, le-ltb p maxText h, ← ev, m)
 

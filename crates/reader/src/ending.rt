@@ -144,5 +144,5 @@ pub fn end(
     }
     clear(atoms);
     clear(bonds);
-    Answer::Refused(Refusal::NoMatching, 0)
+    Answer::Refused(Refusal::Unmatchable, 0)
 }

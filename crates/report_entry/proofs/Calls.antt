@@ -10,7 +10,7 @@ use lib.Dec.{eqb}
 use Rattle.loops.specs.Loop.{pick}
 use Rattle.refusal.specs.Code.{codeOf}
 use Rattle.refusal.specs.declared.Refusal.{Refusal}
-use Rattle.refusal.specs.declared.Refusal.the-variants.{Short, LongText, Grammar, ManyAtoms, ManyBonds, DeepBranch, SelfBridge, RepeatedBond, SymbolClash, OpenBridge, NoMatching, NotMatching, Invalid, ManyBridges, DeepWriting, LongWriting}
+use Rattle.refusal.specs.declared.Refusal.the-variants.{Short, LongText, Grammar, ManyAtoms, ManyBonds, DeepBranch, SelfBridge, RepeatedBond, SymbolClash, OpenBridge, Unmatchable, NotMatching, Invalid, ManyBridges, DeepWriting, LongWriting}
 use Rattle.table.specs.Limits.{maxAtoms, maxBonds, atomCells, bondCells}
 use Rattle.table.specs.declared.Check.{Check}
 use Rattle.ids.specs.Limits.{maxText}
@@ -42,7 +42,7 @@ code-not-zero SelfBridge = refl
 code-not-zero RepeatedBond = refl
 code-not-zero SymbolClash = refl
 code-not-zero OpenBridge = refl
-code-not-zero NoMatching = refl
+code-not-zero Unmatchable = refl
 code-not-zero NotMatching = refl
 code-not-zero Invalid = refl
 code-not-zero ManyBridges = refl
