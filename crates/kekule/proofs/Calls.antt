@@ -28,13 +28,8 @@ use Rattle.kekule_answers.specs.declared.Found.{Found}
 use Rattle.kekule_answers.specs.declared.Found.the-variants.{Refused}
 use Rattle.kekule_answers.specs.Answers.{foundCode, callOf}
 use Rattle.kekule.specs.Kekule.{Out, out, outOf, roomy, callOn}
-use Rattle.kekule.specs.Calls.{repliesOf, codesOf, lastRow, State, state, callStep, ranOf, replayed, replayedOf}
+use Rattle.kekule.specs.Calls.{repliesOf, turns, codesOf, lastRow, State, state, callStep, ranOf, replayed, replayedOf, Replays}
 use Rattle.kekule.proofs.Kekule.{row-room}
-
--- the answers to the calls, each seeing its row alone
-unfoldable pub turns : (Call → List ℕ → Out) → List Call → List ℕ → List Out
-turns f [] row = []
-turns f (c ∷ cs) row = let o = f c row in o ∷ turns f cs (o .row)
 
 length-turns : (f : Call → List ℕ → Out) (cs : List Call) (row : List ℕ) → length (turns f cs row) ≡ length cs
 unfolding turns
@@ -144,12 +139,12 @@ calling-step {f} {calls} {i = i} {row} {codes} {row′} {a} {c} {k} w h e g l q 
 
 -- the two return paths of a list of calls
 module _ (calls : List ℕ) (atoms bonds : List ℤ) (n m : ℕ) (row codes : List ℕ) where
-  pub replay-short : length codes < length calls → replayed (checkRefused Short) row codes ≡ replayedOf calls atoms bonds n m row codes
+  pub replay-short : length codes < length calls → Replays calls atoms bonds n m row codes (replayed (checkRefused Short) row codes)
   unfolding replayedOf
-  replay-short h = simp (lt-leb (length calls) (length codes) h)
+  replay-short h = record { each = calls-enumerated (map callOf calls) atoms bonds n m row; handed = simp (lt-leb (length calls) (length codes) h) }
 
   pub replay-done : {row′ codes₁ codes₂ : List ℕ} → length calls ≤ length codes → state row′ codes₁ ≡ ranOf calls atoms bonds n m row codes → length codes₁ ≡ length codes
-      → codes₂ ≡ take (length calls) codes₁ ++ replicate (length codes₁ - length calls) 0 → replayed Fine row′ codes₂ ≡ replayedOf calls atoms bonds n m row codes
+      → codes₂ ≡ take (length calls) codes₁ ++ replicate (length codes₁ - length calls) 0 → Replays calls atoms bonds n m row codes (replayed Fine row′ codes₂)
   unfolding replayedOf ranOf
   replay-done {row′} {codes₁} {codes₂} h e l z =
       let os = turns (λ c r. callOn c atoms bonds n m r) (map callOf calls) row in
@@ -158,4 +153,18 @@ module _ (calls : List ℕ) (atoms bonds : List ℤ) (n m : ℕ) (row codes : Li
       let k : length (codesOf os) ≡ length calls = length-map os _ ∙ length-turns (λ c r. callOn c atoms bonds n m r) (map callOf calls) row ∙ length-map calls callOf in
       let c2 : codes₂ ≡ codesOf os ++ replicate (length codes - length calls) 0 = z ∙ rw l (ap (λ (x : List ℕ). x ++ replicate (length codes - length calls) 0) (ap (take (length calls)) c1 ∙ take-at (codesOf os) (drop (length calls) codes) (length calls) k)) in
       let q = calls-enumerated (map callOf calls) atoms bonds n m row in
-      simp (le-leb (length calls) (length codes) h, ← q) (ap₂ (replayed Fine) (ap (λ (s : State). s .row) t) c2)
+      record { each = q; handed = simp (le-leb (length calls) (length codes) h, ← q) (ap₂ (replayed Fine) (ap (λ (s : State). s .row) t) c2) }
+
+  -- 01: "If a table or the row is too short, every call gives 1 and nothing changes"
+  pub short-codes : roomy atoms bonds (length row) ≡ false → length calls ≤ length codes
+      → replayedOf calls atoms bonds n m row codes ≡ replayed Fine row (replicate (length calls) 1 ++ replicate (length codes - length calls) 0)
+  unfolding replayedOf repliesOf lastRow
+  short-codes e h = simp (e, le-leb (length calls) (length codes) h) (ap₂ (replayed Fine) (same calls) (ap (λ (l : List ℕ). l ++ replicate (length codes - length calls) 0) (ones calls)))
+    where
+      same : (cs : List ℕ) → lastRow row (map (λ c. out (Refused Short) row) (map callOf cs)) ≡ row
+      same [] = refl
+      same (c ∷ cs) = same cs
+
+      ones : (cs : List ℕ) → codesOf (map (λ c. out (Refused Short) row) (map callOf cs)) ≡ replicate (length cs) 1
+      ones [] = refl
+      ones (c ∷ cs) = ap (λ (l : List ℕ). 1 ∷ l) (ones cs)

@@ -1,5 +1,6 @@
 -- 01, The book: what a list of calls on tables and a row gives, from the enumeration of the molecule
 use Prim.Native.Nat.{ℕ, _-_}
+use mathlib.Core.Path.{_≡_}
 use mathlib.Core.List.{List, [], _∷_, _++_, map}
 use lib.ListN.{length, getD, set, replicate}
 use lib.IntN.{ℤ}
@@ -24,6 +25,11 @@ repliesOf cs atoms bonds n m row =
     (map outOf (enumeration (delocalizedFlags atoms bonds n m) (graphOf bonds m) cs row))
     (map (λ c. out (Refused Invalid) (replicate (length row) 0)) cs))
     (map (λ c. out (Refused Short) row) cs)
+
+-- the calls one after the other, each seeing its row alone, as f answers them: every answer, and the row after it
+unfoldable pub turns : (Call → List ℕ → Out) → List Call → List ℕ → List Out
+turns f [] row = []
+turns f (c ∷ cs) row = let o = f c row in o ∷ turns f cs (o .row)
 
 -- the codes of the answers, and the row after the last call
 abbrev pub codesOf : List Out → List ℕ
@@ -50,7 +56,13 @@ replayedOf calls atoms bonds n m row codes =
     (replayed Fine (lastRow row os) (codesOf os ++ replicate (length codes - length calls) 0))
     (replayed (checkRefused Short) row codes)
 
--- The calls one after the other, each seeing its row alone: what the loop over the calls computes
+-- DEMAND 3, for every list of calls, row and tables: each call, seeing its row alone, gives the answer and leaves the row that the enumeration gives;
+-- and what a replay t hands back is their codes and the row after the last
+pub record Replays (calls : List ℕ) (atoms bonds : List ℤ) (n m : ℕ) (row codes : List ℕ) (t : Replayed) : Type 0 where
+  pub each : turns (λ c r. callOn c atoms bonds n m r) (map callOf calls) row ≡ repliesOf (map callOf calls) atoms bonds n m row
+  pub handed : t ≡ replayedOf calls atoms bonds n m row codes
+
+-- auxiliary, for the contract of the loop: what it computes
 
 pub record State : Type 0 where
   pub row : List ℕ

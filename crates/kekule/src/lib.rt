@@ -10,7 +10,7 @@ ghost use Rattle.matching.specs.Model.{reply};
 ghost use Rattle.table_graph.specs.Graph.{matchingOf, matchable};
 ghost use Rattle.table_graph.specs.Built.{Prepared};
 ghost use Rattle.kekule.specs.Kekule.{out, outOf, roomy, callOn, allZero, isMatchingOf, askedOf, tables, kekulized, kekulizedOf, Counted};
-ghost use Rattle.kekule.specs.Calls.{state, ranOf, replayed, replayedOf};
+ghost use Rattle.kekule.specs.Calls.{state, ranOf, replayed, Replays};
 use kekule_answers::Asked;
 use kekule_answers::Found;
 use kekule_answers::call_of;
@@ -247,9 +247,10 @@ fn run_calls(
     }
 }
 
-// Makes a list of calls on a row, 0 for the first matching and any other byte for the next. The codes of the answers, and the
-// row after the last, are those of the molecule's enumeration; so, over the beginnings of the list, is the row after each call.
-// 1: there is no cell for each code, and nothing changes; the cells past the codes are zeroed.
+// Makes a list of calls on a row, 0 for the first matching and any other byte for the next. Every answer, and the row after
+// every call, are those of the molecule's enumeration; handed back are the codes of the answers and the row after the last.
+// Where a table or the row is too short each code is 1 and the row stays. 1: there is no cell for each code, and nothing
+// changes; the cells past the codes are zeroed.
 pub fn replay(
     calls: &[u8],
     atoms: &[i32],
@@ -259,7 +260,7 @@ pub fn replay(
     row: &mut [u8],
     codes: &mut [u8],
 ) -> Check
-    ensures { λ r. ⌜ replayed r (now (row .exit)) (now (codes .exit)) ≡ replayedOf (now (calls .entry)) (now (atoms .entry)) (now (bonds .entry)) n m (now (row .entry)) (now (codes .entry)) ⌝ }
+    ensures { λ r. ⌜ Replays (now (calls .entry)) (now (atoms .entry)) (now (bonds .entry)) n m (now (row .entry)) (now (codes .entry)) (replayed r (now (row .exit)) (now (codes .exit))) ⌝ }
 {
     if codes.len() < calls.len() {
         return Check::Refused(Refusal::Short);

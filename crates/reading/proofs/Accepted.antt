@@ -21,13 +21,14 @@ use Rattle.ids.specs.Limits.{maxText}
 use Rattle.reading.specs.Memory.{Memory}
 use Rattle.reading.specs.Act.{act}
 use Rattle.reading.specs.Read.{ReadResult, zeros, short, beginning, readOf}
+use Rattle.reading.specs.Conditions.{bytesRead, atomsOf, Fits}
 use Rattle.reading.proofs.Sane.{Sane, SaneReading}
 use Rattle.reading.proofs.Step.{sane-text}
 use Rattle.reading.proofs.Hydrogens.{withHydrogens, hydrogenated-length, hydrogenated-other, row-given, row-kept}
 use Rattle.reading.proofs.Valid.{sane-valid}
 use Rattle.reading.proofs.Refusals.{act-code}
 use Rattle.reading.proofs.Leftmost.{none-open}
-use Rattle.reading.proofs.Outcome.{bytesRead, Fits, atomsOf, accepted, Outcome, outcome}
+use Rattle.reading.proofs.Outcome.{accepted, Outcome, outcome}
 
 -- the hydrogens that an atom outside brackets gets: by its element, its selection and its bonds
 abbrev pub impliedAt : ReadResult → ℕ → ℤ

@@ -10,9 +10,9 @@ pub use Rattle.reading.proofs.Accepted.{impliedAt, Given, Accepted, rea
 pub use Rattle.reading.proofs.Kept.{atom-kept, letter-kept, first-row, bracket-kept, bond-kept}
 -- codes 0, 10 and 11 only for texts of the grammar; 3 exactly at the grammar's place, unless 4 to 9 came before
 pub use Rattle.reading.proofs.Texts.{ReadsTexts, reads-texts}
--- 3 to 9: the smallest offset, and there the smallest number, each check with those before it
-pub use Rattle.reading.proofs.First.{FirstRefusal, first-refusal, nothing-before}
--- 10 at the leftmost opening; 11 exactly where the molecule read has no matching
-pub use Rattle.reading.proofs.Ending.{Read, Unclosed, read-unclosed, Unmatched, unmatched-iff}
+-- "given exactly when", 1 to 11: each refusal by 01's conditions, the one that is told; and none exactly where a text is accepted
+pub use Rattle.reading.proofs.First.{refused-iff, accepted-iff}
+-- 11 exactly where the molecule read has no matching
+pub use Rattle.reading.proofs.Ending.{unmatched-iff}
 -- 1 and 2 exactly as said; 1 changes nothing by definition, and every other refusal zeroes both tables and both counts
 pub use Rattle.reading.proofs.Refused.{short-iff, long-iff, refusal-zeroes}

@@ -9,28 +9,14 @@ use lib.Dec.{leb, ltb}
 use borrow.Author.Tests.{leb-true, leb-false, ltb-true, ltb-false}
 use Rattle.loops.specs.Loop.{pick}
 use Rattle.reading_grammar.specs.declared.State.{State}
-use Rattle.reading_grammar.specs.declared.State.the-variants.{Start as start}
 use Rattle.reading_grammar.specs.Machine.{accepting}
-use Rattle.reading_grammar.specs.Fold.{Reading, going, halted, read}
+use Rattle.reading_grammar.specs.Fold.{Reading, going, halted}
 use Rattle.table.specs.Valid.{enough}
 use Rattle.table_graph.specs.Graph.{matchable}
 use Rattle.ids.specs.Limits.{maxText}
 use Rattle.reading.specs.Memory.{Memory}
-use Rattle.reading.specs.Act.{act}
-use Rattle.reading.specs.Read.{ReadResult, zeros, refused, short, beginning, hydrogenated, leftmost, ended, finished, readFrom, readOf}
-
--- the reading of a text's bytes into zeroed tables
-abbrev pub bytesRead : List ℕ → List ℤ → List ℤ → Reading Memory
-bytesRead s atoms bonds = read act 0 (going start (beginning (zeros atoms) (zeros bonds))) s
-
--- 1 and 2 do not apply
-pub record Fits (s : List ℕ) (atoms bonds : List ℤ) : Type 0 where
-  pub room : enough atoms bonds ≡ true
-  pub short : length s ≤ maxText
-
--- the atoms of a memory, with the hydrogens of those outside brackets
-abbrev pub atomsOf : Memory → List ℤ
-atomsOf μ = hydrogenated (μ .st .outside) (μ .bonds) (μ .st .bonds) (μ .st .atoms) (μ .atoms)
+use Rattle.reading.specs.Read.{ReadResult, refused, short, leftmost, ended, finished, readFrom, readOf}
+use Rattle.reading.specs.Conditions.{bytesRead, atomsOf, Fits}
 
 -- what reading tells of an accepted text
 abbrev pub accepted : Memory → ReadResult

@@ -13,9 +13,10 @@ use Rattle.table.specs.Valid.{enough}
 use Rattle.ids.specs.Limits.{maxText}
 use Rattle.reading.specs.Memory.{Memory}
 use Rattle.reading.specs.Read.{ReadResult, zeros, refused, readOf}
+use Rattle.reading.specs.Conditions.{atomsOf}
 use Rattle.reading.proofs.Sane.{Sane}
 use Rattle.reading.proofs.Hydrogens.{hydrogenated-length}
-use Rattle.reading.proofs.Outcome.{atomsOf, Outcome, outcome}
+use Rattle.reading.proofs.Outcome.{Outcome, outcome}
 use Rattle.reading.proofs.Accepted.{halt-code, read-sane}
 
 module _ (s : List ℕ) (atoms bonds : List ℤ) where

@@ -232,7 +232,7 @@ module _ {p q d i n k : ℕ} {μ : Memory} (h : Held p q d i μ) (na : n ≤ μ 
 
   branch-left : LeftAct n k μ (at inside (suc d)) (branchAct i μ)
   unfolding branchAct opened
-  branch-left = by-test (LeftAct n k μ (at inside (suc d))) (leb maxDepth (μ .st .depth)) (refuses 6 i) (keeps (moved (opened (μ .st)) μ)) (λ e. tt) (λ e. quiet inside (suc d) refl _ refl refl refl refl refl)
+  branch-left = by-test (LeftAct n k μ (at inside (suc d))) (leb maxDepth (μ .st .depth)) _ _ (λ e. tt) (λ e. quiet inside (suc d) refl _ refl refl refl refl refl)
 
   down-left : (e : ℕ) → d ≡ suc e → Left n k μ (at (seq plain) e) (moved (closed (μ .st)) μ)
   unfolding closed

@@ -18,8 +18,9 @@ use Rattle.reading_grammar.proofs.Fold.{good-text, bad-3, other-first}
 use Rattle.reading.specs.Memory.{Memory}
 use Rattle.reading.specs.Act.{act}
 use Rattle.reading.specs.Read.{ReadResult, zeros, refused, short, beginning, readOf}
+use Rattle.reading.specs.Conditions.{bytesRead, Fits}
 use Rattle.reading.proofs.Refusals.{never-3, in-time}
-use Rattle.reading.proofs.Outcome.{bytesRead, Fits, Outcome, outcome}
+use Rattle.reading.proofs.Outcome.{Outcome, outcome}
 use Rattle.reading.proofs.Accepted.{halt-code}
 
 module _ (s : List ℕ) (atoms bonds : List ℤ) where

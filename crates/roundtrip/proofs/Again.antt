@@ -26,7 +26,8 @@ use Rattle.writing_walk.proofs.Made.{Made, written-made}
 use Rattle.writing_walk.proofs.Order.{atom-below, place-atom}
 use Rattle.writing.specs.Spell.{isotopeBytes, symbolBytes, hydrogenBytes, chargeBytes, extensionBytes, bracketBytes, unbracketed, atomBytes, kindBytes, bridgeBytes, restBytes, tokensBytes, withoutBrackets, spelledAtom}
 use Rattle.writing.specs.Write.{bondList, tokens, textOf, renumbering}
-use Rattle.roundtrip.proofs.Bonds.{inside, distinct}
+use Rattle.writing.proofs.Bonds.{inside}
+use Rattle.roundtrip.proofs.Bonds.{distinct}
 use Rattle.roundtrip.proofs.Back.{map-same, Molecule, ren, sum-same}
 
 -- ---- an atom's bytes depend on its cells and its bond sum

@@ -37,13 +37,14 @@ use Rattle.writing_walk.proofs.Made.{Made, written-made}
 use Rattle.writing_walk.proofs.Order.{place-below, atom-place}
 use Rattle.writing.specs.Spell.{unbracketed}
 use Rattle.writing.specs.Write.{bondList, tokens, textOf, fewBridges, shallow}
+use Rattle.writing.proofs.Bonds.{inside}
 use Rattle.roundtrip.proofs.Cells.{atomCellsOf, bondCellsOf}
 use Rattle.roundtrip.proofs.Atoms.{rowBy, draftRow, outsideFlag, bare-of}
 use Rattle.roundtrip.proofs.Held.{nobond, rowOfBond}
 use Rattle.roundtrip.proofs.Simulation.{Sim}
 use Rattle.roundtrip.proofs.Tokens.{Good}
 use Rattle.roundtrip.proofs.Written.{Held, text-read}
-use Rattle.roundtrip.proofs.Bonds.{inside, small-kinds, distinct, many, listed}
+use Rattle.roundtrip.proofs.Bonds.{small-kinds, distinct, many, listed}
 use Rattle.roundtrip.proofs.Ending.{none-left, hydrogens-cell, other-cell, rest-cell, hydrogenated-length}
 
 -- ---- tokens of valid tables with few bridges

@@ -27,8 +27,9 @@ use Rattle.writing_walk.proofs.Natural.{onTok}
 use Rattle.writing_walk.proofs.Made.{completed-made}
 use Rattle.writing_walk.proofs.Order.{atom-below}
 use Rattle.writing.specs.Write.{bondList, tokens, fewBridges, shallow}
+use Rattle.writing.proofs.Bonds.{inside}
 use Rattle.roundtrip.proofs.Held.{nobond}
-use Rattle.roundtrip.proofs.Bonds.{inside, small-kinds, distinct}
+use Rattle.roundtrip.proofs.Bonds.{small-kinds, distinct}
 use Rattle.roundtrip.proofs.Back.{Molecule, ren, as-many}
 use Rattle.roundtrip.proofs.Again.{cell-here, walkAtom, tokens-again}
 

@@ -10,8 +10,7 @@ use Rattle.loops.specs.Loop.{pick, upTo}
 use Rattle.table.specs.Limits.{maxAtoms, maxBonds}
 use Rattle.writing_walk.specs.Token.{Bond}
 use Rattle.writing_walk.specs.Emit.{Slot, closeAll, openAll}
-use Rattle.writing_walk.proofs.Count.{count}
-use Rattle.writing_walk.proofs.Read.{openOf, Within, pending}
+use Rattle.writing_walk.specs.Same.{count, openOf, Within, pending}
 use Rattle.writing.specs.Spell.{kindBytes, spelledAtom}
 use Rattle.buffer.specs.Pen.{Pen, Wrote}
 use Rattle.writing_atoms.specs.Fields.{AtomFits}

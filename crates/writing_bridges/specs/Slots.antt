@@ -9,8 +9,7 @@ use Rattle.loops.specs.Loop.{pick, upTo}
 use Rattle.writing_walk.specs.Token.{Bond, eqBond}
 use Rattle.writing_walk.specs.Emit.{Slot, free, held, find, release, lowest, insert, closeAll, openAll}
 use Rattle.writing_walk.specs.Walk.{keep, sweep}
-use Rattle.writing_walk.proofs.Count.{count}
-use Rattle.writing_walk.proofs.Read.{openOf, Within}
+use Rattle.writing_walk.specs.Same.{count, openOf, Within}
 use Rattle.buffer.specs.Pen.{Pen, Wrote}
 use Rattle.writing.specs.Spell.{kindBytes, bridgeBytes}
 

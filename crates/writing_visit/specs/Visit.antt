@@ -11,8 +11,7 @@ use Rattle.writing_walk.specs.Token.{Bond}
 use Rattle.writing_walk.specs.Emit.{Forest, pre}
 use Rattle.writing_walk.specs.Walk.{Neighbour, neighbour, member, neighbours, visitInTurn, walk, forestOf, place}
 use Rattle.writing_walk.specs.Flat.{kinds, ups}
-use Rattle.writing_walk.proofs.Count.{All}
-use Rattle.writing_walk.proofs.Walk.{Once}
+use Rattle.writing_walk.specs.Same.{All, Once}
 
 -- a bond has the atom v as an end
 unfoldable pub touching : (ℕ → Bond) → ℕ → ℕ → Bool

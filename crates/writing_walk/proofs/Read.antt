@@ -4,11 +4,12 @@ use mathlib.Core.Bool.{Bool, true, false, _&&_, cond, not}
 use mathlib.Core.List.{List, [], _∷_, _++_, map, append-assoc, append-nil}
 use Prim.Native.Nat.{ℕ, suc, _+_, _≤_, _<_}
 use native.Mathlib.Omega.{arith}
-use lib.Dec.{eqb, ltb, leb}
+use lib.Dec.{eqb, ltb}
 use borrow.Author.Tests.{eq-eqb, ne-eqb, eqb-true, eqb-false, lt-ltb, ltb-true, ltb-false, le-leb, lt-leb, le-ltb}
 use Rattle.writing_walk.specs.Token.{Bond, bond, eqBond, Tok, along, ring, back, bondBetween}
 use Rattle.writing_walk.specs.Reading.{Closure, vacant, at, closureAt, setClosure, St, st, bridge, stepToken, runTokens}
 use Rattle.writing_walk.specs.Emit.{Forest, leaf, node, size, pre, Slot, free, held, lowest, insert, find, release, closeAll, closeToks, openAll, openToks, wrap, rings, ringToks, after, toks, text, done, doneAll, hubAfter, endHub, lastHub}
+pub use Rattle.writing_walk.specs.Same.{openOf, Within, pending}
 use Rattle.writing_walk.proofs.Count.{bit, count, and-left, and-right, bond-same, bond-eq, All, none, more, all-map, nobody, all-of}
 
 pub run-append : (a b : List Tok) (s : St) → runTokens (a ++ b) s ≡ runTokens b (runTokens a s)
@@ -21,11 +22,6 @@ hook (held b) = at (b .lo) (b .kind)
 
 abbrev pub hooks : List Slot → List Closure
 hooks t = map hook t
-
-abbrev pub openOf : List Slot → List Bond
-openOf [] = []
-openOf (free ∷ t) = openOf t
-openOf (held b ∷ t) = b ∷ openOf t
 
 pub lowest-vacant : (t : List Slot) → closureAt (hooks t) (lowest t) ≡ vacant
 lowest-vacant [] = refl
@@ -73,10 +69,7 @@ release-count p b (held x ∷ t) h = go (eqBond b x) refl h (release-count p b t
     go true e h f = ap (λ (y : Bond). bit (p y) + count p (openOf t)) (sym (bond-eq b x e))
     go false e h f = omega (arith, f (omega arith))
 
--- every bond of c stands open: what is open, less c
-abbrev pub Within : List Bond → List Bond → Type 0
-Within c l = (p : Bond → Bool) → count p c ≤ count p l
-
+-- what is open, less c
 abbrev pub Split : List Bond → List Bond → List Bond → Type 0
 Split l c r = (p : Bond → Bool) → count p l ≡ count p c + count p r
 
@@ -130,10 +123,6 @@ read-opens n m xs stk (b ∷ o) t bs (more h a) =
     ap (runTokens (openToks o (insert b t)))
     (bridged (closureAt (hooks t) (lowest t)) vacant (lowest-vacant t) (b .kind) (lowest t) xs bs n m (hooks t) stk ∙ (λ i. st xs bs n m (hang-at n b t h i) stk))
     ∙ read-opens n m xs stk o (insert b t) bs a
-
--- the bonds that stand open when the atom n begins
-abbrev pub pending : ℕ → Bond → Bool
-pending n b = ltb (b .lo) n && leb n (b .hi)
 
 pub record Back (N : List Bond) (c o : ℕ → List Bond) : Type 0 where
   pub ordered : All (λ b. b .lo < b .hi) N

@@ -9,14 +9,8 @@ use borrow.Author.Tests.{eqb-true, eqb-false}
 use Rattle.writing_walk.specs.Token.{Bond}
 use Rattle.writing_walk.specs.Emit.{Forest, leaf, node, pre}
 use Rattle.writing_walk.specs.Walk.{Neighbour, neighbour, member, neighbours, visitInTurn, walk, roots, forestOf}
+pub use Rattle.writing_walk.specs.Same.{times, Once}
 use Rattle.writing_walk.proofs.Count.{bit, count, count-append, never, eqb-same, All, none, more}
-
--- how often v stands in the list
-abbrev pub times : ℕ → List ℕ → ℕ
-times v l = count (eqb v) l
-
-abbrev pub Once : List ℕ → Type 0
-Once l = (v : ℕ) → times v l ≤ 1
 
 pub absent : (v : ℕ) (l : List ℕ) → member v l ≡ false → times v l ≡ 0
 absent v [] h = refl

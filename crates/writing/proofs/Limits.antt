@@ -1,4 +1,4 @@
--- When writing says 14, 15 or 16: exactly when the walk needs too many bridges, its branches nest too deep, or its text is too long. Assumes nothing.
+-- When writing says 14 or 15: exactly when the walk needs too many bridges, or its branches nest too deep. Assumes nothing.
 use mathlib.Core.Path.{_≡_, refl, sym, ap, _∙_, subst}
 use mathlib.Core.Bool.{Bool, true, false, _&&_}
 use mathlib.Core.List.{List, [], _∷_, _++_}
@@ -17,13 +17,14 @@ use Rattle.writing_walk.specs.Token.{Tok, apart, along, ring, branch, back}
 use Rattle.writing_walk.specs.Emit.{size}
 use Rattle.writing_walk.specs.Walk.{forestOf, relabel, unused}
 use Rattle.writing_walk.specs.Depth.{nests}
-use Rattle.writing_walk.proofs.Count.{All, none, more, all-map, nobody}
+use Rattle.writing_walk.specs.Same.{All, none, more}
+use Rattle.writing_walk.proofs.Count.{all-map, nobody}
 use Rattle.writing_walk.proofs.Walk.{Inside}
 use Rattle.writing_walk.proofs.Trip.{size-length, size-relabel, renumbering, inside-unused}
 use Rattle.writing_walk.proofs.Bridges.{Low, low-places, places-low}
 use Rattle.writing.specs.Write.{bondList, tokens, fewBridges, shallow}
-use Rattle.roundtrip.specs.Claims.{mostBridges, openAt, depthAfter}
-use Rattle.roundtrip.proofs.Bonds.{inside}
+use Rattle.writing.specs.Conditions.{mostBridges, openAt, depthAfter, ManyBridges, Deep}
+use Rattle.writing.proofs.Bonds.{inside}
 
 few-low : (ts : List Tok) → fewBridges ts ≡ true → All (Low mostBridges) ts
 unfolding fewBridges
@@ -71,7 +72,7 @@ module _ (atoms bonds : List ℤ) (n m : ℕ) (h : valid atoms bonds n m ≡ tru
       and-false false = refl
 
   -- 14: "the walk needs over 99 bridges open at once"
-  pub few-bridges-open : fewBridges (tokens bonds n m) ≡ true → (x : ℕ) → openAt bonds n m x ≤ mostBridges
+  few-bridges-open : fewBridges (tokens bonds n m) ≡ true → (x : ℕ) → openAt bonds n m x ≤ mostBridges
   unfolding tokens
   few-bridges-open g x = go (ltb n x) refl
     where
@@ -82,15 +83,15 @@ module _ (atoms bonds : List ℤ) (n m : ℕ) (h : valid atoms bonds n m ≡ tru
       go true e = let z = open-past x (ltb-true n x e) in omega arith
       go false e = places-low mostBridges n (λ a. a) (bondList bonds m) i (few-low (tokens bonds n m) g) x (let l = ltb-false n x e in let s = sized in omega arith)
 
-  pub open-few-bridges : ((x : ℕ) → openAt bonds n m x ≤ mostBridges) → fewBridges (tokens bonds n m) ≡ true
+  open-few-bridges : ((x : ℕ) → openAt bonds n m x ≤ mostBridges) → fewBridges (tokens bonds n m) ≡ true
   unfolding tokens
   open-few-bridges g = low-few (tokens bonds n m) (low-places mostBridges n (λ a. a) (bondList bonds m) i g)
 
   -- told as a point of the walk: 14 exactly if at some atom over 99 bridges are open
-  pub many-bridges-open : fewBridges (tokens bonds n m) ≡ false → (x : ℕ) × (mostBridges < openAt bonds n m x)
+  pub many-bridges-open : fewBridges (tokens bonds n m) ≡ false → ManyBridges bonds n m
   many-bridges-open g = ⊎-elim
       (λ all. absurd (let e = open-few-bridges (λ x. below x (all x)) in let z : _≡_ {A = ℕ} 0 1 = cc in omega arith))
-      (λ some. some) (over (openAt bonds n m) mostBridges (suc n))
+      (λ some. record { atom = some .0; over = some .1 }) (over (openAt bonds n m) mostBridges (suc n))
     where
       below : (x : ℕ) → (x < suc n → openAt bonds n m x ≤ mostBridges) → openAt bonds n m x ≤ mostBridges
       below x k = go (ltb n x) refl
@@ -99,11 +100,11 @@ module _ (atoms bonds : List ℤ) (n m : ℕ) (h : valid atoms bonds n m ≡ tru
           go true e = let z = open-past x (ltb-true n x e) in omega arith
           go false e = k (let l = ltb-false n x e in omega arith)
 
-  pub open-many-bridges : (x : ℕ) → mostBridges < openAt bonds n m x → fewBridges (tokens bonds n m) ≡ false
-  open-many-bridges x l = go (fewBridges (tokens bonds n m)) refl
+  pub open-many-bridges : ManyBridges bonds n m → fewBridges (tokens bonds n m) ≡ false
+  open-many-bridges w = go (fewBridges (tokens bonds n m)) refl
     where
       go : (y : Bool) → fewBridges (tokens bonds n m) ≡ y → y ≡ false
-      go true e = absurd (let k = few-bridges-open e x in omega arith)
+      go true e = absurd (omega (arith, few-bridges-open e (w .atom), w .over))
       go false e = refl
 
 -- ---- 15
@@ -131,29 +132,7 @@ nests-deep (back ∷ ts) (suc d) h (t ∷ a) b e =
     let s : suc d - 1 ≡ d = omega arith in
     subst (λ (t : Tok). depthAfter (t ∷ a) (suc d) < maxDepth) (let q : back ≡ t = cc in q) (rw s (nests-deep ts d h a b (tail-same back t ts (a ++ (branch ∷ b)) e)))
 
-deep-nests : (ts : List Tok) (d : ℕ) → NoDeeper ts d → nests maxDepth ts d ≡ true
-deep-nests [] d g = refl
-deep-nests (apart w ∷ ts) d g = deep-nests ts d (λ a b e. g (apart w ∷ a) b (ap (λ (l : List Tok). apart w ∷ l) e))
-deep-nests (along k w ∷ ts) d g = deep-nests ts d (λ a b e. g (along k w ∷ a) b (ap (λ (l : List Tok). along k w ∷ l) e))
-deep-nests (ring k r ∷ ts) d g = deep-nests ts d (λ a b e. g (ring k r ∷ a) b (ap (λ (l : List Tok). ring k r ∷ l) e))
-deep-nests (branch ∷ ts) d g = rw (lt-ltb d maxDepth (g [] ts refl)) (deep-nests ts (suc d) (λ a b e. g (branch ∷ a) b (ap (λ (l : List Tok). branch ∷ l) e)))
-deep-nests (back ∷ ts) zero g = deep-nests ts 0 (λ a b e. g (back ∷ a) b (ap (λ (l : List Tok). back ∷ l) e))
-deep-nests (back ∷ ts) (suc d) g = deep-nests ts d (λ a b e. let s : suc d - 1 ≡ d = omega arith in rw s at (g (back ∷ a) b (ap (λ (l : List Tok). back ∷ l) e)))
-
--- 15: "the written branches nest over 64 deep"
-pub shallow-depth : (ts : List Tok) → shallow ts ≡ true → (a b : List Tok) → ts ≡ a ++ (branch ∷ b) → depthAfter a 0 < maxDepth
-shallow-depth ts h = nests-deep ts 0 h
-
-pub depth-shallow : (ts : List Tok) → ((a b : List Tok) → ts ≡ a ++ (branch ∷ b) → depthAfter a 0 < maxDepth) → shallow ts ≡ true
-depth-shallow ts g = deep-nests ts 0 g
-
--- told as a point of the text: some branch opens inside maxDepth others
-pub record Deep (ts : List Tok) (d : ℕ) : Type 0 where
-  pub before : List Tok
-  pub after : List Tok
-  pub cut : ts ≡ before ++ (branch ∷ after)
-  pub deep : maxDepth ≤ depthAfter before d
-
+-- 15: "the written branches nest over 64 deep": told as a point of the text
 later : (t : Tok) {ts : List Tok} {d e : ℕ} → ((a : List Tok) → depthAfter (t ∷ a) d ≡ depthAfter a e) → Deep ts e → Deep (t ∷ ts) d
 later t h g = record { before = t ∷ g .before; after = g .after; cut = ap (λ (l : List Tok). t ∷ l) (g .cut); deep = let q = h (g .before) in let k = g .deep in omega arith }
 
@@ -172,3 +151,10 @@ deep-at (back ∷ ts) (suc d) h = later back (λ a. let s : suc d - 1 ≡ d = om
 
 pub deep-branch : (ts : List Tok) → shallow ts ≡ false → Deep ts 0
 deep-branch ts h = deep-at ts 0 h
+
+pub branch-deep : (ts : List Tok) → Deep ts 0 → shallow ts ≡ false
+branch-deep ts w = go (shallow ts) refl
+  where
+    go : (y : Bool) → shallow ts ≡ y → y ≡ false
+    go true e = absurd (omega (arith, nests-deep ts 0 e (w .before) (w .after) (w .cut), w .deep))
+    go false e = refl
