@@ -18,77 +18,28 @@ use Rattle.ids.specs.Limits.{maxText}
 use Rattle.writing_walk.specs.Emit.{pre}
 use Rattle.writing_walk.specs.Walk.{forestOf, place}
 use Rattle.writing.specs.Write.{WriteResult, bondList, tokens, textOf, renumbering, fewBridges, shallow, writeRefused, writeShort, filled, writeAccepted, writeValid, lent, writeOf}
-use Rattle.buffer.specs.Pen.{Pen, pen, putByte, writes, Wrote}
+use Rattle.buffer.specs.Pen.{Pen, pen, Wrote}
+use Rattle.buffer.proofs.Laws.{Laid, laid, over}
 use Rattle.writer.specs.Told.{Said}
-
--- ---- clearing
-pub clear-none : (r : List ℕ) (from : ℕ) → r ≡ take from r ++ (replicate (from - from) 0 ++ drop from r)
-clear-none r from = let z : from - from ≡ 0 = omega arith in rw z (sym (take-append-drop from r))
-
-pub clear-more : (r row : List ℕ) (from i : ℕ) → from ≤ i → i < length r → row ≡ take from r ++ (replicate (i - from) 0 ++ drop i r)
-    → set row i 0 ≡ take from r ++ (replicate ((i + 1) - from) 0 ++ drop (i + 1) r)
-clear-more r row from i h l e =
-    let n : length (take from r ++ replicate (i - from) 0) ≡ i = length-append (take from r) (replicate (i - from) 0) ∙ rw (length-take-le from r (omega arith), length-replicate) (omega arith) in
-    let q : (i + 1) - from ≡ (i - from) + 1 = omega arith in
-    ap (λ (x : List ℕ). set x i 0) (e ∙ sym (append-assoc (take from r) (replicate (i - from) 0) (drop i r)) ∙ ap (λ (x : List ℕ). (take from r ++ replicate (i - from) 0) ++ x) (drop-cons r i 0 l))
-    ∙ set-at (take from r ++ replicate (i - from) 0) (getD r i 0) (drop (suc i) r) 0 i n
-    ∙ rw (q, ← replicate-append-replicate {A = ℕ} (i - from) 1 0, add-one i) (append-assoc (take from r) (replicate (i - from) 0) (0 ∷ drop (suc i) r)
-    ∙ ap (λ (x : List ℕ). take from r ++ x) (sym (append-assoc (replicate (i - from) 0) (0 ∷ []) (drop (suc i) r))))
-
-pub clear-end : (r row : List ℕ) (from i : ℕ) → length r ≤ i → i ≤ length r → row ≡ take from r ++ (replicate (i - from) 0 ++ drop i r) → row ≡ take from r ++ replicate (length r - from) 0
-clear-end r row from i h l e =
-    let q : i ≡ length r = omega arith in
-    e ∙ rw (drop-of-length-le r h, append-nil {A = ℕ} (replicate (i - from) 0), q)
-
-pub cleared-all : (r row : List ℕ) → row ≡ take 0 r ++ replicate (length r - 0) 0 → row ≡ replicate (length r) 0
-cleared-all r row e = let z : length r - 0 ≡ length r = omega arith in e ∙ rw z
 
 -- the numbers, and zeros after them
 pub numbers-cleared : (f : ℕ → ℕ) (n : ℕ) (r r1 r2 : List ℕ) → n ≤ length r → r1 ≡ upTo f 0 n ++ drop n r → r2 ≡ take n r1 ++ replicate (length r1 - n) 0 → length r1 ≡ length r → r2 ≡ upTo f 0 n ++ replicate (length r - n) 0
 numbers-cleared f n r r1 r2 h e g l =
     g ∙ ap (λ (x : ℕ). take n r1 ++ replicate (x - n) 0) l ∙ ap (λ (x : List ℕ). x ++ replicate (length r - n) 0) (ap (take n) e ∙ take-at (upTo f 0 n) (drop n r) n (length-upTo f 0 n))
 
--- ---- what the pen leaves
-stuck : (l o : List ℕ) → writes l (pen o (suc (length o))) ≡ pen o (suc (length o))
-unfolding writes putByte
-stuck [] o = refl
-stuck (b ∷ l) o = rw (le-ltb (suc (length o)) (length o) (omega arith)) (stuck l o)
-
-put-here : (b x : ℕ) (a o : List ℕ) → putByte b (pen (a ++ (x ∷ o)) (length a)) ≡ pen ((a ++ (b ∷ [])) ++ o) (length (a ++ (b ∷ [])))
-unfolding putByte
-put-here b x a o =
-    let l = length-append a (x ∷ o) in
-    let e : set (a ++ (x ∷ o)) (length a) b ≡ (a ++ (b ∷ [])) ++ o = set-at a x o b (length a) refl ∙ sym (append-assoc a (b ∷ []) o) in
-    let m : suc (length a) ≡ length (a ++ (b ∷ [])) = omega (arith, length-append a (b ∷ [])) in
-    rw (lt-ltb (length a) (length (a ++ (x ∷ o))) (omega arith)) (λ i. pen (e i) (m i))
-
-fitting : (l a o : List ℕ) → length l ≤ length o → writes l (pen (a ++ o) (length a)) ≡ pen (a ++ (l ++ drop (length l) o)) (length a + length l)
-unfolding writes
-fitting [] a o h = let e : length a ≡ length a + 0 = omega arith in ap (pen (a ++ o)) e
-fitting (b ∷ l) a [] h = absurd (omega arith)
-fitting (b ∷ l) a (x ∷ o) h =
-    let e : length (a ++ (b ∷ [])) + length l ≡ length a + suc (length l) = omega (arith, length-append a (b ∷ [])) in
-    ap (writes l) (put-here b x a o) ∙ fitting l (a ++ (b ∷ [])) o (omega arith) ∙ (λ i. pen (append-assoc a (b ∷ []) (l ++ drop (length l) o) i) (e i))
-
-over : (l a o : List ℕ) → length o < length l → writes l (pen (a ++ o) (length a)) .place ≡ suc (length a + length o)
-unfolding writes putByte
-over [] a o h = absurd (omega arith)
-over (b ∷ l) a [] h =
-    let e : a ++ [] ≡ a = append-nil a in
-    let q : writes l (putByte b (pen (a ++ []) (length a))) ≡ pen a (suc (length a)) = ap (λ (y : List ℕ). writes l (putByte b (pen y (length a)))) e ∙ rw (le-ltb (length a) (length a) (omega arith)) (stuck l a) in
-    ap (λ (y : Pen). y .place) q ∙ omega arith
-over (b ∷ l) a (x ∷ o) h =
-    ap (λ (y : Pen). writes l y .place) (put-here b x a o) ∙ over l (a ++ (b ∷ [])) o (omega arith) ∙ omega (arith, length-append a (b ∷ []))
-
+-- ---- the text in the output
 module _ (l out part : List ℕ) (at : ℕ) (room : maxText ≤ length out) (w : Wrote l (pen (take maxText out) 0) (pen part at)) where
   long : length (take maxText out) ≡ maxText
   long = length-take-le maxText out room
+
+  laid-here : length l ≤ maxText → Laid l (take maxText out) 0 part at
+  laid-here h = laid w (omega (arith, long))
 
   pub too-long : maxText < at → leb (length l) maxText ≡ false
   too-long h = go (leb (length l) maxText) refl
     where
       go : (t : Bool) → leb (length l) maxText ≡ t → t ≡ false
-      go true e = absurd (let q = leb-true (length l) maxText e in let z = ap (λ (y : Pen). y .place) (w .same ∙ fitting l [] (take maxText out) (omega (arith, long))) in omega arith)
+      go true e = absurd (omega (arith, leb-true (length l) maxText e, laid-here (leb-true (length l) maxText e) .place))
       go false e = refl
 
   pub not-long : at ≤ maxText → length l ≤ maxText
@@ -96,15 +47,13 @@ module _ (l out part : List ℕ) (at : ℕ) (room : maxText ≤ length out) (w :
     where
       go : (t : Bool) → leb (length l) maxText ≡ t → length l ≤ maxText
       go true e = leb-true (length l) maxText e
-      go false e = absurd (let q = leb-false (length l) maxText e in let z = ap (λ (y : Pen). y .place) (w .same) ∙ over l [] (take maxText out) (omega (arith, long)) in omega (arith, long))
+      go false e = absurd (omega (arith, long, over w (omega (arith, long)) (omega arith) (omega (arith, long, leb-false (length l) maxText e))))
 
   -- the text and its length
   pub the-text : length l ≤ maxText → (at ≡ length l) × (take at part ≡ l)
   the-text h =
-      let q = w .same ∙ fitting l [] (take maxText out) (omega (arith, long)) in
-      let p : at ≡ length l = ap (λ (y : Pen). y .place) q ∙ omega arith in
-      let r : part ≡ l ++ drop (length l) (take maxText out) = ap (λ (y : Pen). y .output) q in
-      (p, ap (take at) r ∙ take-at l (drop (length l) (take maxText out)) at (sym p))
+      let d : Laid l (take maxText out) 0 part at = laid-here h in
+      (d .place ∙ omega arith, d .front)
 
 upTo-same : (f g : ℕ → ℕ) (n d k : ℕ) → k + d ≤ n → ((a : ℕ) → a < n → f a ≡ g a) → upTo f k d ≡ upTo g k d
 unfolding upTo

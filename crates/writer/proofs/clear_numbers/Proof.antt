@@ -1,4 +1,4 @@
-use Rattle.writer.proofs.Answer.{clear-none, clear-more, clear-end}
+use Rattle.buffer.proofs.Clearing.{clear-none, clear-more, clear-end}
 use mathlib.Core.Path.{_≡_, refl, _∙_}
 use mathlib.Core.List.{_++_}
 use lib.ListN.{length, take, drop, replicate, length-set}
