@@ -44,6 +44,19 @@ typedef struct {
     size_t length;
 } balsa_write_reply;
 
+/* code 0 with the symbol's bytes, atomic number (0 for '*') and 1 for a selected letter; or code 3 with
+ * the place of the byte with which no symbol goes on */
+typedef struct {
+    uint32_t code;
+    size_t place;
+    size_t length;
+    uint32_t element;
+    uint32_t selected;
+} balsa_symbol_reply;
+
+/* The symbol of a bracket at two bytes; second is 0 where first is the last byte. */
+balsa_symbol_reply balsa_symbol(uint8_t first, uint8_t second);
+
 /* Reads a text. Output: atoms, bonds. Refusals 1 to 11. */
 balsa_read_reply balsa_read(const uint8_t *text, size_t text_len, int32_t *atoms, size_t atoms_len,
                             int32_t *bonds, size_t bonds_len);

@@ -1,1 +1,2 @@
 pub mod Capi
+pub mod Symbol

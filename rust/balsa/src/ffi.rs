@@ -19,10 +19,21 @@ pub struct WriteReply {
     pub length: usize,
 }
 
+/// What `balsa_symbol` hands back.
+#[repr(C)]
+pub struct SymbolReply {
+    pub code: u32,
+    pub place: usize,
+    pub length: usize,
+    pub element: u32,
+    pub selected: u32,
+}
+
 mod linked {
-    use super::{ReadReply, WriteReply};
+    use super::{ReadReply, SymbolReply, WriteReply};
 
     extern "C" {
+        pub fn balsa_symbol(first: u8, second: u8) -> SymbolReply;
         pub fn balsa_read(
             text: *const u8,
             text_len: usize,
@@ -106,6 +117,11 @@ mod linked {
             codes_len: usize,
         ) -> u32;
     }
+}
+
+pub fn symbol(first: u8, second: u8) -> SymbolReply {
+    // SAFETY: two bytes pass by value.
+    unsafe { linked::balsa_symbol(first, second) }
 }
 
 pub fn read(text: &[u8], atoms: &mut [i32], bonds: &mut [i32]) -> ReadReply {

@@ -6,7 +6,9 @@
 mod ffi;
 mod molecule;
 mod refusal;
+mod symbol;
 pub mod tables;
 
 pub use molecule::{Matchings, Molecule, Written};
 pub use refusal::{Code, Refusal};
+pub use symbol::{symbol, Symbol};
