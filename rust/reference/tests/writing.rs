@@ -289,9 +289,10 @@ fn a_kekulized_text_can_be_too_long() {
     }
     for (number, hydrogens) in [(inner, 1), (outer, 2)] {
         molecule.atoms[number] = Atom {
-            element: 6,
+            element: 7,
             selected: true,
             hydrogens,
+            charge: 9,
             ..LONG
         };
     }
