@@ -12,7 +12,7 @@ use Rattle.loops.specs.Loop.{pick}
 use Rattle.loops.proofs.Loops.{and-left, and-right}
 use Rattle.valence.specs.Valence.{order, implied}
 use Rattle.table_graph.specs.Graph.{bondSum, matchable}
-use Rattle.table.specs.Limits.{maxAtoms, maxBonds, atomCells, bondCells, ELEMENT, SELECTED, ISOTOPE, HYDROGENS, EXTENSION}
+use Rattle.table.specs.Limits.{maxAtoms, maxBonds, atomCells, bondCells, ELEMENT, SELECTED, ISOTOPE, HYDROGENS, CHARGE, EXTENSION}
 use Rattle.table.specs.Cells.{number, atomCell, bondCell, element, selected, hydrogens}
 use Rattle.table.specs.Valid.{Valid, selectedOk}
 use Rattle.table.proofs.Valid.{AtomFine, atom-row, range-pos, Enough}
@@ -250,5 +250,6 @@ module _ (atoms bonds : List ℤ) (n m : ℕ) (v : Valid atoms bonds n m) where
       permuted = subst (λ (l : List Bond). Perm l (map (renumber walked) bs)) (sym (M .listed)) permuted;
       elements = λ w l. ap number (M .cells w ELEMENT l (omega arith));
       selections = λ w l. ap number (M .cells w SELECTED l (omega arith));
+      charges = λ w l. M .cells w CHARGE l (omega arith);
       hydrogen-counts = λ w l. ap number (M .cells w HYDROGENS l (omega arith));
     })

@@ -9,7 +9,8 @@ use lib.Dec.{eqb}
 use lib.IntN.{ℤ}
 use Rattle.loops.specs.Loop.{pick, run, upTo}
 use Rattle.loops.proofs.Loops.{length-upTo, upTo-at}
-use Rattle.table.specs.Cells.{element, selected, hydrogens, end1, end2, kind}
+use Rattle.table.specs.Limits.{CHARGE}
+use Rattle.table.specs.Cells.{atomCell, element, selected, hydrogens, end1, end2, kind}
 use Rattle.valence.specs.Valence.{order, delocalized}
 use Rattle.table_graph.specs.Graph.{touches, share, addShare, bondSum, flag, delocalizedFlag, delocalizedFlags, graphOf}
 use Rattle.writing_walk.specs.Token.{bond}
@@ -55,6 +56,7 @@ pub record Renumbered (n m : ℕ) (order : List ℕ) (atoms bonds atoms′ bonds
   pub permuted : Perm (bondList bonds′ m) (map (renumber order) (bondList bonds m))
   pub elements : (v : ℕ) → v < n → element atoms′ (place order v) ≡ element atoms v
   pub selections : (v : ℕ) → v < n → selected atoms′ (place order v) ≡ selected atoms v
+  pub charges : (v : ℕ) → v < n → atomCell atoms′ (place order v) CHARGE ≡ atomCell atoms v CHARGE
   pub hydrogen-counts : (v : ℕ) → v < n → hydrogens atoms′ (place order v) ≡ hydrogens atoms v
 
 module _ {n m : ℕ} {walk : List ℕ} {atoms bonds atoms′ bonds′ : List ℤ} (w : Renumbered n m walk atoms bonds atoms′ bonds′) where
@@ -69,7 +71,7 @@ module _ {n m : ℕ} {walk : List ℕ} {atoms bonds atoms′ bonds′ : List ℤ
   -- and stays delocalized, or not
   pub flag-renumbered : (v : ℕ) → v < n → delocalizedFlag atoms′ bonds′ m (place walk v) ≡ delocalizedFlag atoms bonds m v
   flag-renumbered v h =
-      λ i. flag (delocalized (w .elements v h i) (w .selections v h i) (sum-renumbered v h i) (w .hydrogen-counts v h i))
+      λ i. flag (delocalized (w .elements v h i) (w .selections v h i) (w .charges v h i) (sum-renumbered v h i) (w .hydrogen-counts v h i))
 
   pub flags-followed : Followed n walk (delocalizedFlags atoms bonds n m) (delocalizedFlags atoms′ bonds′ n m)
   flags-followed =

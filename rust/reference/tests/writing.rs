@@ -289,9 +289,10 @@ fn a_kekulized_text_can_be_too_long() {
     }
     for (number, hydrogens) in [(inner, 1), (outer, 2)] {
         molecule.atoms[number] = Atom {
-            element: 6,
+            element: 7,
             selected: true,
             hydrogens,
+            charge: 9,
             ..LONG
         };
     }
@@ -304,21 +305,12 @@ fn a_kekulized_text_can_be_too_long() {
 #[test]
 fn real_texts_are_read_back() {
     let corpus = include_str!("../../../corpus/real.smi");
-    let mut accepted = 0;
     for line in corpus.lines() {
-        let mut molecule = match read(line.as_bytes()) {
-            Ok(molecule) => molecule,
-            Err(refusal) => {
-                assert_eq!(refusal.code, Code::Unmatchable, "{line}");
-                continue;
-            }
-        };
-        accepted += 1;
+        let mut molecule = read(line.as_bytes()).unwrap_or_else(|no| panic!("{line}: {no:?}"));
         assert_read_back(&molecule);
         let row = first(&molecule).unwrap();
         assert!(kekulize(&mut molecule, &row), "{line}");
         assert_read_back(&molecule);
         assert!(molecule.atoms.iter().all(|atom| !atom.selected), "{line}");
     }
-    assert!(accepted > 5000, "{accepted}");
 }
