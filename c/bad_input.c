@@ -116,11 +116,48 @@ static void rubbish_rows(void) {
                         r.bonds, row, BALSA_ROW, codes, sizeof codes - 1) == 1, "too few codes");
 }
 
+/* The register: too short, any bytes, gaps, full at 64 entries and at byte 32,767; a refusal changes nothing. */
+static void registers(void) {
+    static uint8_t reg[BALSA_REGISTER + 3], before[sizeof reg], body[BALSA_REGISTER_BODY + 1];
+    memset(reg, 7, sizeof reg);
+    memset(before, 7, sizeof before);
+    expect(balsa_register_empty(reg, BALSA_REGISTER - 1) == 1 && balsa_register_empty(NULL, 0) == 1,
+           "a short register");
+    expect(balsa_register_add(reg, sizeof reg, 5, body, 1) == 17, "rubbish is 17");
+    expect(balsa_register_entry(reg, sizeof reg, 0).code == 17, "rubbish has no entries");
+    expect(memcmp(reg, before, sizeof reg) == 0, "1 and 17 leave the register");
+    expect(balsa_register_empty(reg, sizeof reg) == 0 && reg[0] == 1 && reg[1] == 0 &&
+           memcmp(reg + 2, before + 2, sizeof reg - 2) == 0, "emptying stores two bytes");
+    expect(balsa_register_add(reg, sizeof reg, 1, body, BALSA_REGISTER_BODY + 1) == 18, "a long body");
+    for (unsigned i = 0; i < 7; i++) {
+        expect(balsa_register_add(reg, sizeof reg, 1, body, BALSA_REGISTER_BODY) == 0, "a full body");
+    }
+    expect(balsa_register_add(reg, sizeof reg, 1, body, 3711) == 18, "past byte 32,767");
+    for (size_t k = 0; k < 3710 + 7; k++) {
+        expect(balsa_register_entry(reg, sizeof reg, 7).found == 0, "not added before the last step");
+        expect(balsa_register_step(reg, sizeof reg, 65535, body, 3710, k) == 0, "a step");
+    }
+    balsa_entry_reply e = balsa_register_entry(reg, sizeof reg, 7);
+    expect(e.code == 0 && e.found == 1 && e.tag == 65535 && e.start == 29058 && e.length == 3710,
+           "the entry up to byte 32,767");
+    for (unsigned i = 8; i < BALSA_REGISTER_ENTRIES; i++) {
+        expect(balsa_register_add(reg, sizeof reg, 2, NULL, 0) == 0, "an empty body, as null");
+    }
+    expect(balsa_register_add(reg, sizeof reg, 2, NULL, 0) == 18, "a 65th entry");
+    e = balsa_register_entry(reg, sizeof reg, SIZE_MAX);
+    expect(e.code == 0 && e.found == 0 && e.tag == 0 && e.start == 0 && e.length == 0,
+           "no entry at the largest place");
+    reg[8]++;
+    expect(balsa_register_entry(reg, sizeof reg, 0).code == 17, "a gap between bodies");
+    expect(reg[BALSA_REGISTER] == 7, "bytes past the register stay");
+}
+
 int main(void) {
     short_buffers();
     texts();
     invalid_tables();
     rubbish_rows();
+    registers();
     printf("%u checks hold\n", checks);
     return 0;
 }

@@ -94,6 +94,49 @@ uint32_t balsa_replay(const uint8_t *calls, size_t calls_len, const int32_t *ato
                       const int32_t *bonds, size_t bonds_len, size_t n, size_t m, uint8_t *row,
                       size_t row_len, uint8_t *codes, size_t codes_len);
 
+/* ---- A register of entries, each a tag and a body, that survives a power cut ----
+ *
+ * A register is at least 32,768 bytes that the caller lends (what is beyond is neither looked at nor
+ * changed): byte 0 is 1, byte 1 the number of entries, then 64 entries of 6 bytes (start, length and
+ * tag, low byte first), then from byte 386 the bodies back to back. At most 64 entries; a body has at
+ * most 4,096 bytes and ends at byte 32,767 or before. Any bytes may stand in a register that is lent.
+ *
+ * Codes: 0 done; 1 the register is too short; 17 its layout breaks a rule; 18 no room for the body.
+ * They are checked in this order, and a refusal leaves the register as it was. */
+
+enum {
+    BALSA_REGISTER = 32768,
+    BALSA_REGISTER_ENTRIES = 64,
+    BALSA_REGISTER_BODY = 4096
+};
+
+/* code 0 with found 1, the tag and where the body stands; code 0 with found 0 where there is no such
+ * entry; or a refusal's code. What is not named is 0. */
+typedef struct {
+    uint32_t code;
+    uint32_t found;
+    uint16_t tag;
+    size_t start;
+    size_t length;
+} balsa_entry_reply;
+
+/* Empties a register, whatever stands in it: stores bytes 0 and 1, no more. Refusal 1. */
+uint32_t balsa_register_empty(uint8_t *reg, size_t reg_len);
+
+/* Adds an entry: all the steps of balsa_register_step, in order. Refusals 1, 17, 18. */
+uint32_t balsa_register_add(uint8_t *reg, size_t reg_len, uint16_t tag, const uint8_t *body,
+                            size_t body_len);
+
+/* Step k of adding: stores at most one byte. The body comes first, then the entry, and byte 1 with
+ * step body_len + 6, the last; past it nothing changes. Made in order from 0 on, the register lists
+ * after every step the old entries, or after the last one those and the new one: power may go after
+ * any of them. Refusals 1, 17, 18. */
+uint32_t balsa_register_step(uint8_t *reg, size_t reg_len, uint16_t tag, const uint8_t *body,
+                             size_t body_len, size_t k);
+
+/* The entry at a place counted from 0. Refusals 1, 17. */
+balsa_entry_reply balsa_register_entry(const uint8_t *reg, size_t reg_len, size_t place);
+
 #ifdef __cplusplus
 }
 #endif

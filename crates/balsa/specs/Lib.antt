@@ -1,2 +1,3 @@
 pub mod Capi
 pub mod Symbol
+pub mod Registers

@@ -14,6 +14,7 @@ use reader::ending::Answer;
 use table::Check;
 use writer::Written;
 
+mod register_calls;
 pub mod symbol;
 
 // What reading hands back: code 0 with the counts of atoms and bonds, or the refusal's code with its offset.

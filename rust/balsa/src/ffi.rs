@@ -29,8 +29,18 @@ pub struct SymbolReply {
     pub selected: u32,
 }
 
+/// What `balsa_register_entry` hands back.
+#[repr(C)]
+pub struct EntryReply {
+    pub code: u32,
+    pub found: u32,
+    pub tag: u16,
+    pub start: usize,
+    pub length: usize,
+}
+
 mod linked {
-    use super::{ReadReply, SymbolReply, WriteReply};
+    use super::{EntryReply, ReadReply, SymbolReply, WriteReply};
 
     extern "C" {
         pub fn balsa_symbol(first: u8, second: u8) -> SymbolReply;
@@ -116,6 +126,23 @@ mod linked {
             codes: *mut u8,
             codes_len: usize,
         ) -> u32;
+        pub fn balsa_register_empty(reg: *mut u8, reg_len: usize) -> u32;
+        pub fn balsa_register_add(
+            reg: *mut u8,
+            reg_len: usize,
+            tag: u16,
+            body: *const u8,
+            body_len: usize,
+        ) -> u32;
+        pub fn balsa_register_step(
+            reg: *mut u8,
+            reg_len: usize,
+            tag: u16,
+            body: *const u8,
+            body_len: usize,
+            k: usize,
+        ) -> u32;
+        pub fn balsa_register_entry(reg: *const u8, reg_len: usize, place: usize) -> EntryReply;
     }
 }
 
@@ -267,4 +294,35 @@ pub fn replay(
             codes.len(),
         )
     }
+}
+
+pub fn register_empty(reg: &mut [u8]) -> u32 {
+    // SAFETY: as for `read`.
+    unsafe { linked::balsa_register_empty(reg.as_mut_ptr(), reg.len()) }
+}
+
+pub fn register_add(reg: &mut [u8], tag: u16, body: &[u8]) -> u32 {
+    // SAFETY: as for `read`.
+    unsafe {
+        linked::balsa_register_add(reg.as_mut_ptr(), reg.len(), tag, body.as_ptr(), body.len())
+    }
+}
+
+pub fn register_step(reg: &mut [u8], tag: u16, body: &[u8], k: usize) -> u32 {
+    // SAFETY: as for `read`.
+    unsafe {
+        linked::balsa_register_step(
+            reg.as_mut_ptr(),
+            reg.len(),
+            tag,
+            body.as_ptr(),
+            body.len(),
+            k,
+        )
+    }
+}
+
+pub fn register_entry(reg: &[u8], place: usize) -> EntryReply {
+    // SAFETY: as for `read`.
+    unsafe { linked::balsa_register_entry(reg.as_ptr(), reg.len(), place) }
 }

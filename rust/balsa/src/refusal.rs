@@ -38,10 +38,14 @@ pub enum Code {
     DeepWriting = 15,
     /// The written text would be over 4,096 bytes.
     LongWriting = 16,
+    /// The layout of the register breaks a rule.
+    InvalidRegister = 17,
+    /// The register has no room for the body.
+    FullRegister = 18,
 }
 
 impl Code {
-    const ALL: [Code; 16] = [
+    const ALL: [Code; 18] = [
         Code::Short,
         Code::LongText,
         Code::Grammar,
@@ -58,9 +62,11 @@ impl Code {
         Code::ManyBridges,
         Code::DeepWriting,
         Code::LongWriting,
+        Code::InvalidRegister,
+        Code::FullRegister,
     ];
 
-    /// The number of the rules, 1 to 16.
+    /// The number of the rules, 1 to 18.
     pub fn number(self) -> u8 {
         self as u8
     }

@@ -36,6 +36,10 @@ pub enum Code {
     WrittenTooDeep = 15,
     /// The written text would be too long.
     WrittenTooLong = 16,
+    /// The layout of the register breaks a rule.
+    InvalidRegister = 17,
+    /// The register has no room for the body.
+    RegisterFull = 18,
 }
 
 impl Code {
