@@ -5,11 +5,11 @@ pub use Rattle.reading.proofs.Accepted.{read-sane, read-valid}
 -- so does every sane memory, between any two bytes and once its atoms got their hydrogens, and the test says so
 pub use Rattle.reading.proofs.Valid.{sane-between, sane-valid, valid-true}
 -- an accepted text: its counts, its rows with 01's hydrogens, zeros after them, no open bridge, a matching
-pub use Rattle.reading.proofs.Accepted.{impliedAt, Given, Accepted, read-accepted}
+pub use Rattle.reading.proofs.Accepted.{read-accepted}
 -- what stands in the tables is what was read: complete atoms, letters, the fields before each `]`, bonds
 pub use Rattle.reading.proofs.Kept.{atom-kept, letter-kept, first-row, bracket-kept, bond-kept}
 -- codes 0, 10 and 11 only for texts of the grammar; 3 exactly at the grammar's place, unless 4 to 9 came before
-pub use Rattle.reading.proofs.Texts.{ReadsTexts, reads-texts}
+pub use Rattle.reading.proofs.Texts.{reads-texts}
 -- "given exactly when", 1 to 11: each refusal by 01's conditions, the one that is told; and none exactly where a text is accepted
 pub use Rattle.reading.proofs.First.{refused-iff, accepted-iff}
 -- 11 exactly where the molecule read has no matching

@@ -30,13 +30,13 @@ use Rattle.reading.specs.Memory.{Memory, rowOf, bareRow, begun, describe
 use Rattle.reading.specs.Act.{firstByte, closeAct, chargeAct, hydrogenAct, modeAct, act}
 use Rattle.reading.specs.Read.{zeros, beginning, readOf}
 use Rattle.reading.specs.Conditions.{bytesRead, Fits}
+use Rattle.reading.specs.Claims.{withHydrogens, impliedAt, Given, Accepted}
 use Rattle.reading.proofs.Sane.{Sane}
 use Rattle.reading.proofs.Rows.{with-atom-row}
-use Rattle.reading.proofs.Hydrogens.{withHydrogens}
 use Rattle.reading.proofs.Step.{sane-beginning, sane-going}
 use Rattle.reading.proofs.Dispatch.{Second}
 use Rattle.reading.proofs.Stays.{half-bracket, writing, After, Complete, Left, stays, Same, counted, letter-stays}
-use Rattle.reading.proofs.Accepted.{impliedAt, Given, Accepted, read-accepted}
+use Rattle.reading.proofs.Accepted.{read-accepted}
 
 -- ---- `]`
 

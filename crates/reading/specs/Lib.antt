@@ -3,3 +3,4 @@ pub mod Bracket
 pub mod Act
 pub mod Read
 pub mod Conditions
+pub mod Claims
