@@ -152,12 +152,34 @@ static void registers(void) {
     expect(reg[BALSA_REGISTER] == 7, "bytes past the register stay");
 }
 
+/* The report: as long as it says; one byte too few changes nothing; zeros follow it. */
+static void reports(void) {
+    static const char input[] = "c1ccccc1\nC11\n\n";
+    static const char report[] = "balsa report\n1: 0 6 6 101010 C1=CC=CC=C1\n2: 7 2\n3: 0 0 0 - -\n"
+                                 "accepted 2 refused 1\n";
+    size_t input_len = sizeof input - 1, length = sizeof report - 1;
+    const uint8_t *lines = (const uint8_t *)input;
+    expect(balsa_report_length(lines, input_len) == length, "the length of the report");
+    memset(out, 7, sizeof out);
+    balsa_report_reply r = balsa_report(lines, input_len, out, length - 1);
+    expect(r.code == 1 && r.length == 0 && all(out, sizeof out, 7), "a report that does not fit");
+    r = balsa_report(lines, input_len, NULL, 0);
+    expect(r.code == 1, "no output");
+    r = balsa_report(lines, input_len, out, length);
+    expect(r.code == 0 && r.length == length && memcmp(out, report, length) == 0, "01's sample");
+    expect(all(out + length, sizeof out - length, 7), "nothing after the output");
+    r = balsa_report(NULL, 0, out, sizeof out);
+    expect(r.code == 0 && r.length == 34, "the report of nothing");
+    expect(all(out + r.length, sizeof out - r.length, 0), "zeros after the report");
+}
+
 int main(void) {
     short_buffers();
     texts();
     invalid_tables();
     rubbish_rows();
     registers();
+    reports();
     printf("%u checks hold\n", checks);
     return 0;
 }

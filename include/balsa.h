@@ -57,6 +57,12 @@ typedef struct {
 /* The symbol of a bracket at two bytes; second is 0 where first is the last byte. */
 balsa_symbol_reply balsa_symbol(uint8_t first, uint8_t second);
 
+/* code 0 with the number of bytes of the report, or code 1 with length 0 */
+typedef struct {
+    uint32_t code;
+    size_t length;
+} balsa_report_reply;
+
 /* Reads a text. Output: atoms, bonds. Refusals 1 to 11. */
 balsa_read_reply balsa_read(const uint8_t *text, size_t text_len, int32_t *atoms, size_t atoms_len,
                             int32_t *bonds, size_t bonds_len);
@@ -93,6 +99,14 @@ uint32_t balsa_kekulize(int32_t *atoms, size_t atoms_len, int32_t *bonds, size_t
 uint32_t balsa_replay(const uint8_t *calls, size_t calls_len, const int32_t *atoms, size_t atoms_len,
                       const int32_t *bonds, size_t bonds_len, size_t n, size_t m, uint8_t *row,
                       size_t row_len, uint8_t *codes, size_t codes_len);
+
+/* The report of the lines of an input, as the program `report` writes it (docs/RULES.md). Output: out; the
+ * bytes after the report are zeroed. Refusal 1 where the report does not fit: nothing changes. */
+balsa_report_reply balsa_report(const uint8_t *input, size_t input_len, uint8_t *out, size_t out_len);
+
+/* How many bytes the report of an input has. SIZE_MAX stands for that number and all larger ones, which
+ * no buffer has. */
+size_t balsa_report_length(const uint8_t *input, size_t input_len);
 
 /* ---- A register of entries, each a tag and a body, that survives a power cut ----
  *

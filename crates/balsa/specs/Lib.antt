@@ -1,3 +1,4 @@
 pub mod Capi
 pub mod Symbol
 pub mod Registers
+pub mod Reporting

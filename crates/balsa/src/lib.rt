@@ -15,6 +15,7 @@ use table::Check;
 use writer::Written;
 
 mod register_calls;
+pub mod reporting;
 pub mod symbol;
 
 // What reading hands back: code 0 with the counts of atoms and bonds, or the refusal's code with its offset.

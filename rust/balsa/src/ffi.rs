@@ -39,8 +39,15 @@ pub struct EntryReply {
     pub length: usize,
 }
 
+/// What `balsa_report` hands back.
+#[repr(C)]
+pub struct ReportReply {
+    pub code: u32,
+    pub length: usize,
+}
+
 mod linked {
-    use super::{EntryReply, ReadReply, SymbolReply, WriteReply};
+    use super::{EntryReply, ReadReply, ReportReply, SymbolReply, WriteReply};
 
     extern "C" {
         pub fn balsa_symbol(first: u8, second: u8) -> SymbolReply;
@@ -126,6 +133,13 @@ mod linked {
             codes: *mut u8,
             codes_len: usize,
         ) -> u32;
+        pub fn balsa_report(
+            input: *const u8,
+            input_len: usize,
+            out: *mut u8,
+            out_len: usize,
+        ) -> ReportReply;
+        pub fn balsa_report_length(input: *const u8, input_len: usize) -> usize;
         pub fn balsa_register_empty(reg: *mut u8, reg_len: usize) -> u32;
         pub fn balsa_register_add(
             reg: *mut u8,
@@ -294,6 +308,16 @@ pub fn replay(
             codes.len(),
         )
     }
+}
+
+pub fn report(input: &[u8], out: &mut [u8]) -> ReportReply {
+    // SAFETY: as for `read`.
+    unsafe { linked::balsa_report(input.as_ptr(), input.len(), out.as_mut_ptr(), out.len()) }
+}
+
+pub fn report_length(input: &[u8]) -> usize {
+    // SAFETY: as for `read`.
+    unsafe { linked::balsa_report_length(input.as_ptr(), input.len()) }
 }
 
 pub fn register_empty(reg: &mut [u8]) -> u32 {

@@ -135,8 +135,24 @@ impl Implementation for Faulty {
         answer
     }
 
+    fn check(&self, buffers: &mut Buffers) -> Answer {
+        let mut answer = Reference.check(buffers);
+        if self.has("13 as 1") && answer.code == 13 {
+            answer.code = 1;
+        }
+        answer
+    }
+
     fn first(&self, buffers: &mut Buffers) -> Answer {
         Reference.first(buffers)
+    }
+
+    fn replay(&self, buffers: &mut Buffers) -> Answer {
+        let answer = Reference.replay(buffers);
+        if self.has("dirty codes") && buffers.codes.len() > buffers.calls.len() {
+            *buffers.codes.last_mut().unwrap() = 1;
+        }
+        answer
     }
 
     fn next(&self, buffers: &mut Buffers) -> Answer {
@@ -199,6 +215,8 @@ fn faults_are_seen() {
         "dirty table",
         "row at the end",
         "early end",
+        "13 as 1",
+        "dirty codes",
         "row cleared",
         "15 before 14",
         "renumbering",
