@@ -9,8 +9,6 @@ use Rattle.matching.specs.declared.Call.{Call}
 use Rattle.matching.specs.declared.Call.the-variants.{First, Next}
 use Rattle.kekule_answers.specs.declared.Found.{Found}
 use Rattle.kekule_answers.specs.declared.Found.the-variants.{Given, End, Refused}
-use Rattle.kekule_answers.specs.declared.Asked.{Asked}
-use Rattle.kekule_answers.specs.declared.Asked.the-variants.{Yes, No, Refused as askedRefused}
 
 -- an answer of the enumeration (01: of the book): 11 without a matching, 12 where the row is none, "end" after the last
 abbrev pub foundOf : Answer → Found
@@ -19,7 +17,7 @@ foundOf Absent = Refused Unmatchable
 foundOf answerRefused = Refused NotMatching
 foundOf Ended = End
 
--- the code of an answer: 0 for a matching, 255 for "end", else the refusal's
+-- 01's number for each answer: 0 for a matching, 255 for "end" (01 gives it none), else the refusal's
 abbrev pub foundCode : Found → ℕ
 foundCode Given = 0
 foundCode End = 255
@@ -35,9 +33,3 @@ isGiven (Refused r) = false
 abbrev pub callOf : ℕ → Call
 callOf zero = First
 callOf (suc b) = Next
-
--- a row that is no matching has 01's code 12
-abbrev pub askedCode : Asked → ℕ
-askedCode Yes = 0
-askedCode No = 12
-askedCode (askedRefused r) = codeOf r

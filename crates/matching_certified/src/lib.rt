@@ -204,7 +204,7 @@ fn seek_from(
     let mut at = k.0;
     while at < ea.len() {
         if hopeless(ea, eb, el, need, BondId(at), mate) {
-            matching_search::blank(row, at, ea.len());
+            matching_search::blank(row, BondId(at), BondId(ea.len()));
             return false;
         }
         if matching_search::choosable(ea, eb, el, need, BondId(at)) {

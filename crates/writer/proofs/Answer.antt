@@ -22,6 +22,10 @@ use Rattle.buffer.specs.Pen.{Pen, pen, Wrote}
 use Rattle.buffer.proofs.Laws.{Laid, laid, over}
 use Rattle.writer.specs.Told.{Said}
 
+-- ---- clearing
+pub cleared-all : (r row : List ℕ) → row ≡ take 0 r ++ replicate (length r - 0) 0 → row ≡ replicate (length r) 0
+cleared-all r row e = let z : length r - 0 ≡ length r = omega arith in e ∙ rw z
+
 -- the numbers, and zeros after them
 pub numbers-cleared : (f : ℕ → ℕ) (n : ℕ) (r r1 r2 : List ℕ) → n ≤ length r → r1 ≡ upTo f 0 n ++ drop n r → r2 ≡ take n r1 ++ replicate (length r1 - n) 0 → length r1 ≡ length r → r2 ≡ upTo f 0 n ++ replicate (length r - n) 0
 numbers-cleared f n r r1 r2 h e g l =

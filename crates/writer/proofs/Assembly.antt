@@ -37,7 +37,7 @@ use Rattle.writing_visit.specs.Wires.{wires, Wired}
 use Rattle.writing_visit.proofs.Ways.{bonds-inside}
 use Rattle.writing_visit.proofs.Wires.{fit-same, wired-at, wired-list}
 use Rattle.writing_visit.proofs.Laws.{length-kinds, length-ups, room-kept}
-use Rattle.writing_bridges.specs.Slots.{Slots, end, rest, closesFrom, opensFrom, closeBytes, openBytes}
+use Rattle.writing_bridges.specs.Slots.{slotCount, Slots, end, rest, closesFrom, opensFrom, closeBytes, openBytes}
 use Rattle.writing_bridges.specs.Unused.{bondArrays, addBond, inWalk, Numbered, BondRoom}
 use Rattle.writing_bridges.proofs.Listed.{Listed, listed}
 use Rattle.writer.specs.Emit.{Ready, headBytes, moreAt, leadBytes, Texted, Pending, bytesFrom, nextSlots}
@@ -194,7 +194,7 @@ module _ {atoms bonds : List ℤ} {n m : ℕ} (v : Valid atoms bonds n m) {o w u
   -- THE STATEMENT
   pub said : (last sums los his kds l0 : List ℕ) (k : ℕ) (few flat? : Bool) (p q : Pen) → Listed (bondList bonds m) n los his kds k → ((a : ℕ) → a < n → getD sums a 0 ≡ bondSum bonds m a)
       → maxAtoms < length l0 → last ≡ run (λ x l. set l (getD u x 0) x) 0 n l0
-      → Texted (headBytes atoms o u kd last sums) los his kds n k (replicate 99 0) few p q → flat? ≡ nestFrom u (moreAt u last) 0 n 0 → Said atoms bonds n m few flat? p q
+      → Texted (headBytes atoms o u kd last sums) los his kds n k (replicate slotCount 0) few p q → flat? ≡ nestFrom u (moreAt u last) 0 n 0 → Said atoms bonds n m few flat? p q
   unfolding tokens write textOf
   said last sums los his kds l0 k few flat? p q ls sm ll el tx sh =
       let f = ls .bond-at in
@@ -210,7 +210,7 @@ module _ {atoms bonds : List ℤ} {n m : ℕ} (v : Valid atoms bonds n m) {o w u
       let N = upTo f 0 k in
       let g = atomBytes atoms bonds m in
       let pe : Pending N 0 [] = inv-start N (closingBonds n N) (openingBonds n N) (back-of n N (bridges-inside br)) in
-      let T = tx .told f [] br (ls .kind-at) (zero-slots f k 99) pe in
+      let T = tx .told f [] br (ls .kind-at) (zero-slots f k slotCount) pe in
       let tok : tokens bonds n m ≡ flat (closingBonds n N) (openingBonds n N) (rowsOf ws ks us 0) 0 [] =
       ap (λ (H : Forest). text (closingBonds n U) (openingBonds n U) H 0 []) (same-atoms G) ∙ sym (rows-text (closingBonds n U) (openingBonds n U) G [])
       ∙ ap (λ (W : List Bond). flat (closingBonds n W) (openingBonds n W) (rowsOf ws ks us 0) 0 []) (sym (ls .all)) in

@@ -19,7 +19,7 @@ use Rattle.writing_walk.proofs.Read.{openOf, Within}
 use Rattle.writing_walk.proofs.Bridges.{Low, close-low, close-length, insert-length}
 use Rattle.writing.specs.Spell.{kindBytes, bridgeBytes, tokenBytes, restBytes, tokensBytes}
 use Rattle.writing.specs.Write.{fewBridges}
-use Rattle.writing_bridges.specs.Slots.{Bridged, closesFrom, opensFrom, closeBytes, openBytes, fits}
+use Rattle.writing_bridges.specs.Slots.{slotCount, Bridged, closesFrom, opensFrom, closeBytes, openBytes, fits}
 use Rattle.writer.specs.Emit.{leaveBytes, enterBytes, leadBytes, Pending, nextSlots, bytesFrom, fewFrom}
 use Rattle.writer.proofs.Emission.{closes-are, opens-are, open-there, pending-next}
 
@@ -77,12 +77,12 @@ few-lead first false k w = refl
 few-lead later true k w = refl
 few-lead later false k w = refl
 
-few-low : (l : List Tok) → All (Low 99) l → fewBridges l ≡ true
+few-low : (l : List Tok) → All (Low slotCount) l → fewBridges l ≡ true
 unfolding fewBridges
 few-low [] none = refl
 few-low (apart w ∷ l) (more h a) = few-low l a
 few-low (along k w ∷ l) (more h a) = few-low l a
-few-low (ring k r ∷ l) (more h a) = rw (lt-ltb (suc r) 100 (omega arith)) (few-low l a)
+few-low (ring k r ∷ l) (more h a) = rw (lt-ltb (suc r) bridges (omega arith)) (few-low l a)
 few-low (branch ∷ l) (more h a) = few-low l a
 few-low (back ∷ l) (more h a) = few-low l a
 
@@ -93,18 +93,18 @@ ltb-suc a b = go (ltb a b) refl
     go true e = let h = ltb-true a b e in lt-ltb (suc a) (suc b) (omega arith)
     go false e = let h = ltb-false a b e in le-ltb (suc a) (suc b) (omega arith)
 
-few-open : (l : List Bond) (t : List Slot) → fewBridges (openToks l t) ≡ fits 99 l t
+few-open : (l : List Bond) (t : List Slot) → fewBridges (openToks l t) ≡ fits slotCount l t
 unfolding fewBridges fits
 few-open [] t = refl
-few-open (b ∷ l) t = λ i. ltb-suc (lowest t) 99 i && few-open l (insert b t) i
+few-open (b ∷ l) t = λ i. ltb-suc (lowest t) slotCount i && few-open l (insert b t) i
 
-fits-long : (l : List Bond) (t : List Slot) → length t ≤ 99 → fits 99 l t ≡ true → length (openAll l t) ≤ 99
+fits-long : (l : List Bond) (t : List Slot) → length t ≤ slotCount → fits slotCount l t ≡ true → length (openAll l t) ≤ slotCount
 unfolding fits
 fits-long [] t h e = h
-fits-long (b ∷ l) t h e = go (ltb (lowest t) 99) refl e (fits-long l (insert b t))
+fits-long (b ∷ l) t h e = go (ltb (lowest t) slotCount) refl e (fits-long l (insert b t))
   where
-    go : (s : Bool) → ltb (lowest t) 99 ≡ s → (s && fits 99 l (insert b t)) ≡ true → (length (insert b t) ≤ 99 → fits 99 l (insert b t) ≡ true → length (openAll l (insert b t)) ≤ 99) → length (openAll l (insert b t)) ≤ 99
-    go true q e r = r (insert-length 99 b t h (ltb-true (lowest t) 99 q)) e
+    go : (s : Bool) → ltb (lowest t) slotCount ≡ s → (s && fits slotCount l (insert b t)) ≡ true → (length (insert b t) ≤ slotCount → fits slotCount l (insert b t) ≡ true → length (openAll l (insert b t)) ≤ slotCount) → length (openAll l (insert b t)) ≤ slotCount
+    go true q e r = r (insert-length slotCount b t h (ltb-true (lowest t) slotCount q)) e
     go false q e r = absurd (let z : _≡_ {A = ℕ} 0 1 = cc in omega arith)
 
 -- the walk's lists, from the place x on
@@ -185,7 +185,7 @@ module _ (ws ks us : List ℕ) (n : ℕ) (lw : length ws ≡ n) (lk : length ks 
     text-bytes zero t e z = text-none t e
     text-bytes (suc d) t e z = text-first d t e (z (omega arith))
 
-    pub few-from : (d x : ℕ) (t : List Slot) → x + d ≡ n → Pending (upTo f 0 k) x t → length t ≤ 99 → fewBridges (flat c o (rowsFrom x) x t) ≡ fewFrom 99 f n k x d t
+    pub few-from : (d x : ℕ) (t : List Slot) → x + d ≡ n → Pending (upTo f 0 k) x t → length t ≤ slotCount → fewBridges (flat c o (rowsFrom x) x t) ≡ fewFrom slotCount f n k x d t
     unfolding fewFrom fewBridges
     few-from zero x t e v l = ap (λ (r : List WalkRow). fewBridges (flat c o r x t)) (rows-end x (omega arith))
     few-from (suc d) x t e v l =
@@ -193,15 +193,15 @@ module _ (ws ks us : List ℕ) (n : ℕ) (lw : length ws ≡ n) (lk : length ks 
         let C = closesFrom f n k x 0 in
         let O = opensFrom f n k x 0 in
         let T = flat c o (rowsFrom (suc x)) (suc x) (nextSlots f n k x t) in
-        let low : fewBridges (closeToks C t) ≡ true = few-low (closeToks C t) (close-low 99 C t (open-there br x t v) l) in
+        let low : fewBridges (closeToks C t) ≡ true = few-low (closeToks C t) (close-low slotCount C t (open-there br x t v) l) in
         ap fewBridges (flat-step x t (omega arith)) ∙ few-append L (ringToks c o x t ++ T)
         ∙ (λ i. few-lead (positionOf (getD us x 0) x) (laterOne x) (getD ks x 0) (getD ws x 0) i && few-append (ringToks c o x t) T i)
         ∙ ap (λ (r : List Tok). fewBridges r && fewBridges T) (λ i. closeToks (closes-are br x i) t ++ openToks (opens-are br x i) (closeAll (closes-are br x i) t))
         ∙ ap (λ (b : Bool). b && fewBridges T) (few-append (closeToks C t) (openToks O (closeAll C t)) ∙ (λ i. low i && few-open O (closeAll C t) i))
-        ∙ go (fits 99 O (closeAll C t)) refl (few-from d (suc x) (nextSlots f n k x t) (omega arith) (pending-next br x t v))
+        ∙ go (fits slotCount O (closeAll C t)) refl (few-from d (suc x) (nextSlots f n k x t) (omega arith) (pending-next br x t v))
       where
-        go : (b : Bool) → fits 99 (opensFrom f n k x 0) (closeAll (closesFrom f n k x 0) t) ≡ b
-            → (length (nextSlots f n k x t) ≤ 99 → fewBridges (flat c o (rowsFrom (suc x)) (suc x) (nextSlots f n k x t)) ≡ fewFrom 99 f n k (suc x) d (nextSlots f n k x t))
-            → (b && fewBridges (flat c o (rowsFrom (suc x)) (suc x) (nextSlots f n k x t))) ≡ (b && fewFrom 99 f n k (suc x) d (nextSlots f n k x t))
+        go : (b : Bool) → fits slotCount (opensFrom f n k x 0) (closeAll (closesFrom f n k x 0) t) ≡ b
+            → (length (nextSlots f n k x t) ≤ slotCount → fewBridges (flat c o (rowsFrom (suc x)) (suc x) (nextSlots f n k x t)) ≡ fewFrom slotCount f n k (suc x) d (nextSlots f n k x t))
+            → (b && fewBridges (flat c o (rowsFrom (suc x)) (suc x) (nextSlots f n k x t))) ≡ (b && fewFrom slotCount f n k (suc x) d (nextSlots f n k x t))
         go true q r = r (fits-long (opensFrom f n k x 0) (closeAll (closesFrom f n k x 0) t) (rw (close-length (closesFrom f n k x 0) t) l) q)
         go false q r = refl

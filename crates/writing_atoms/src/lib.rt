@@ -1,6 +1,7 @@
 // The bytes of bond symbols, bridges and atoms, laid into a buffer.
 ghost use mathlib.Core.List.{[], _∷_};
-ghost use Prim.Native.Nat.{_<_};
+ghost use Prim.Native.Nat.{_+_, _<_};
+ghost use Rattle.ids.specs.Limits.{bridges};
 ghost use Rattle.buffer.specs.Pen.{pen, Wrote};
 ghost use Rattle.writing.specs.Spell.{digitByte, decimal, kindBytes, bridgeBytes};
 
@@ -55,7 +56,7 @@ pub fn bond_symbol(out: &mut [u8], at: usize, k: usize) -> usize
 
 // internal: the number of a bridge; r is the number less one.
 pub fn bridge(out: &mut [u8], at: usize, r: usize) -> usize
-    requires { ⌜ r < 99 ⌝ }
+    requires { ⌜ r + 1 < bridges ⌝ }
     ensures { λ s. ⌜ Wrote (bridgeBytes r) (pen (now (out .entry)) at) (pen (now (out .exit)) s) ⌝ }
 {
     if r < 9 {

@@ -6,12 +6,17 @@ use mathlib.Core.List.{List, [], _∷_, _++_}
 use lib.Dec.{eqb, ltb}
 use lib.ListN.{length, getD}
 use Rattle.loops.specs.Loop.{pick, upTo}
+use Rattle.ids.specs.Limits.{bridges}
 use Rattle.writing_walk.specs.Token.{Bond, eqBond}
 use Rattle.writing_walk.specs.Emit.{Slot, free, held, find, release, lowest, insert, closeAll, openAll}
 use Rattle.writing_walk.specs.Walk.{keep, sweep}
 use Rattle.writing_walk.specs.Same.{count, openOf, Within}
 use Rattle.buffer.specs.Pen.{Pen, Wrote}
 use Rattle.writing.specs.Spell.{kindBytes, bridgeBytes}
+
+-- how many slots there are: one for each bridge number, 1 to 99
+abbrev pub slotCount : ℕ
+slotCount = bridges - 1
 
 -- the first place of a number in an array; its length where it is not there
 unfoldable pub indexOf : ℕ → List ℕ → ℕ

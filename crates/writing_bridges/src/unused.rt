@@ -12,15 +12,18 @@ use ids::BondId;
 use table::MAX_ATOMS;
 use table::MAX_BONDS;
 
+// The number of a bond among those that the walk does not use.
+pub struct UnusedId(pub usize);
+
 // The mark of a walk number that is an end of several unused bonds.
 pub const MANY: u16 = 65535;
 
 // The mark of a walk number that is an end of the bond i, from its mark before.
-fn mark(old: u16, i: usize) -> u16
-    requires { ⌜ i < maxBonds ⌝ }
-    ensures { λ r. ⌜ r ≡ endMark old i ⌝ }
+fn mark(old: u16, i: UnusedId) -> u16
+    requires { ⌜ i .0 < maxBonds ⌝ }
+    ensures { λ r. ⌜ r ≡ endMark old (i .0) ⌝ }
 {
-    if old == 0 { (i + 1) as u16 } else { MANY }
+    if old == 0 { (i.0 + 1) as u16 } else { MANY }
 }
 
 // A bond between two atoms, by their walk numbers plus 1, is added, and its ends get their marks, unless it joins an atom to its parent.
@@ -52,8 +55,8 @@ fn add_bond(
     los[used] = low as u16;
     his[used] = high as u16;
     kinds[used] = kind as u8;
-    marks[low] = mark(marks[low], used);
-    marks[high] = mark(marks[high], used);
+    marks[low] = mark(marks[low], UnusedId(used));
+    marks[high] = mark(marks[high], UnusedId(used));
     used + 1
 }
 

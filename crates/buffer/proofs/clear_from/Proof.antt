@@ -1,38 +1,37 @@
-use Rattle.buffer.proofs.Clearing.{clear-none, clear-more, clear-end}
-use mathlib.Core.Path.{_≡_, refl, _∙_}
-use mathlib.Core.List.{_++_}
-use lib.ListN.{length, take, drop, replicate, length-set}
-use Prim.Native.Nat.{_+_, _-_, _≤_}
+use Prim.Native.Nat.{_-_}
+use lib.ListN.{length}
 use native.Mathlib.Omega.{arith}
+use borrow.Author.Needs.{needs}
+use Rattle.loops.proofs.Clearing.{Blanking, blank-start, blank-step, blank-end, cleared}
 use Rattle.buffer.proofs.clear_from.Statement.{statement}
 use Rattle.buffer.proofs.clear_from.Tie as tie
 
 abbrev Inv-loop : tie.InvT-loop
-Inv-loop out₀ from i₀ out i = (from ≤ i) × (i ≤ length out₀) × (length out ≡ length out₀) × (out ≡ take from out₀ ++ (replicate (i - from) 0 ++ drop i out₀))
+Inv-loop out₀ from i₀ out i = Blanking out₀ from (length out₀) i out
 
 abbrev μ-loop : tie.MeasureT-loop
 μ-loop out₀ from i₀ out i = length out₀ - i
 
 loop-holds : tie.Need-loop-holds Inv-loop μ-loop
-loop-holds c = (omega arith, c .pre, refl, clear-none (c .args .out .now) (c .args .from))
+loop-holds c = blank-start (c .pre)
 
 slice-write-out : tie.Need-slice-write-out Inv-loop μ-loop
-slice-write-out c = omega arith
+slice-write-out c = omega (arith, c .before .loop .inv .long)
 
 add-i : tie.Need-add-i Inv-loop μ-loop
 add-i c = omega (arith, c .before .before .good .0 .0)
 
 loop-less : tie.Need-loop-less Inv-loop μ-loop
-loop-less c = omega arith
+loop-less c = omega (arith, c .before .loop .inv .long)
 
 loop-again : tie.Need-loop-again Inv-loop μ-loop
-loop-again c = (omega arith, omega arith, length-set (c .before .loop .out) (c .before .loop .i) 0 ∙ c .before .loop .inv .2, clear-more (c .before .before .args .out .now) (c .before .loop .out) (c .before .before .args .from) (c .before .loop .i) (c .before .loop .inv .0) (omega arith) (c .before .loop .inv .3))
+loop-again c = blank-step (c .before .loop .inv) (omega (arith, c .before .loop .inv .long)) (omega arith)
 
 same-length : tie.Need-same-length Inv-loop μ-loop
-same-length c = c .before .loop .inv .2
+same-length c = c .before .loop .inv .long
 
 returns : tie.Need-returns Inv-loop μ-loop
-returns c = clear-end (c .before .before .args .out .now) (c .before .loop .out) (c .before .before .args .from) (c .before .loop .i) (omega arith) (c .before .loop .inv .1) (c .before .loop .inv .3)
+returns c = cleared (c .before .before .args .out .now) (c .before .before .args .from) (blank-end (c .before .loop .inv) (omega (arith, c .before .loop .inv .long)))
 
 pub clear-from-spec : {M : Type 1} → statement M
 clear-from-spec =

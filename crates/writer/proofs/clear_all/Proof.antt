@@ -1,4 +1,4 @@
-use Rattle.buffer.proofs.Clearing.{cleared-all}
+use Rattle.writer.proofs.Answer.{cleared-all}
 use borrow.Author.Needs.{needs}
 use Rattle.writer.proofs.clear_all.Statement.{statement}
 use Rattle.writer.proofs.clear_all.Tie as tie
