@@ -1,6 +1,6 @@
 // The register's calls for C and Rust.
 ghost use mathlib.Core.Path.{_≡_};
-ghost use Rattle.register.specs.Answers.{told, emptiedOf, steppedOf, addedOf, foundOut, foundOf};
+ghost use Rattle.register.specs.Answers.{told, emptiedOf, steppedOf, addedOf, none, foundOut, foundOf};
 ghost use Rattle.balsa.specs.Registers.{entryReply};
 use register::Found;
 
@@ -14,32 +14,27 @@ pub struct EntryReply {
     pub length: usize,
 }
 
+// A reading that found nothing.
+fn no_entry(code: u32) -> EntryReply
+    ensures { λ r. ⌜ r ≡ entryReply (none code) ⌝ }
+{
+    EntryReply {
+        code,
+        found: 0,
+        tag: 0,
+        start: 0,
+        length: 0,
+    }
+}
+
 // An answer of reading in plain numbers.
 fn entry_reply(f: Found) -> EntryReply
     ensures { λ r. ⌜ r ≡ entryReply (foundOut f) ⌝ }
 {
     match f {
-        Found::Short => EntryReply {
-            code: 1,
-            found: 0,
-            tag: 0,
-            start: 0,
-            length: 0,
-        },
-        Found::Invalid => EntryReply {
-            code: 17,
-            found: 0,
-            tag: 0,
-            start: 0,
-            length: 0,
-        },
-        Found::Missing => EntryReply {
-            code: 0,
-            found: 0,
-            tag: 0,
-            start: 0,
-            length: 0,
-        },
+        Found::Short => no_entry(1),
+        Found::Invalid => no_entry(17),
+        Found::Missing => no_entry(0),
         Found::At { tag, start, length } => EntryReply {
             code: 0,
             found: 1,

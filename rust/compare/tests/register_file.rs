@@ -112,7 +112,7 @@ fn one_writer_at_a_time() {
 #[test]
 fn one_maker_at_a_time() {
     let folder = Folder::new("maker");
-    for round in 0..40 {
+    for round in 0..25 {
         let path = folder.0.join(round.to_string());
         let open = |tag: u16| {
             let mut file = if tag.is_multiple_of(2) {
@@ -212,7 +212,7 @@ fn readers_beside_a_writer() {
             }
             seen
         });
-        for tag in 0..300 {
+        for tag in 0..150 {
             if add(&mut file, tag).is_err() {
                 file.empty().unwrap();
                 add(&mut file, tag).unwrap();
