@@ -147,8 +147,25 @@ static void registers(void) {
     e = balsa_register_entry(reg, sizeof reg, SIZE_MAX);
     expect(e.code == 0 && e.found == 0 && e.tag == 0 && e.start == 0 && e.length == 0,
            "no entry at the largest place");
+    balsa_walk_reply w = {.next = 0};
+    for (unsigned i = 0; i < BALSA_REGISTER_ENTRIES; i++) {
+        w = balsa_register_walk(reg, sizeof reg, w.next);
+        expect(w.code == 0 && w.next == i + 1 && w.tag == (i < 7 ? 1 : i == 7 ? 65535 : 2),
+               "each entry in its turn");
+    }
+    for (unsigned i = 0; i < 3; i++) {
+        w = balsa_register_walk(reg, sizeof reg, w.next);
+        expect(w.code == BALSA_END && w.next == BALSA_REGISTER_ENTRIES && w.length == 0,
+               "the end, as often as asked");
+    }
+    w = balsa_register_walk(reg, sizeof reg, SIZE_MAX);
+    expect(w.code == BALSA_END && w.next == SIZE_MAX, "the end at the largest place");
+    w = balsa_register_walk(reg, BALSA_REGISTER - 1, 9);
+    expect(w.code == 1 && w.next == 9, "a walk of a short register");
     reg[8]++;
     expect(balsa_register_entry(reg, sizeof reg, 0).code == 17, "a gap between bodies");
+    w = balsa_register_walk(reg, sizeof reg, 5);
+    expect(w.code == 17 && w.next == 5, "17 at any step");
     expect(reg[BALSA_REGISTER] == 7, "bytes past the register stay");
 }
 

@@ -9,7 +9,7 @@
  * (first end, second end, kind). Least lengths: atoms 1200, bonds 750, row 250, out 4096, ren 200.
  * n and m are the numbers of atoms and bonds in the tables.
  *
- * Codes: 0 accepted, 1 to 16 the refusals of docs/RULES.md, 255 "end" (balsa_next). Refusal 1 changes
+ * Codes: 0 accepted, 1 to 16 the refusals of docs/RULES.md, 255 "end" (balsa_next, balsa_register_walk). Refusal 1 changes
  * nothing; any other zeroes what is named as output; an acceptance zeroes the unused rest. */
 #ifndef BALSA_H
 #define BALSA_H
@@ -150,6 +150,20 @@ uint32_t balsa_register_step(uint8_t *reg, size_t reg_len, uint16_t tag, const u
 
 /* The entry at a place counted from 0. Refusals 1, 17. */
 balsa_entry_reply balsa_register_entry(const uint8_t *reg, size_t reg_len, size_t place);
+
+/* code 0 with an entry's tag, where its body stands and the place of the next step; or 255 past the
+ * last entry, or a refusal's code, with next as it was handed in. What is not named is 0. */
+typedef struct {
+    uint32_t code;
+    uint16_t tag;
+    size_t start;
+    size_t length;
+    size_t next;
+} balsa_walk_reply;
+
+/* A step of a walk from a place, 0 at the start: each entry once, in order, and then 255 as often as
+ * it is asked. Refusals 1, 17. */
+balsa_walk_reply balsa_register_walk(const uint8_t *reg, size_t reg_len, size_t place);
 
 #ifdef __cplusplus
 }

@@ -46,8 +46,18 @@ pub struct ReportReply {
     pub length: usize,
 }
 
+/// What `balsa_register_walk` hands back.
+#[repr(C)]
+pub struct WalkReply {
+    pub code: u32,
+    pub tag: u16,
+    pub start: usize,
+    pub length: usize,
+    pub next: usize,
+}
+
 mod linked {
-    use super::{EntryReply, ReadReply, ReportReply, SymbolReply, WriteReply};
+    use super::{EntryReply, ReadReply, ReportReply, SymbolReply, WalkReply, WriteReply};
 
     extern "C" {
         pub fn balsa_symbol(first: u8, second: u8) -> SymbolReply;
@@ -157,6 +167,7 @@ mod linked {
             k: usize,
         ) -> u32;
         pub fn balsa_register_entry(reg: *const u8, reg_len: usize, place: usize) -> EntryReply;
+        pub fn balsa_register_walk(reg: *const u8, reg_len: usize, place: usize) -> WalkReply;
     }
 }
 
@@ -349,4 +360,9 @@ pub fn register_step(reg: &mut [u8], tag: u16, body: &[u8], k: usize) -> u32 {
 pub fn register_entry(reg: &[u8], place: usize) -> EntryReply {
     // SAFETY: as for `read`.
     unsafe { linked::balsa_register_entry(reg.as_ptr(), reg.len(), place) }
+}
+
+pub fn register_walk(reg: &[u8], place: usize) -> WalkReply {
+    // SAFETY: as for `read`.
+    unsafe { linked::balsa_register_walk(reg.as_ptr(), reg.len(), place) }
 }

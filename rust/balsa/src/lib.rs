@@ -19,7 +19,7 @@ pub mod tables;
 
 pub use molecule::{Matchings, Molecule, Written};
 pub use refusal::{Code, Refusal};
-pub use register::{Damage, Register};
+pub use register::{Damage, Entries, Register};
 #[cfg(unix)]
 pub use register_file::{FileError, RegisterFile};
 pub use report::{report, report_into};

@@ -3,6 +3,7 @@
 use crate::ffi;
 use crate::refusal::Code;
 use std::fmt;
+use std::iter::FusedIterator;
 use std::ops::Range;
 
 /// Bytes of a register; what is beyond is neither looked at nor changed.
@@ -60,6 +61,30 @@ impl<B: AsRef<[u8]>> Register<B> {
         Ok((reply.found == 1).then(|| (reply.tag, body())))
     }
 
+    /// The entries in order, each a tag and a body.
+    ///
+    /// ```
+    /// # let mut register = balsa::Register::new(vec![0; 32_768]);
+    /// # register.empty()?;
+    /// register.add(7, b"c1ccccc1")?;
+    /// register.add(9, b"CC")?;
+    /// for (tag, body) in register.entries()? {
+    ///     println!("{tag}: {} bytes", body.len());
+    /// }
+    /// # assert_eq!(register.entries()?.map(|(tag, _)| tag).collect::<Vec<_>>(), [7, 9]);
+    /// # Ok::<(), balsa::Code>(())
+    /// ```
+    ///
+    /// # Errors
+    /// 1 or 17.
+    pub fn entries(&self) -> Result<Entries<'_>, Code> {
+        let register = self.bytes();
+        match ffi::register_walk(register, 0).code {
+            0 | END => Ok(Entries { register, next: 0 }),
+            number => Err(Code::of(number)),
+        }
+    }
+
     /// Where the last entry stands of a register to which one was added: its line in the table of
     /// contents, and its body.
     pub(crate) fn last_entry(&self) -> (Range<usize>, Range<usize>) {
@@ -101,6 +126,29 @@ impl<B: AsMut<[u8]>> Register<B> {
         done(ffi::register_step(self.bytes.as_mut(), tag, body, k))
     }
 }
+
+/// The number of a walk's end.
+const END: u32 = 255;
+
+/// An iterator over the entries of a register, in order.
+#[derive(Clone, Debug)]
+pub struct Entries<'a> {
+    register: &'a [u8],
+    next: usize,
+}
+
+impl<'a> Iterator for Entries<'a> {
+    type Item = (u16, &'a [u8]);
+
+    fn next(&mut self) -> Option<Self::Item> {
+        let step = ffi::register_walk(self.register, self.next);
+        self.next = step.next;
+        let body = || &self.register[step.start..step.start + step.length];
+        (step.code == 0).then(|| (step.tag, body()))
+    }
+}
+
+impl FusedIterator for Entries<'_> {}
 
 fn done(code: u32) -> Result<(), Code> {
     match code {

@@ -130,6 +130,31 @@ fn words_for_every_damage() {
     }
 }
 
+/// A walk hands out what is listed, each entry once and in order, and says the end for ever after;
+/// what refuses the entries refuses the walk.
+#[test]
+fn walks() {
+    let mut random = Random::new(5);
+    for _ in 0..4000 {
+        let bytes = registers::register(&mut random);
+        let register = Register::new(&bytes[..]);
+        let mut entries = match (register.entries(), listed(&bytes)) {
+            (Ok(entries), Ok(expected)) => {
+                let walked: Vec<_> = entries.clone().map(|(tag, b)| (tag, b.to_vec())).collect();
+                assert_eq!(walked, expected);
+                entries
+            }
+            (entries, expected) => {
+                assert_eq!(entries.err().map(|code| code.number()), expected.err());
+                continue;
+            }
+        };
+        let past = usize::from(bytes[1]);
+        assert_eq!(entries.nth(past), None);
+        assert_eq!((entries.next(), entries.next()), (None, None));
+    }
+}
+
 #[test]
 fn sixty_four_entries() {
     let mut bytes = emptied();
