@@ -16,7 +16,7 @@ use Rattle.reading_grammar.specs.declared.Mode.{Mode}
 use Rattle.reading_grammar.specs.declared.Mode.the-variants.{Seq as seq, AtomNext as atomNext}
 use Rattle.reading_grammar.specs.Fold.{Answer, bad}
 use Rattle.table.specs.Limits.{maxAtoms}
-use Rattle.reading_state.specs.State.{Steering, steering, extended, joined}
+use Rattle.reading_state.specs.State.{Steering, steering, withNextAtom, joined}
 use Rattle.reading_state.specs.declared.State.{State}
 use Rattle.reading_state.specs.declared.Fields.{Fields}
 use Rattle.ids.specs.Limits.{bridges, maxDepth}
@@ -109,7 +109,7 @@ module _ {s : List ℕ} {j : Joint} {p₀ : ℕ} {t : Steering} {a₀ b₀ : Lis
           pub atom-room : u .atoms < maxAtoms
           atom-room = atom-added .atoms
 
-          pub turn-atom : {u′ : Steering} → u′ ≡ extended u o (bondsAfter u w) → length a′ ≡ length a → length b′ ≡ length b → Turn s j p₀ t a₀ b₀ m false u′ a′ b′
+          pub turn-atom : {u′ : Steering} → u′ ≡ withNextAtom u o (bondsAfter u w) → length a′ ≡ length a → length b′ ≡ length b → Turn s j p₀ t a₀ b₀ m false u′ a′ b′
           turn-atom eu ka kb = let w = atom-added in rw eu (record {
             stands = λ i d. let y = atom-stands i d in let c = w .is (y .tens) (y .draft) in record { tens = c .tens; draft = c .draft; is = y .is ∙ c .is };
             within = atom-in;
