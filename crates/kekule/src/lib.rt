@@ -123,7 +123,8 @@ pub fn matchable(
 fn call(c: Call, atoms: &[i32], bonds: &[i32], n: usize, m: usize, row: &mut [u8]) -> Found
     ensures { λ r. ⌜ out r (now (row .exit)) ≡ callOn c (now (atoms .entry)) (now (bonds .entry)) n m (now (row .entry)) ⌝ }
 {
-    if !roomy(atoms, bonds, row.len()) {
+    let len = row.len();
+    if !roomy(atoms, bonds, len) {
         return Found::Refused(Refusal::Short);
     }
     if !table_validity::valid(atoms, bonds, n, m) {

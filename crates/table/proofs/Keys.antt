@@ -11,7 +11,7 @@ use lib.Dec.{eqb, ltb}
 use mir.Syntax.{w32}
 use mir.Val.{ofZ}
 use borrow.Author.Count.{below-more}
-use borrow.Author.Tests.{eqb-true, ltb-true, ltb-false, not-true, not-false}
+use borrow.Author.Tests.{eq-eqb, ne-eqb, eqb-true, ltb-true, ltb-false, not-true, not-false}
 use Rattle.loops.specs.Loop.{each}
 use Rattle.loops.proofs.Loops.{and-left, and-right, each-all}
 use Rattle.table.specs.Limits.{FIRST, SECOND}
@@ -56,14 +56,24 @@ bond-ends t n b e =
     }
 
 -- such bonds join the same two atoms exactly if their cells have the same bits
-pub same-cells : {t : List ℤ} {i j : ℕ} → BondEnds t i → BondEnds t j → (eqb (ofZ w32 (bondCell t i FIRST)) (ofZ w32 (bondCell t j FIRST)) && eqb (ofZ w32 (bondCell t i SECOND)) (ofZ w32 (bondCell t j SECOND))) ≡ sameEnds t i j
-unfolding sameEnds
-same-cells p q =
-    let a = ap (ofZ w32) (p .first) in
-    let b = ap (ofZ w32) (p .second) in
-    let c = ap (ofZ w32) (q .first) in
-    let d = ap (ofZ w32) (q .second) in
-    cc
+module _ {t : List ℤ} {i j : ℕ} (p : BondEnds t i) (q : BondEnds t j) where
+  same-cells : (eqb (ofZ w32 (bondCell t i FIRST)) (ofZ w32 (bondCell t j FIRST)) && eqb (ofZ w32 (bondCell t i SECOND)) (ofZ w32 (bondCell t j SECOND))) ≡ sameEnds t i j
+  unfolding sameEnds
+  same-cells =
+      let a = ap (ofZ w32) (p .first) in
+      let b = ap (ofZ w32) (p .second) in
+      let c = ap (ofZ w32) (q .first) in
+      let d = ap (ofZ w32) (q .second) in
+      cc
+
+  pub both-same : ofZ w32 (bondCell t i FIRST) ≡ ofZ w32 (bondCell t j FIRST) → eqb (ofZ w32 (bondCell t i SECOND)) (ofZ w32 (bondCell t j SECOND)) ≡ true → sameEnds t i j ≡ true
+  both-same e f = sym same-cells ∙ rw (eq-eqb _ _ e, f)
+
+  pub first-differs : (ofZ w32 (bondCell t i FIRST) ≡ ofZ w32 (bondCell t j FIRST) → ⊥) → sameEnds t i j ≡ false
+  first-differs h = sym same-cells ∙ rw (ne-eqb _ _ h)
+
+  pub second-differs : ofZ w32 (bondCell t i FIRST) ≡ ofZ w32 (bondCell t j FIRST) → eqb (ofZ w32 (bondCell t i SECOND)) (ofZ w32 (bondCell t j SECOND)) ≡ false → sameEnds t i j ≡ false
+  second-differs e f = sym same-cells ∙ rw (eq-eqb _ _ e, f)
 
 -- bonds with different keys do not join the same two atoms
 key-apart : (t : List ℤ) (k j : ℕ) → endsKey t j < endsKey t k → not (sameEnds t k j) ≡ true

@@ -187,7 +187,7 @@ fn distinct(t: &[i32], m: usize) -> bool
         let mut j = 0;
         while j < i {
             let p = BOND_CELLS * j;
-            if (first == t[p + FIRST]) & (second == t[p + SECOND]) {
+            if (first == t[p + FIRST]) && (second == t[p + SECOND]) {
                 fine = false;
                 break 'rows;
             }

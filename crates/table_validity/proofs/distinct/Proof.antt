@@ -1,11 +1,12 @@
 use Prim.Native.Nat.{_-_}
 use native.Mathlib.Omega.{arith}
 use borrow.Author.Needs.{needs}
+use mathlib.Core.Logic.{⊎-elim}
 use mathlib.Core.Path.{_≡_, refl, sym, ap, _∙_}
 use mathlib.Core.Bool.{true, not}
 use Rattle.loops.proofs.Loops.{Left, left-start, left-pass, left-fail, left-end}
 use Rattle.table.specs.Valid.{sameEnds, fresh, distinct}
-use Rattle.table.proofs.Keys.{same-cells}
+use Rattle.table.proofs.Keys.{both-same, first-differs, second-differs}
 use Rattle.table_validity.proofs.distinct.Statement.{statement}
 use Rattle.table_validity.proofs.distinct.Tie as tie
 use Rattle.table_validity.proofs.distinct.Reads as reads
@@ -65,20 +66,18 @@ mul-if1 c = search needs
 
 shared-slice-copy-out-if1 : tie.Need-shared-slice-copy-out-if1 Inv-loop μ-loop Inv-rows μ-rows
 shared-slice-copy-out-if1 c =
-    let r = c .before .before .before .before .before in
-    let e = r .before .pre .1 (c .before .loop .j) (omega arith) in
+    let e = c .before .before .before .before .before .before .pre .1 (c .before .loop .j) (omega arith) in
     omega (arith, e .inside)
 
-add-if1-2 : tie.Need-add-if1-2 Inv-loop μ-loop Inv-rows μ-rows
-add-if1-2 c = search needs
+add-if2 : tie.Need-add-if2 Inv-loop μ-loop Inv-rows μ-rows
+add-if2 c = search needs
 
-mul-if1-2 : tie.Need-mul-if1-2 Inv-loop μ-loop Inv-rows μ-rows
-mul-if1-2 c = search needs
+mul-if2 : tie.Need-mul-if2 Inv-loop μ-loop Inv-rows μ-rows
+mul-if2 c = search needs
 
-shared-slice-copy-out-if1-2 : tie.Need-shared-slice-copy-out-if1-2 Inv-loop μ-loop Inv-rows μ-rows
-shared-slice-copy-out-if1-2 c =
-    let r = c .before .before .before .before .before .before in
-    let e = r .before .pre .1 (c .before .before .loop .j) (omega arith) in
+shared-slice-copy-out-if2 : tie.Need-shared-slice-copy-out-if2 Inv-loop μ-loop Inv-rows μ-rows
+shared-slice-copy-out-if2 c =
+    let e = c .before .before .before .before .before .before .before .before .pre .1 (c .before .before .before .loop .j) (omega arith) in
     e .inside
 
 add-j : tie.Need-add-j Inv-loop μ-loop Inv-rows μ-rows
@@ -89,13 +88,14 @@ loop-less c = search needs
 
 loop-again : tie.Need-loop-again Inv-loop μ-loop Inv-rows μ-rows
 loop-again c =
-    let d = c .before .before .before .before in
-    let r = d .before .before .before .before in
-    let v = d .loop .inv in
-    let at = r .before .pre .1 in
-    let i = at (r .rows .i) (d .before .before .before .rows-test .taken) in
-    let j = at (d .loop .j) (omega arith) in
-    (v .0, left-pass (v .1) (c .before .before .before .loop-test .taken) (ap not (sym (same-cells i j) ∙ c .if1 .left)))
+    let d = c .before .before .before .loop in
+    let r = c .before .before .before .before .before .before .before .rows in
+    let v = d .inv in
+    let at = c .before .before .before .before .before .before .before .before .pre .1 in
+    let i = at (r .i) (c .before .before .before .before .before .before .rows-test .taken) in
+    let j = at (d .j) (omega arith) in
+    let n = ⊎-elim (λ w. second-differs i j (w .0 .taken) (w .2 .left)) (λ w. first-differs i j (w .left)) (c .if1 .came) in
+    (v .0, left-pass (v .1) (c .before .before .loop-test .taken) (ap not n))
 
 add-i : tie.Need-add-i Inv-loop μ-loop Inv-rows μ-rows
 add-i c = search needs
@@ -106,8 +106,7 @@ rows-less c = search needs
 rows-again : tie.Need-rows-again Inv-loop μ-loop Inv-rows μ-rows
 unfolding fresh
 rows-again c =
-    let r = c .before .before .before .before in
-    (c .before .loop .inv .0, left-pass (r .before .rows .inv .1) (r .rows-test .taken) (left-end (c .before .loop .inv .1) (c .loop-test .left)))
+    (c .before .loop .inv .0, left-pass (c .before .before .before .before .before .rows .inv .1) (c .before .before .before .before .rows-test .taken) (left-end (c .before .loop .inv .1) (c .loop-test .left)))
 
 returns : tie.Need-returns Inv-loop μ-loop Inv-rows μ-rows
 unfolding distinct
@@ -116,14 +115,14 @@ returns c = c .before .rows .inv .0 ∙ sym (left-end (c .before .rows .inv .1) 
 returns-2 : tie.Need-returns-2 Inv-loop μ-loop Inv-rows μ-rows
 unfolding distinct fresh
 returns-2 c =
-    let d = c .before .before .before .before in
-    let r = d .before .before .before .before in
-    let at = r .before .pre .1 in
-    let i = at (r .rows .i) (d .before .before .before .rows-test .taken) in
-    let j = at (d .loop .j) (omega arith) in
+    let d = c .before .before .before .before .before .loop in
+    let r = c .before .before .before .before .before .before .before .before .before .rows in
+    let at = c .before .before .before .before .before .before .before .before .before .before .pre .1 in
+    let i = at (r .i) (c .before .before .before .before .before .before .before .before .rows-test .taken) in
+    let j = at (d .j) (omega arith) in
     sym
-    (left-fail (r .rows .inv .1) (d .before .before .before .rows-test .taken)
-    (left-fail (d .loop .inv .1) (c .before .before .before .loop-test .taken) (ap not (sym (same-cells i j) ∙ c .if1 .taken))))
+    (left-fail (r .inv .1) (c .before .before .before .before .before .before .before .before .rows-test .taken)
+    (left-fail (d .inv .1) (c .before .before .before .before .loop-test .taken) (ap not (both-same i j (c .before .before .if1 .taken) (c .if2 .taken)))))
 
 pub distinct-spec : {M : Type 1} → statement M
 distinct-spec =
@@ -147,9 +146,9 @@ distinct-spec =
     add-if1
     mul-if1
     shared-slice-copy-out-if1
-    add-if1-2
-    mul-if1-2
-    shared-slice-copy-out-if1-2
+    add-if2
+    mul-if2
+    shared-slice-copy-out-if2
     add-j
     loop-less
     loop-again
