@@ -6,7 +6,7 @@
 //! and for what a refusal leaves behind. [`register`] holds the calls on a register.
 
 mod blossom;
-mod element;
+pub mod element;
 mod matching;
 mod molecule;
 mod read;
