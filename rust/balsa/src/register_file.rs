@@ -108,8 +108,8 @@ impl RegisterFile {
     }
 
     /// The register as it was opened, with what was added since.
-    pub fn register(&self) -> Register<&[u8]> {
-        Register::new(self.register.bytes())
+    pub fn register(&self) -> &Register<Vec<u8>> {
+        &self.register
     }
 
     /// Adds an entry. Its bytes are on the disk before byte 1, which makes it count, is written; when
@@ -124,7 +124,7 @@ impl RegisterFile {
             return Err(FileError::Stale);
         }
         let mut next = self.register.clone();
-        next.add(tag, body).map_err(FileError::Refused)?;
+        next.add(tag, body)?;
         self.failed = true;
         commit(&mut self.file.0, &next)?;
         self.failed = false;
@@ -264,7 +264,7 @@ fn make(path: &Path, old: Option<&Locked>) -> Result<Option<Locked>, FileError> 
         return Ok(None);
     }
     let mut register = Register::new(vec![0; REGISTER]);
-    register.empty().map_err(FileError::Refused)?;
+    register.empty()?;
     file.0.set_len(0)?;
     file.0.write_all_at(register.bytes(), 0)?;
     file.0.sync_all()?;
@@ -294,6 +294,12 @@ impl std::error::Error for FileError {
             FileError::Io(error) => Some(error),
             _ => None,
         }
+    }
+}
+
+impl From<Code> for FileError {
+    fn from(code: Code) -> Self {
+        FileError::Refused(code)
     }
 }
 
