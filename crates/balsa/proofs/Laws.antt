@@ -3,7 +3,7 @@ use Prim.Native.Nat.{ℕ}
 use mathlib.Core.Path.{_≡_, ap, _∙_}
 use mathlib.Core.List.{List}
 use lib.IntN.{ℤ}
-use Rattle.kekule.specs.Kekule.{Out, rowOut, Tables, tablesOut}
+use Rattle.kekule.specs.Kekule.{CallReply, callReply, KekulizeReply, kekulizeReply}
 use Rattle.kekule.specs.Calls.{Replayed, replayOut}
 use Rattle.reader.specs.declared.ending.Answer.{Answer}
 use Rattle.reader.specs.declared.ending.Answer.the-variants.{Molecule, Refused}
@@ -15,7 +15,7 @@ use Rattle.writer.specs.Told.{told as writer-told}
 use Rattle.writing.specs.Write as write
 use Rattle.balsa.specs.declared.ReadReply.{ReadReply}
 use Rattle.balsa.specs.declared.WriteReply.{WriteReply}
-use Rattle.balsa.specs.Capi.{readReplyOf, readOut, writeReplyOf, writeOut}
+use Rattle.balsa.specs.Replies.{readReplyOf, readOut, writeReplyOf, writeOut}
 
 pub read-law : (a : Answer) {r : ReadReply} {atoms bonds : List ℤ} {t : ReadResult} → r ≡ readReplyOf a → told a atoms bonds ≡ t → readOut r atoms bonds ≡ t
 read-law (Molecule n m) {atoms = atoms} {bonds} e g = ap (λ (k : ReadReply). readOut k atoms bonds) e ∙ g
@@ -25,11 +25,11 @@ pub write-law : (w : Written) {r : WriteReply} {out ren : List ℕ} {t : write.W
 write-law (Text k) {out = out} {ren} e g = ap (λ (x : WriteReply). writeOut x out ren) e ∙ g
 write-law (writeRefused c) {out = out} {ren} e g = ap (λ (x : WriteReply). writeOut x out ren) e ∙ g
 
-pub row-law : {c d : ℕ} {row : List ℕ} {o : Out} → c ≡ d → rowOut d row ≡ o → rowOut c row ≡ o
-row-law {row = row} e g = ap (λ (k : ℕ). rowOut k row) e ∙ g
+pub row-law : {c d : ℕ} {row : List ℕ} {o : CallReply} → c ≡ d → callReply d row ≡ o → callReply c row ≡ o
+row-law {row = row} e g = ap (λ (k : ℕ). callReply k row) e ∙ g
 
-pub tables-law : {c d : ℕ} {atoms bonds : List ℤ} {t : Tables} → c ≡ d → tablesOut d atoms bonds ≡ t → tablesOut c atoms bonds ≡ t
-tables-law {atoms = atoms} {bonds} e g = ap (λ (k : ℕ). tablesOut k atoms bonds) e ∙ g
+pub tables-law : {c d : ℕ} {atoms bonds : List ℤ} {t : KekulizeReply} → c ≡ d → kekulizeReply d atoms bonds ≡ t → kekulizeReply c atoms bonds ≡ t
+tables-law {atoms = atoms} {bonds} e g = ap (λ (k : ℕ). kekulizeReply k atoms bonds) e ∙ g
 
 pub replay-law : {c d : ℕ} {row codes : List ℕ} {r : Replayed} → c ≡ d → replayOut d row codes ≡ r → replayOut c row codes ≡ r
 replay-law {row = row} {codes} e g = ap (λ (k : ℕ). replayOut k row codes) e ∙ g

@@ -1,4 +1,4 @@
-pub mod Capi
+pub mod Replies
 pub mod Symbol
 pub mod Registers
 pub mod Reporting

@@ -1,12 +1,12 @@
 // The public calls for C and Rust: slices, counts and numbers in, codes out.
 ghost use mathlib.Core.Path.{_≡_};
 ghost use Rattle.matching.specs.declared.Call.the-variants.{First, Next};
-ghost use Rattle.kekule.specs.Kekule.{rowOut, callOn, askedOf, tablesOut, kekulizedOf};
+ghost use Rattle.kekule.specs.Kekule.{callReply, callOn, askedOf, kekulizeReply, kekulizedOf};
 ghost use Rattle.kekule.specs.Calls.{replayOut, replayedOf};
 ghost use Rattle.table.specs.Valid.{checkCode, checkOf};
 ghost use Rattle.reading.specs.Read.{readOf};
 ghost use Rattle.writing.specs.Write.{writeOf};
-ghost use Rattle.balsa.specs.Capi.{readReplyOf, readOut, writeReplyOf, writeOut};
+ghost use Rattle.balsa.specs.Replies.{readReplyOf, readOut, writeReplyOf, writeOut};
 use kekule_answers::found_code;
 use reader::ending::Answer;
 use table::Check;
@@ -115,7 +115,7 @@ pub extern "C" fn balsa_first(
     m: usize,
     row: &mut [u8],
 ) -> u32
-    ensures { λ r. ⌜ rowOut r (now (row .exit)) ≡ callOn First (now (atoms .entry)) (now (bonds .entry)) n m (now (row .entry)) ⌝ }
+    ensures { λ r. ⌜ callReply r (now (row .exit)) ≡ callOn First (now (atoms .entry)) (now (bonds .entry)) n m (now (row .entry)) ⌝ }
 {
     found_code(kekule::first(atoms, bonds, n, m, row)) as u32
 }
@@ -129,7 +129,7 @@ pub extern "C" fn balsa_next(
     m: usize,
     row: &mut [u8],
 ) -> u32
-    ensures { λ r. ⌜ rowOut r (now (row .exit)) ≡ callOn Next (now (atoms .entry)) (now (bonds .entry)) n m (now (row .entry)) ⌝ }
+    ensures { λ r. ⌜ callReply r (now (row .exit)) ≡ callOn Next (now (atoms .entry)) (now (bonds .entry)) n m (now (row .entry)) ⌝ }
 {
     found_code(kekule::next(atoms, bonds, n, m, row)) as u32
 }
@@ -157,7 +157,7 @@ pub extern "C" fn balsa_kekulize(
     m: usize,
     row: &[u8],
 ) -> u32
-    ensures { λ r. ⌜ tablesOut r (now (atoms .exit)) (now (bonds .exit)) ≡ kekulizedOf (now (atoms .entry)) (now (bonds .entry)) n m (now (row .entry)) ⌝ }
+    ensures { λ r. ⌜ kekulizeReply r (now (atoms .exit)) (now (bonds .exit)) ≡ kekulizedOf (now (atoms .entry)) (now (bonds .entry)) n m (now (row .entry)) ⌝ }
 {
     check_code(kekule::kekulize(atoms, bonds, n, m, row))
 }

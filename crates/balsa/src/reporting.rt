@@ -3,7 +3,7 @@ ghost use mathlib.Core.Path.{_≡_};
 ghost use mathlib.Core.List.{List};
 ghost use Prim.Native.Nat.{ℕ};
 ghost use lib.ListN.{length};
-ghost use Rattle.buffer.specs.Pen.{capped};
+ghost use Rattle.buffer.specs.Buffer.{capped};
 ghost use Rattle.report_blocks.specs.Report.{reportOf};
 ghost use Rattle.report_blocks.specs.Reply.{printed, replyOf};
 ghost use Rattle.balsa.specs.Reporting.{reportOut};

@@ -3,7 +3,7 @@ ghost use Prim.Native.Nat.{_-_, _≤_};
 ghost use mathlib.Core.Path.{_≡_};
 ghost use mathlib.Core.List.{[], _∷_, _++_};
 ghost use lib.ListN.{length, take, replicate};
-ghost use Rattle.buffer.specs.Pen.{following, pen, Wrote};
+ghost use Rattle.buffer.specs.Buffer.{following, bufferAt, Wrote};
 
 // internal: the next place or count. The largest stays: no input has so many bytes or lines.
 pub fn next_count(n: usize) -> usize
@@ -17,7 +17,7 @@ pub fn next_count(n: usize) -> usize
 
 // internal: the next byte, stored where there is room and counted where there is none. The place after it.
 pub fn put(out: &mut [u8], at: usize, b: u8) -> usize
-    ensures { λ r. ⌜ Wrote (b ∷ []) (pen (now (out .entry)) at) (pen (now (out .exit)) r) ⌝ }
+    ensures { λ r. ⌜ Wrote (b ∷ []) (bufferAt (now (out .entry)) at) (bufferAt (now (out .exit)) r) ⌝ }
 {
     if at < out.len() {
         out[at] = b;
@@ -28,7 +28,7 @@ pub fn put(out: &mut [u8], at: usize, b: u8) -> usize
 
 // internal: the next bytes. The place after them.
 pub fn put_all(out: &mut [u8], at: usize, s: &[u8]) -> usize
-    ensures { λ r. ⌜ Wrote (now (s .entry)) (pen (now (out .entry)) at) (pen (now (out .exit)) r) ⌝ }
+    ensures { λ r. ⌜ Wrote (now (s .entry)) (bufferAt (now (out .entry)) at) (bufferAt (now (out .exit)) r) ⌝ }
 {
     let mut to = at;
     let mut i = 0;

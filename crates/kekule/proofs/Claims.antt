@@ -22,7 +22,7 @@ use Rattle.matching.proofs.Calls.{whole-list, first-none, none-first, next-pres
 use Rattle.matching.proofs.Claims.{empty-iff}
 use Rattle.table_graph.specs.Graph.{delocalizedFlags, bondOf, graphOf, matchingOf, matchable}
 use Rattle.kekule_answers.specs.Answers.{foundOf, foundCode}
-use Rattle.kekule.specs.Kekule.{Out, rowOut, outOf, roomy, callOn}
+use Rattle.kekule.specs.Kekule.{CallReply, callReply, callReplyOf, roomy, callOn}
 use Rattle.kekule.specs.Calls.{repliesOf}
 
 -- only the answer "absent" is told as 11
@@ -34,12 +34,12 @@ absent Ended e = absurd (omega arith)
 
 module _ {atoms bonds : List ℤ} {n m : ℕ} (v : Valid atoms bonds n m) (row : List ℕ) (h : roomy atoms bonds (length row) ≡ true) where
   -- a call on valid tables is answered by the row machine
-  valid-call : (c : Call) → callOn c atoms bonds n m row ≡ outOf (rowCall (matchingOf atoms bonds n m) m c row)
+  valid-call : (c : Call) → callOn c atoms bonds n m row ≡ callReplyOf (rowCall (matchingOf atoms bonds n m) m c row)
   unfolding callOn
   valid-call c = simp (h, facts-back v)
 
   valid-code : (c : Call) → callOn c atoms bonds n m row .code ≡ foundCode (foundOf (rowCall (matchingOf atoms bonds n m) m c row .answer))
-  valid-code c = ap (λ (o : Out). o .code) (valid-call c)
+  valid-code c = ap (λ (o : CallReply). o .code) (valid-call c)
 
   graph-length : length (graphOf bonds m) ≡ m
   graph-length = length-upTo (bondOf bonds) 0 m
@@ -64,23 +64,23 @@ module _ {atoms bonds : List ℤ} {n m : ℕ} (v : Valid atoms bonds n m) (row :
 
   -- the first and then the next, as often as there are matchings, give each matching in order and then "end"
   pub all-given : (e : Row) (rest : List Row) → matchings (matchingOf atoms bonds n m) m ≡ e ∷ rest
-      → repliesOf (First ∷ replicate (length (e ∷ rest)) Next) atoms bonds n m row ≡ map (λ r. rowOut 0 (fill (length row) r)) (e ∷ rest) ++ (rowOut 255 (replicate (length row) 0) ∷ [])
+      → repliesOf (First ∷ replicate (length (e ∷ rest)) Next) atoms bonds n m row ≡ map (λ r. callReply 0 (fill (length row) r)) (e ∷ rest) ++ (callReply 255 (replicate (length row) 0) ∷ [])
   unfolding repliesOf enumeration
   all-given e rest q =
       let es = matchings (matchingOf atoms bonds n m) (length (graphOf bonds m)) in
       let k : es ≡ e ∷ rest = ap (matchings (matchingOf atoms bonds n m)) graph-length ∙ q in
-      simp (h, facts-back v, k) (ap (map outOf) (whole-list (length row) (afterZero (delocalizedFlags atoms bonds n m) (e ∷ rest)) e rest _) ∙ outs (length row) (e ∷ rest))
+      simp (h, facts-back v, k) (ap (map callReplyOf) (whole-list (length row) (afterZero (delocalizedFlags atoms bonds n m) (e ∷ rest)) e rest _) ∙ outs (length row) (e ∷ rest))
     where
-      outs : (len : ℕ) (es : List Row) → map outOf (map (given len) es ++ (zeroed len Ended ∷ [])) ≡ map (λ r. rowOut 0 (fill len r)) es ++ (rowOut 255 (replicate len 0) ∷ [])
+      outs : (len : ℕ) (es : List Row) → map callReplyOf (map (given len) es ++ (zeroed len Ended ∷ [])) ≡ map (λ r. callReply 0 (fill len r)) es ++ (callReply 255 (replicate len 0) ∷ [])
       outs len [] = refl
-      outs len (r ∷ es) = ap (λ (l : List Out). rowOut 0 (fill len r) ∷ l) (outs len es)
+      outs len (r ∷ es) = ap (λ (l : List CallReply). callReply 0 (fill len r) ∷ l) (outs len es)
 
 -- asking for the next never gives 11, whatever the tables and the row
 pub next-never-none : (atoms bonds : List ℤ) (n m : ℕ) (row : List ℕ) → callOn Next atoms bonds n m row .code ≡ 11 → ⊥
 unfolding callOn
 next-never-none atoms bonds n m row = go (roomy atoms bonds (length row)) (valid atoms bonds n m)
   where
-    go : (x y : Bool) → pick x (pick y (outOf (rowCall (matchingOf atoms bonds n m) m Next row)) (rowOut 13 (replicate (length row) 0))) (rowOut 1 row) .code ≡ 11 → ⊥
+    go : (x y : Bool) → pick x (pick y (callReplyOf (rowCall (matchingOf atoms bonds n m) m Next row)) (callReply 13 (replicate (length row) 0))) (callReply 1 row) .code ≡ 11 → ⊥
     go false y e = omega arith
     go true false e = omega arith
     go true true e = let p = matchingOf atoms bonds n m in next-present p m row (absent (rowCall p m Next row .answer) e)

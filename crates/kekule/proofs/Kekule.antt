@@ -20,7 +20,7 @@ use Rattle.matching_search.proofs.Reply.{matching-all}
 use Rattle.table_graph.specs.Graph.{matchingOf}
 use Rattle.table_graph.specs.Built.{Built}
 use Rattle.table_graph.proofs.Graph.{built-bonds, length-first}
-use Rattle.kekule.specs.Kekule.{Out, rowOut, outOf, roomy, callOn, isMatchingOf, Tables, tablesOut, kekulized, kekulizedOf}
+use Rattle.kekule.specs.Kekule.{CallReply, callReply, callReplyOf, roomy, callOn, isMatchingOf, KekulizeReply, kekulizeReply, kekulized, kekulizedOf}
 
 module _ {atoms bonds : List ℤ} {n m : ℕ} {flags ea eb el : List ℕ} (b : Built atoms bonds n m flags ea eb el) where
   pub first-built : (c : Call) (row : List ℕ) {g : Reply} → c ≡ First → g ≡ rowFirst (isMatching (take n flags) (bondsOf (take m ea) (take m eb) (take m el))) (length (take m ea)) (length row)
@@ -53,32 +53,32 @@ row-room atoms bonds n m len h v = omega (arith, leb-true maxBonds len (and-left
 
 -- the return paths of a call: 1, 13, and the search's answer
 module _ (c : Call) (atoms bonds : List ℤ) (n m : ℕ) (row : List ℕ) where
-  pub call-short : roomy atoms bonds (length row) ≡ false → rowOut 1 row ≡ callOn c atoms bonds n m row
+  pub call-short : roomy atoms bonds (length row) ≡ false → callReply 1 row ≡ callOn c atoms bonds n m row
   unfolding callOn
   call-short e = simp e
 
-  pub call-invalid : {row′ : List ℕ} → roomy atoms bonds (length row) ≡ true → valid atoms bonds n m ≡ false → row′ ≡ take 0 row ++ replicate (length row - 0) 0 → rowOut 13 row′ ≡ callOn c atoms bonds n m row
+  pub call-invalid : {row′ : List ℕ} → roomy atoms bonds (length row) ≡ true → valid atoms bonds n m ≡ false → row′ ≡ take 0 row ++ replicate (length row - 0) 0 → callReply 13 row′ ≡ callOn c atoms bonds n m row
   unfolding callOn
-  call-invalid e f h = simp (e, f, h) (ap (rowOut 13) (cleared row))
+  call-invalid e f h = simp (e, f, h) (ap (callReply 13) (cleared row))
 
-  pub call-done : {o : Out} → roomy atoms bonds (length row) ≡ true → valid atoms bonds n m ≡ true → o ≡ outOf (rowCall (matchingOf atoms bonds n m) m c row) → o ≡ callOn c atoms bonds n m row
+  pub call-done : {o : CallReply} → roomy atoms bonds (length row) ≡ true → valid atoms bonds n m ≡ true → o ≡ callReplyOf (rowCall (matchingOf atoms bonds n m) m c row) → o ≡ callOn c atoms bonds n m row
   unfolding callOn
   call-done e f h = h ∙ simp (e, f)
 
 -- the return paths of kekulizing: 1, 13, 12, and the tables kekulized
 module _ (atoms bonds : List ℤ) (n m : ℕ) (row : List ℕ) where
-  pub kekulize-short : roomy atoms bonds (length row) ≡ false → tablesOut 1 atoms bonds ≡ kekulizedOf atoms bonds n m row
+  pub kekulize-short : roomy atoms bonds (length row) ≡ false → kekulizeReply 1 atoms bonds ≡ kekulizedOf atoms bonds n m row
   unfolding kekulizedOf
   kekulize-short e = simp e
 
-  pub kekulize-invalid : roomy atoms bonds (length row) ≡ true → valid atoms bonds n m ≡ false → tablesOut 13 atoms bonds ≡ kekulizedOf atoms bonds n m row
+  pub kekulize-invalid : roomy atoms bonds (length row) ≡ true → valid atoms bonds n m ≡ false → kekulizeReply 13 atoms bonds ≡ kekulizedOf atoms bonds n m row
   unfolding kekulizedOf
   kekulize-invalid e f = simp (e, f)
 
-  pub kekulize-wrong : roomy atoms bonds (length row) ≡ true → valid atoms bonds n m ≡ true → isMatchingOf atoms bonds n m row ≡ false → tablesOut 12 atoms bonds ≡ kekulizedOf atoms bonds n m row
+  pub kekulize-wrong : roomy atoms bonds (length row) ≡ true → valid atoms bonds n m ≡ true → isMatchingOf atoms bonds n m row ≡ false → kekulizeReply 12 atoms bonds ≡ kekulizedOf atoms bonds n m row
   unfolding kekulizedOf
   kekulize-wrong e f g = simp (e, f, g)
 
-  pub kekulize-done : {o : Tables} → roomy atoms bonds (length row) ≡ true → valid atoms bonds n m ≡ true → isMatchingOf atoms bonds n m row ≡ true → o ≡ kekulized atoms bonds n m row → o ≡ kekulizedOf atoms bonds n m row
+  pub kekulize-done : {o : KekulizeReply} → roomy atoms bonds (length row) ≡ true → valid atoms bonds n m ≡ true → isMatchingOf atoms bonds n m row ≡ true → o ≡ kekulized atoms bonds n m row → o ≡ kekulizedOf atoms bonds n m row
   unfolding kekulizedOf
   kekulize-done e f g h = h ∙ simp (e, f, g)

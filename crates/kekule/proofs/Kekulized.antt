@@ -20,7 +20,7 @@ use Rattle.matching.specs.Enumeration.{matchings}
 use Rattle.matching.specs.Graph.{noneFlagged}
 use Rattle.matching.proofs.Graph.{only-zeros, matching-pairs}
 use Rattle.table_graph.specs.Graph.{delocalizedAt, delocalizedFlag, delocalizedFlags, flag, bondOf, graphOf, matchingOf}
-use Rattle.kekule.specs.Kekule.{roomy, isMatchingOf, tablesOut, kekulized, kekulizedOf}
+use Rattle.kekule.specs.Kekule.{roomy, isMatchingOf, kekulizeReply, kekulized, kekulizedOf}
 
 -- flags that are all 0
 zero-flags : (f : ℕ → ℕ) (k n : ℕ) → ((j : ℕ) → j < k + n → f j ≡ 0) → noneFlagged (upTo f k n) ≡ true
@@ -132,7 +132,7 @@ unfolding kekulizedOf
 kekulize-settles atoms bonds n m row = go (roomy atoms bonds (length row)) (valid atoms bonds n m) (isMatchingOf atoms bonds n m row) refl refl
   where
     go : (x y z : Bool) → roomy atoms bonds (length row) ≡ x → valid atoms bonds n m ≡ y
-        → let o = pick x (pick y (pick z (kekulized atoms bonds n m row) (tablesOut 12 atoms bonds)) (tablesOut 13 atoms bonds)) (tablesOut 1 atoms bonds) in o .code ≡ 0 → Settled (o .atoms) (o .bonds) n m
+        → let o = pick x (pick y (pick z (kekulized atoms bonds n m row) (kekulizeReply 12 atoms bonds)) (kekulizeReply 13 atoms bonds)) (kekulizeReply 1 atoms bonds) in o .code ≡ 0 → Settled (o .atoms) (o .bonds) n m
     go false y z e f h = absurd (omega arith)
     go true false z e f h = absurd (omega arith)
     go true true false e f h = absurd (omega arith)

@@ -12,27 +12,27 @@ use Rattle.matching.specs.Graph.{enumeration}
 use Rattle.matching.specs.declared.Call.{Call}
 use Rattle.table_graph.specs.Graph.{delocalizedFlags, graphOf}
 use Rattle.kekule_answers.specs.Answers.{callOf}
-use Rattle.kekule.specs.Kekule.{Out, rowOut, outOf, roomy, callOn}
+use Rattle.kekule.specs.Kekule.{CallReply, callReply, callReplyOf, roomy, callOn}
 
 -- what the enumeration of the molecule gives to the calls; each call gives 1 where a buffer is too short, 13 on tables that are not valid
-unfoldable pub repliesOf : List Call → List ℤ → List ℤ → ℕ → ℕ → List ℕ → List Out
+unfoldable pub repliesOf : List Call → List ℤ → List ℤ → ℕ → ℕ → List ℕ → List CallReply
 repliesOf cs atoms bonds n m row =
     pick (roomy atoms bonds (length row))
     (pick (valid atoms bonds n m)
-    (map outOf (enumeration (delocalizedFlags atoms bonds n m) (graphOf bonds m) cs row))
-    (map (λ c. rowOut 13 (replicate (length row) 0)) cs))
-    (map (λ c. rowOut 1 row) cs)
+    (map callReplyOf (enumeration (delocalizedFlags atoms bonds n m) (graphOf bonds m) cs row))
+    (map (λ c. callReply 13 (replicate (length row) 0)) cs))
+    (map (λ c. callReply 1 row) cs)
 
 -- the calls one after the other, each seeing its row alone, as f answers them: every answer, and the row after it
-unfoldable pub turns : (Call → List ℕ → Out) → List Call → List ℕ → List Out
+unfoldable pub turns : (Call → List ℕ → CallReply) → List Call → List ℕ → List CallReply
 turns f [] row = []
 turns f (c ∷ cs) row = let o = f c row in o ∷ turns f cs (o .row)
 
 -- the codes of the answers, and the row after the last call
-abbrev pub codesOf : List Out → List ℕ
+abbrev pub codesOf : List CallReply → List ℕ
 codesOf = map (λ o. o .code)
 
-unfoldable pub lastRow : List ℕ → List Out → List ℕ
+unfoldable pub lastRow : List ℕ → List CallReply → List ℕ
 lastRow row [] = row
 lastRow row (o ∷ os) = lastRow (o .row) os
 
@@ -64,18 +64,18 @@ pub record Replays (calls : List ℕ) (atoms bonds : List ℤ) (n m : ℕ) (row 
 
 -- auxiliary, for the contract of the loop: what it computes
 
-pub record State : Type 0 where
+pub record CallsState : Type 0 where
   pub row : List ℕ
   pub codes : List ℕ
 
-abbrev pub state : List ℕ → List ℕ → State
-state row codes = record { row = row; codes = codes }
+abbrev pub callsState : List ℕ → List ℕ → CallsState
+callsState row codes = record { row = row; codes = codes }
 
 -- the call i: f answers it, its code is stored, and its row is handed on
-abbrev pub callStep : (Call → List ℕ → Out) → List ℕ → ℕ → State → State
+abbrev pub callStep : (Call → List ℕ → CallReply) → List ℕ → ℕ → CallsState → CallsState
 callStep f calls i s =
     let o = f (callOf (getD calls i 0)) (s .row) in
-    state (o .row) (set (s .codes) i (o .code))
+    callsState (o .row) (set (s .codes) i (o .code))
 
-unfoldable pub ranOf : List ℕ → List ℤ → List ℤ → ℕ → ℕ → List ℕ → List ℕ → State
-ranOf calls atoms bonds n m row codes = run (callStep (λ c r. callOn c atoms bonds n m r) calls) 0 (length calls) (state row codes)
+unfoldable pub ranOf : List ℕ → List ℤ → List ℤ → ℕ → ℕ → List ℕ → List ℕ → CallsState
+ranOf calls atoms bonds n m row codes = run (callStep (λ c r. callOn c atoms bonds n m r) calls) 0 (length calls) (callsState row codes)

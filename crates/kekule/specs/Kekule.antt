@@ -17,29 +17,29 @@ use Rattle.kekule_answers.specs.declared.Found.{Found}
 use Rattle.kekule_answers.specs.Answers.{foundOf, foundCode}
 
 -- what a call for a matching hands back: 01's number for its answer, and the row as it is then
-pub record Out : Type 0 where
+pub record CallReply : Type 0 where
   pub code : ℕ
   pub row : List ℕ
 
-abbrev pub rowOut : ℕ → List ℕ → Out
-rowOut c row = record { code = c; row = row }
+abbrev pub callReply : ℕ → List ℕ → CallReply
+callReply c row = record { code = c; row = row }
 
-abbrev pub out : Found → List ℕ → Out
-out a row = rowOut (foundCode a) row
+abbrev pub out : Found → List ℕ → CallReply
+out a row = callReply (foundCode a) row
 
-abbrev pub outOf : Reply → Out
-outOf g = out (foundOf (g .answer)) (g .row)
+abbrev pub callReplyOf : Reply → CallReply
+callReplyOf g = out (foundOf (g .answer)) (g .row)
 
 -- 1 is given exactly when this fails: the tables and a row of the length len are as long as 01 asks
 abbrev pub roomy : List ℤ → List ℤ → ℕ → Bool
 roomy atoms bonds len = leb maxBonds len && enough atoms bonds
 
 -- one of the two calls: "if a table or the row is too short, every call gives 1 and nothing changes"; 13 with a zeroed row
-unfoldable pub callOn : Call → List ℤ → List ℤ → ℕ → ℕ → List ℕ → Out
+unfoldable pub callOn : Call → List ℤ → List ℤ → ℕ → ℕ → List ℕ → CallReply
 callOn c atoms bonds n m row =
     pick (roomy atoms bonds (length row))
-    (pick (valid atoms bonds n m) (outOf (rowCall (matchingOf atoms bonds n m) m c row)) (rowOut 13 (replicate (length row) 0)))
-    (rowOut 1 row)
+    (pick (valid atoms bonds n m) (callReplyOf (rowCall (matchingOf atoms bonds n m) m c row)) (callReply 13 (replicate (length row) 0)))
+    (callReply 1 row)
 
 -- the row, up to the last bond, is a matching; "in a row handed in, cells past the last bond are not looked at"
 abbrev pub isMatchingOf : List ℤ → List ℤ → ℕ → ℕ → List ℕ → Bool
@@ -54,29 +54,29 @@ unfoldable pub askedOf : List ℤ → List ℤ → ℕ → ℕ → List ℕ → 
 askedOf atoms bonds n m row = pick (roomy atoms bonds (length row)) (pick (valid atoms bonds n m) (pick (isMatchingOf atoms bonds n m row) 0 12) 13) 1
 
 -- what kekulizing hands back: 01's number for its answer, and the tables as they are then
-pub record Tables : Type 0 where
+pub record KekulizeReply : Type 0 where
   pub code : ℕ
   pub atoms : List ℤ
   pub bonds : List ℤ
 
-abbrev pub tablesOut : ℕ → List ℤ → List ℤ → Tables
-tablesOut c atoms bonds = record { code = c; atoms = atoms; bonds = bonds }
+abbrev pub kekulizeReply : ℕ → List ℤ → List ℤ → KekulizeReply
+kekulizeReply c atoms bonds = record { code = c; atoms = atoms; bonds = bonds }
 
-abbrev pub tables : Check → List ℤ → List ℤ → Tables
-tables a atoms bonds = tablesOut (checkCode a) atoms bonds
+abbrev pub tables : Check → List ℤ → List ℤ → KekulizeReply
+tables a atoms bonds = kekulizeReply (checkCode a) atoms bonds
 
 -- 01, Settling: makes the matching's bonds kind 2 and clears every selected cell; all else stays
-abbrev pub kekulized : List ℤ → List ℤ → ℕ → ℕ → List ℕ → Tables
-kekulized atoms bonds n m row = tablesOut 0 (unselectedAtoms n atoms) (doubledBonds row m bonds)
+abbrev pub kekulized : List ℤ → List ℤ → ℕ → ℕ → List ℕ → KekulizeReply
+kekulized atoms bonds n m row = kekulizeReply 0 (unselectedAtoms n atoms) (doubledBonds row m bonds)
 
 -- "a refusal leaves those tables untouched": 1, 13, then 12
-unfoldable pub kekulizedOf : List ℤ → List ℤ → ℕ → ℕ → List ℕ → Tables
+unfoldable pub kekulizedOf : List ℤ → List ℤ → ℕ → ℕ → List ℕ → KekulizeReply
 kekulizedOf atoms bonds n m row =
     pick (roomy atoms bonds (length row))
     (pick (valid atoms bonds n m)
-    (pick (isMatchingOf atoms bonds n m row) (kekulized atoms bonds n m row) (tablesOut 12 atoms bonds))
-    (tablesOut 13 atoms bonds))
-    (tablesOut 1 atoms bonds)
+    (pick (isMatchingOf atoms bonds n m row) (kekulized atoms bonds n m row) (kekulizeReply 12 atoms bonds))
+    (kekulizeReply 13 atoms bonds))
+    (kekulizeReply 1 atoms bonds)
 
 -- the counts are within the limits, and the row has a cell for each bond
 pub record Counted (n m : ℕ) (row : List ℕ) : Type 0 where

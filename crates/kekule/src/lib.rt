@@ -9,8 +9,8 @@ ghost use Rattle.matching.specs.Enumeration.{rowCall, zeroed};
 ghost use Rattle.matching.specs.Model.{reply};
 ghost use Rattle.table_graph.specs.Graph.{matchingOf, matchable};
 ghost use Rattle.table_graph.specs.Built.{Prepared};
-ghost use Rattle.kekule.specs.Kekule.{out, outOf, roomy, callOn, allZero, isMatchingOf, askedOf, tables, kekulized, kekulizedOf, Counted};
-ghost use Rattle.kekule.specs.Calls.{state, ranOf, replayed, Replays};
+ghost use Rattle.kekule.specs.Kekule.{out, callReplyOf, roomy, callOn, allZero, isMatchingOf, askedOf, tables, kekulized, kekulizedOf, Counted};
+ghost use Rattle.kekule.specs.Calls.{callsState, ranOf, replayed, Replays};
 use ids::BondId;
 use kekule_answers::Found;
 use kekule_answers::call_of;
@@ -91,7 +91,7 @@ pub fn call_valid(
 ) -> Found
     requires { ⌜ Valid (now atoms) (now bonds) n m ⌝ }
     requires { ⌜ m ≤ length (now row) ⌝ }
-    ensures { λ r. ⌜ out r (now (row .exit)) ≡ outOf (rowCall (matchingOf (now (atoms .entry)) (now (bonds .entry)) n m) m c (now (row .entry))) ⌝ }
+    ensures { λ r. ⌜ out r (now (row .exit)) ≡ callReplyOf (rowCall (matchingOf (now (atoms .entry)) (now (bonds .entry)) n m) m c (now (row .entry))) ⌝ }
 {
     found_of(ask(c, atoms, bonds, n, m, row))
 }
@@ -238,7 +238,7 @@ fn run_calls(
     codes: &mut [u8],
 )
     requires { ⌜ length (now calls) ≤ length (now codes) ⌝ }
-    ensures { λ _. ⌜ state (now (row .exit)) (now (codes .exit)) ≡ ranOf (now (calls .entry)) (now (atoms .entry)) (now (bonds .entry)) n m (now (row .entry)) (now (codes .entry)) ⌝ }
+    ensures { λ _. ⌜ callsState (now (row .exit)) (now (codes .exit)) ≡ ranOf (now (calls .entry)) (now (atoms .entry)) (now (bonds .entry)) n m (now (row .entry)) (now (codes .entry)) ⌝ }
 {
     let mut i = 0;
     while i < calls.len() {

@@ -100,7 +100,7 @@ fn boxed_at(s: &[u8], at: usize, b: u8) -> Spelled
 }
 
 // internal: the atom at an offset.
-pub fn spell_at(s: &[u8], at: usize) -> Spelled
+pub fn read_spelling(s: &[u8], at: usize) -> Spelled
     requires { ⌜ at ≤ length (now s) ⌝ }
     ensures { λ r. ⌜ Spells (now (s .entry)) at r ⌝ }
 {

@@ -8,7 +8,7 @@ use lib.ListN.{length, take, drop, replicate, drop-of-length-le}
 use lib.Dec.{leb, ltb}
 use borrow.Author.Tests.{le-leb, lt-leb, lt-ltb, ltb-false}
 use Rattle.loops.specs.Loop.{pick}
-use Rattle.buffer.specs.Pen.{mostCount, capped, Pen, pen, Wrote}
+use Rattle.buffer.specs.Buffer.{mostCount, capped, BufferAt, bufferAt, Wrote}
 use Rattle.buffer.proofs.Laws.{also, as-is, Laid, laid}
 use Rattle.writing.specs.Write.{filled}
 use Rattle.report_lines.specs.Lines.{linesAfter}
@@ -24,10 +24,10 @@ use Rattle.report_blocks.specs.Report.{start, counted, reportFrom, repor
 use Rattle.report_blocks.specs.Reply.{printed, replyOf}
 
 -- between two lines: with what remains, all that follows the header is laid
-pub record Between (input : List ℕ) (p : Pen) (t : Tally) (from : ℕ) (q : Pen) : Type 0 where
-  pub text : (z : Pen) → Wrote (reportFrom t (linesAfter [] (drop from input))) q z → Wrote (reportFrom start (linesAfter [] input)) p z
+pub record Between (input : List ℕ) (p : BufferAt) (t : Tally) (from : ℕ) (q : BufferAt) : Type 0 where
+  pub text : (z : BufferAt) → Wrote (reportFrom t (linesAfter [] (drop from input))) q z → Wrote (reportFrom start (linesAfter [] input)) p z
 
-pub between-start : (input : List ℕ) (p : Pen) → Between input p start 0 p
+pub between-start : (input : List ℕ) (p : BufferAt) → Between input p start 0 p
 between-start input p = record { text = λ z w. w }
 
 -- the report of a line, and of those after it
@@ -39,8 +39,8 @@ no-lines : (t : Tally) → reportFrom t (linesAfter [] []) ≡ totalsLine (t .ac
 unfolding reportFrom linesAfter
 no-lines t = refl
 
-module _ {input : List ℕ} {p : Pen} {t : Tally} {from at : ℕ} {out : List ℕ} (b : Between input p t from (pen out at)) where
-  pub between-line : {e : ℕ} {r : Reported} {u : Tally} {after : List ℕ} → Ends input from e → Reports (t .number) (take (e - from) (drop from input)) r (pen out at) after → u ≡ counted (r .accepted) t → Between input p u (e + 1) (pen after (r .at))
+module _ {input : List ℕ} {p : BufferAt} {t : Tally} {from at : ℕ} {out : List ℕ} (b : Between input p t from (bufferAt out at)) where
+  pub between-line : {e : ℕ} {r : Reported} {u : Tally} {after : List ℕ} → Ends input from e → Reports (t .number) (take (e - from) (drop from input)) r (bufferAt out at) after → u ≡ counted (r .accepted) t → Between input p u (e + 1) (bufferAt after (r .at))
   between-line {e} {r} {u} {after} d w c =
       record {
         text =
@@ -52,11 +52,11 @@ module _ {input : List ℕ} {p : Pen} {t : Tally} {from at : ℕ} {out : List �
       }
 
   -- the input is taken to its end
-  pub between-over : {z : Pen} → length input ≤ from → Wrote (totalsLine (t .accepted) (t .refused)) (pen out at) z → Wrote (reportFrom start (linesAfter [] input)) p z
+  pub between-over : {z : BufferAt} → length input ≤ from → Wrote (totalsLine (t .accepted) (t .refused)) (bufferAt out at) z → Wrote (reportFrom start (linesAfter [] input)) p z
   between-over {z} l w = b .text z (as-is (ap (λ d. reportFrom t (linesAfter [] d)) (drop-of-length-le input l) ∙ no-lines t) w)
 
 -- the header before it
-pub whole-laid : (input : List ℕ) {p q z : Pen} → Wrote header p q → Wrote (reportFrom start (linesAfter [] input)) q z → Wrote (reportOf input) p z
+pub whole-laid : (input : List ℕ) {p q z : BufferAt} → Wrote header p q → Wrote (reportFrom start (linesAfter [] input)) q z → Wrote (reportOf input) p z
 unfolding reportOf
 whole-laid input w v = also w v
 
@@ -88,7 +88,7 @@ module _ (input out : List ℕ) (size : ℕ) (e : size ≡ capped (length (repor
       (lt-leb (length (reportOf input)) (length out) (capped-above (length (reportOf input)) (length out) (omega (arith, e, h)))))
 
   -- it fits, is laid, and zeros follow
-  pub reply-fits : {after last : List ℕ} {r : ℕ} → length out < mostCount → size ≤ length out → Wrote (reportOf input) (pen out 0) (pen after r) → last ≡ take size after ++ replicate (length after - size) 0 → printed (Bytes size) last ≡ replyOf input out
+  pub reply-fits : {after last : List ℕ} {r : ℕ} → length out < mostCount → size ≤ length out → Wrote (reportOf input) (bufferAt out 0) (bufferAt after r) → last ≡ take size after ++ replicate (length after - size) 0 → printed (Bytes size) last ≡ replyOf input out
   unfolding replyOf
   reply-fits {after} {last} {r} m h w c =
       let n : ℕ = length (reportOf input) in

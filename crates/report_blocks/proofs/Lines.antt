@@ -6,7 +6,7 @@ use mathlib.Core.Bool.{Bool, true, false}
 use native.Mathlib.Omega.{arith}
 use lib.ListN.{length, take, length-append}
 use lib.Seq.{take-all, length-take-le}
-use Rattle.buffer.specs.Pen.{following, Pen, pen, Wrote}
+use Rattle.buffer.specs.Buffer.{following, BufferAt, bufferAt, Wrote}
 use Rattle.buffer.proofs.Laws.{also, as-is}
 use Rattle.report_lines.specs.declared.input.Line.{Line}
 use Rattle.report_lines.specs.Lines.{linesAfter}
@@ -76,7 +76,7 @@ a-last t [] e = absurd (e refl)
 a-last t (b ∷ p) e = refl
 
 -- the unfinished line and the totals are laid
-pub last-told : (l : Line) (t : Tally) {u : Tally} {r : Reported} {p q : Pen} {after : List ℕ} → Bounded l → (l .len ≡ 0 → ⊥) → Reports (t .number) (gathered l) r p after → u ≡ counted (r .accepted) t → Wrote (totalsLine (u .accepted) (u .refused)) (pen after (r .at)) q → Wrote (reportFrom t (linesAfter (gathered l) [])) p q
+pub last-told : (l : Line) (t : Tally) {u : Tally} {r : Reported} {p q : BufferAt} {after : List ℕ} → Bounded l → (l .len ≡ 0 → ⊥) → Reports (t .number) (gathered l) r p after → u ≡ counted (r .accepted) t → Wrote (totalsLine (u .accepted) (u .refused)) (bufferAt after (r .at)) q → Wrote (reportFrom t (linesAfter (gathered l) [])) p q
 last-told l t b h w e v =
     as-is
     (a-last t (gathered l) (λ n. h (sym (gathered-length l b) ∙ n))

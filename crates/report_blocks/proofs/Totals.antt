@@ -6,7 +6,7 @@ use mathlib.Core.Bool.{Bool, true, false}
 use native.Mathlib.Omega.{arith}
 use lib.ListN.{length}
 use Rattle.loops.specs.Loop.{pick}
-use Rattle.buffer.specs.Pen.{mostCount, following}
+use Rattle.buffer.specs.Buffer.{mostCount, following}
 use Rattle.buffer.proofs.Laws.{follows}
 use Rattle.report_lines.specs.Lines.{linesAfter}
 use Rattle.report_lines.specs.Format.{header, totalsLine}

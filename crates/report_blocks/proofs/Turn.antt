@@ -6,7 +6,7 @@ use mathlib.Core.Bool.{true, false}
 use mathlib.Core.Logic.{_⊎_, inl, inr, ⊎-elim}
 use native.Mathlib.Omega.{arith}
 use lib.ListN.{length, take, drop, drop-of-length-le}
-use Rattle.buffer.specs.Pen.{pen}
+use Rattle.buffer.specs.Buffer.{bufferAt}
 use Rattle.buffer.proofs.Laws.{Laid, laid}
 use Rattle.report_lines.specs.declared.input.Line.{Line}
 use Rattle.report_lines.specs.declared.input.Filled.{Filled}
@@ -40,7 +40,7 @@ going-start g s from out b =
 
 module _ {g : Progress} {s : List ℕ} {from : ℕ} {out : List ℕ} {l : Line} {t : Tally} {at used : ℕ} (w : Going g s from out l t at used) where
   -- a line ended, and its report is laid
-  pub going-line : {f : Filled} {r : Reported} {u : Tally} {after : List ℕ} → Fills l s at f → f .done ≡ true → used + lineRoom ≤ length out → Reports (t .number) (gathered (f .line)) r (pen out used) after → u ≡ counted (r .accepted) t → Going g s from after (record { bytes = f .line .bytes; len = 0 }) u (f .at) (r .at)
+  pub going-line : {f : Filled} {r : Reported} {u : Tally} {after : List ℕ} → Fills l s at f → f .done ≡ true → used + lineRoom ≤ length out → Reports (t .number) (gathered (f .line)) r (bufferAt out used) after → u ≡ counted (r .accepted) t → Going g s from after (record { bytes = f .line .bytes; len = 0 }) u (f .at) (r .at)
   going-line {f} {r} {u} {after} v e h q n =
       let d : Laid (lineOf (t .number) (gathered (f .line))) out used after (r .at) = laid (q .text) (omega (arith, line-within (t .number) (gathered (f .line)))) in
       let reached : (at < f .at) × (f .at ≤ length s) = line-reached l s at f v e in

@@ -2,7 +2,7 @@
 use Prim.Native.Nat.{ℕ}
 use mathlib.Core.List.{List, [], _∷_, _++_}
 use mathlib.Core.Bool.{Bool, true, false}
-use Rattle.buffer.specs.Pen.{following}
+use Rattle.buffer.specs.Buffer.{following}
 use Rattle.report_lines.specs.Lines.{linesAfter}
 use Rattle.report_lines.specs.Format.{header, totalsLine}
 use Rattle.report_entry.specs.Entry.{lineOf, acceptedOf}

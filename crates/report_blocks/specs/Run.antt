@@ -2,7 +2,7 @@
 use Prim.Native.Nat.{ℕ, _≤_}
 use mathlib.Core.List.{List, [], _∷_, _++_}
 use lib.ListN.{length, take}
-use Rattle.buffer.specs.Pen.{pen, Wrote}
+use Rattle.buffer.specs.Buffer.{bufferAt, Wrote}
 use Rattle.report_lines.specs.Format.{header}
 use Rattle.report_blocks.specs.declared.Progress.{Progress}
 use Rattle.report_blocks.specs.declared.Report.{Report}
@@ -25,4 +25,4 @@ pub data Blocks : Progress → List (List ℕ) → List ℕ → Progress → Typ
 
 -- a whole run: the header, the blocks, and what is left at the end
 pub data Run : List (List ℕ) → List ℕ → Type 0 where
-  ran : {g h : Progress} {bs : List (List ℕ)} {w out after : List ℕ} {r : ℕ} → Begins g → Blocks g bs w h → length (remaining h []) ≤ length out → Wrote (remaining h []) (pen out 0) (pen after r) → Run bs (header ++ (w ++ take r after))
+  ran : {g h : Progress} {bs : List (List ℕ)} {w out after : List ℕ} {r : ℕ} → Begins g → Blocks g bs w h → length (remaining h []) ≤ length out → Wrote (remaining h []) (bufferAt out 0) (bufferAt after r) → Run bs (header ++ (w ++ take r after))

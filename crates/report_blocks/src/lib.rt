@@ -1,7 +1,7 @@
 // The report of an input: whole in memory (`whole`), or as it comes in blocks.
 ghost use mathlib.Core.Path.{_≡_};
 ghost use mathlib.Core.List.{[]};
-ghost use Rattle.buffer.specs.Pen.{pen, Wrote};
+ghost use Rattle.buffer.specs.Buffer.{bufferAt, Wrote};
 ghost use Rattle.report_lines.specs.Cut.{gathered, Bounded};
 ghost use Rattle.report_entry.specs.Laid.{Reports};
 ghost use Rattle.report_blocks.specs.Report.{counted};
@@ -68,7 +68,7 @@ fn count(t: Tally, accepted: bool) -> Tally
 // The report of a line that was gathered.
 fn tell(line: Line, k: usize, out: &mut [u8], at: usize) -> Reported
     requires { ⌜ Bounded line ⌝ }
-    ensures { λ r. ⌜ Reports k (gathered line) r (pen (now (out .entry)) at) (now (out .exit)) ⌝ }
+    ensures { λ r. ⌜ Reports k (gathered line) r (bufferAt (now (out .entry)) at) (now (out .exit)) ⌝ }
 {
     let bytes = line.bytes;
     let n = line.len;
@@ -105,7 +105,7 @@ pub fn report_block(g: Progress, s: &[u8], from: usize, out: &mut [u8]) -> Repor
 // internal: the end of the report: the unfinished last line, if it has a byte, and the totals.
 pub fn finish(g: Progress, out: &mut [u8], at: usize) -> usize
     requires { ⌜ Bounded (g .line) ⌝ }
-    ensures { λ r. ⌜ Wrote (remaining g []) (pen (now (out .entry)) at) (pen (now (out .exit)) r) ⌝ }
+    ensures { λ r. ⌜ Wrote (remaining g []) (bufferAt (now (out .entry)) at) (bufferAt (now (out .exit)) r) ⌝ }
 {
     let tally = g.tally;
     let line = g.line;

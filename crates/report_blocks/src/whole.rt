@@ -1,7 +1,7 @@
 // The report of a whole input in memory.
 ghost use mathlib.Core.Path.{_≡_};
 ghost use lib.ListN.{length};
-ghost use Rattle.buffer.specs.Pen.{capped, pen, Wrote};
+ghost use Rattle.buffer.specs.Buffer.{capped, bufferAt, Wrote};
 ghost use Rattle.report_blocks.specs.Report.{reportOf};
 ghost use Rattle.report_blocks.specs.Reply.{printed, replyOf};
 use crate::Tally;
@@ -18,7 +18,7 @@ pub enum Printed {
 
 // The report, laid as far as the output has room. The place after it.
 fn lay(input: &[u8], out: &mut [u8]) -> usize
-    ensures { λ r. ⌜ Wrote (reportOf (now (input .entry))) (pen (now (out .entry)) 0) (pen (now (out .exit)) r) ⌝ }
+    ensures { λ r. ⌜ Wrote (reportOf (now (input .entry))) (bufferAt (now (out .entry)) 0) (bufferAt (now (out .exit)) r) ⌝ }
 {
     let mut at = output::header(out, 0);
     let mut tally = Tally {

@@ -19,13 +19,13 @@ use Rattle.reading.specs.Read as read
 use Rattle.reading.proofs.Accepted.{read-valid}
 use Rattle.reader.specs.Ending as reader
 use Rattle.reader.specs.declared.ending.Answer as reply
-use Rattle.kekule.specs.Kekule.{Tables, Out, out, tables, callOn, kekulizedOf}
+use Rattle.kekule.specs.Kekule.{KekulizeReply, CallReply, out, tables, callOn, kekulizedOf}
 use Rattle.kekule_answers.specs.declared.Found.{Found}
 use Rattle.writing.specs.Write as write
 use Rattle.writer.specs.Told.{told}
 use Rattle.writer.specs.declared.Written.{Written}
 use Rattle.writer.specs.declared.Written.the-variants.{Text, Refused}
-use Rattle.buffer.specs.Pen.{Pen}
+use Rattle.buffer.specs.Buffer.{BufferAt}
 use Rattle.report_entry.specs.declared.Reported.{Reported}
 use Rattle.report_entry.specs.Entry.{Entry, refusedAs, acceptedAs, firstRow, kekuleOf, writtenOf, ofWritten, ofMolecule, ofRead, entryOf, lineOf, acceptedOf}
 use Rattle.report_entry.specs.Laid.{Says, Reports}
@@ -54,10 +54,10 @@ abbrev readBlank : List ℕ → read.ReadResult
 readBlank s = read.readOf s (replicate (atomCells * maxAtoms) (pos 0)) (replicate (bondCells * maxBonds) (pos 0))
 
 -- the line of an entry under another name
-pub said-as : {k : ℕ} {x y : Entry} {r : Reported} {p : Pen} {after : List ℕ} → x ≡ y → Says k y r p after → Says k x r p after
+pub said-as : {k : ℕ} {x y : Entry} {r : Reported} {p : BufferAt} {after : List ℕ} → x ≡ y → Says k y r p after → Says k x r p after
 said-as {k} {r = r} {p = p} {after = after} e w = subst (λ o. Says k o r p after) (sym e) w
 
-pub reported : {k : ℕ} {s : List ℕ} {r : Reported} {p : Pen} {after : List ℕ} → Says k (entryOf s) r p after → Reports k s r p after
+pub reported : {k : ℕ} {s : List ℕ} {r : Reported} {p : BufferAt} {after : List ℕ} → Says k (entryOf s) r p after → Reports k s r p after
 unfolding lineOf acceptedOf
 reported w = record { text = w .text; flag = w .flag }
 
@@ -86,7 +86,7 @@ writeBlank a b n m = write.writeOf a b n m (replicate maxText 0) (replicate maxA
 module _ (atoms bonds : List ℤ) (n m : ℕ) (row : List ℕ) (a b : List ℤ) (text numbers : List ℕ) (f : Found) (c : Check) (w : Written) (first : out f row ≡ callOn First atoms bonds n m (replicate maxBonds 0)) (kekule : tables c a b ≡ kekulizedOf atoms bonds n m row) (write : told w text numbers ≡ writeBlank a b n m) where
   the-row : row ≡ firstRow atoms bonds n m
   unfolding firstRow
-  the-row = ap (λ (o : Out). o .row) first
+  the-row = ap (λ (o : CallReply). o .row) first
 
   the-tables : tables c a b ≡ kekuleOf atoms bonds n m
   unfolding kekuleOf
@@ -94,7 +94,7 @@ module _ (atoms bonds : List ℤ) (n m : ℕ) (row : List ℕ) (a b : List ℤ) 
 
   the-text : told w text numbers ≡ writtenOf atoms bonds n m
   unfolding writtenOf
-  the-text = write ∙ ap (λ (k : Tables). writeBlank (k .atoms) (k .bonds) n m) the-tables
+  the-text = write ∙ ap (λ (k : KekulizeReply). writeBlank (k .atoms) (k .bonds) n m) the-tables
 
   the-entry : ofMolecule atoms bonds n m ≡ ofWritten n m row (told w text numbers)
   unfolding ofMolecule

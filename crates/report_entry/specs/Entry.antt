@@ -10,7 +10,7 @@ use Rattle.table.specs.Limits.{maxAtoms, maxBonds, atomCells, bondCells}
 use Rattle.ids.specs.Limits.{maxText}
 use Rattle.matching.specs.declared.Call.the-variants.{First}
 use Rattle.reading.specs.Read as read
-use Rattle.kekule.specs.Kekule.{Tables, callOn, kekulizedOf}
+use Rattle.kekule.specs.Kekule.{KekulizeReply, callOn, kekulizedOf}
 use Rattle.writing.specs.Write as write
 use Rattle.report_lines.specs.Format.{acceptedLine, refusedLine}
 
@@ -26,7 +26,7 @@ unfoldable pub firstRow : List ℤ → List ℤ → ℕ → ℕ → List ℕ
 firstRow atoms bonds n m = callOn First atoms bonds n m (replicate maxBonds 0) .row
 
 -- the tables kekulized by it
-unfoldable pub kekuleOf : List ℤ → List ℤ → ℕ → ℕ → Tables
+unfoldable pub kekuleOf : List ℤ → List ℤ → ℕ → ℕ → KekulizeReply
 kekuleOf atoms bonds n m = kekulizedOf atoms bonds n m (firstRow atoms bonds n m)
 
 -- their text

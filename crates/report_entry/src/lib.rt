@@ -2,7 +2,7 @@
 ghost use Prim.Native.Nat.{_≤_};
 ghost use Rattle.refusal.specs.Code.{codeOf};
 ghost use Rattle.table.specs.Limits.{maxBonds};
-ghost use Rattle.buffer.specs.Pen.{pen};
+ghost use Rattle.buffer.specs.Buffer.{bufferAt};
 ghost use Rattle.report_entry.specs.Entry.{refusedAs, ofMolecule};
 ghost use Rattle.report_entry.specs.Laid.{Says, Reports};
 use ids::MAX_TEXT;
@@ -26,7 +26,7 @@ pub struct Reported {
 
 // The line of a refused text.
 fn refuse(k: usize, r: Refusal, p: usize, out: &mut [u8], at: usize) -> Reported
-    ensures { λ s. ⌜ Says k (refusedAs (codeOf r) p) s (pen (now (out .entry)) at) (now (out .exit)) ⌝ }
+    ensures { λ s. ⌜ Says k (refusedAs (codeOf r) p) s (bufferAt (now (out .entry)) at) (now (out .exit)) ⌝ }
 {
     let at = output::refused(out, at, k, refusal::code(r), p);
     Reported {
@@ -46,7 +46,7 @@ fn report_molecule(
     at: usize,
 ) -> Reported
     requires { ⌜ m ≤ maxBonds ⌝ }
-    ensures { λ r. ⌜ Says k (ofMolecule (now (atoms .entry)) (now (bonds .entry)) n m) r (pen (now (out .entry)) at) (now (out .exit)) ⌝ }
+    ensures { λ r. ⌜ Says k (ofMolecule (now (atoms .entry)) (now (bonds .entry)) n m) r (bufferAt (now (out .entry)) at) (now (out .exit)) ⌝ }
 {
     let mut row = [0u8; MAX_BONDS];
     let mut text = [0u8; MAX_TEXT];
@@ -65,7 +65,7 @@ fn report_molecule(
 
 // internal: the line of the report for a text, whatever its bytes: laid into the buffer from a place on, as far as there is room.
 pub fn report_line(k: usize, s: &[u8], out: &mut [u8], at: usize) -> Reported
-    ensures { λ r. ⌜ Reports k (now (s .entry)) r (pen (now (out .entry)) at) (now (out .exit)) ⌝ }
+    ensures { λ r. ⌜ Reports k (now (s .entry)) r (bufferAt (now (out .entry)) at) (now (out .exit)) ⌝ }
 {
     let mut atoms = [0i32; ATOM_CELLS * MAX_ATOMS];
     let mut bonds = [0i32; BOND_CELLS * MAX_BONDS];

@@ -2,7 +2,7 @@
 ghost use mathlib.Core.Path.{_≡_};
 ghost use lib.ListN.{take};
 ghost use Rattle.io.specs.Counts.{Counts};
-ghost use Rattle.buffer.specs.Pen.{pen, Wrote};
+ghost use Rattle.buffer.specs.Buffer.{bufferAt, Wrote};
 ghost use Rattle.report_lines.specs.Format.{decOf, field, word, bitByte, rowText, header, acceptedLine, refusedLine, totalsLine};
 
 // The decimal digits of a number, at the start of an array, and how many they are.
@@ -15,7 +15,7 @@ fn digits(n: u64, out: &mut [u8; 20]) -> usize
 
 // A number in decimal.
 fn number(out: &mut [u8], at: usize, n: usize) -> usize
-    ensures { λ r. ⌜ Wrote (decOf n) (pen (now (out .entry)) at) (pen (now (out .exit)) r) ⌝ }
+    ensures { λ r. ⌜ Wrote (decOf n) (bufferAt (now (out .entry)) at) (bufferAt (now (out .exit)) r) ⌝ }
 {
     let mut space = [0u8; 20];
     let k = digits(n as u64, &mut space);
@@ -24,7 +24,7 @@ fn number(out: &mut [u8], at: usize, n: usize) -> usize
 
 // A space and a number.
 fn field(out: &mut [u8], at: usize, n: usize) -> usize
-    ensures { λ r. ⌜ Wrote (field n) (pen (now (out .entry)) at) (pen (now (out .exit)) r) ⌝ }
+    ensures { λ r. ⌜ Wrote (field n) (bufferAt (now (out .entry)) at) (bufferAt (now (out .exit)) r) ⌝ }
 {
     let at = buffer::put(out, at, b' ');
     number(out, at, n)
@@ -42,7 +42,7 @@ fn bit(b: u8) -> u8
 
 // The digits of a matching row.
 fn bits(out: &mut [u8], at: usize, row: &[u8]) -> usize
-    ensures { λ r. ⌜ Wrote (rowText (now (row .entry))) (pen (now (out .entry)) at) (pen (now (out .exit)) r) ⌝ }
+    ensures { λ r. ⌜ Wrote (rowText (now (row .entry))) (bufferAt (now (out .entry)) at) (bufferAt (now (out .exit)) r) ⌝ }
 {
     let mut to = at;
     let mut i = 0;
@@ -55,7 +55,7 @@ fn bits(out: &mut [u8], at: usize, row: &[u8]) -> usize
 
 // A space and a matching row, `-` where it is empty.
 fn row_field(out: &mut [u8], at: usize, row: &[u8]) -> usize
-    ensures { λ r. ⌜ Wrote (word (rowText (now (row .entry)))) (pen (now (out .entry)) at) (pen (now (out .exit)) r) ⌝ }
+    ensures { λ r. ⌜ Wrote (word (rowText (now (row .entry)))) (bufferAt (now (out .entry)) at) (bufferAt (now (out .exit)) r) ⌝ }
 {
     if row.len() == 0 {
         return buffer::put_all(out, at, b" -");
@@ -66,7 +66,7 @@ fn row_field(out: &mut [u8], at: usize, row: &[u8]) -> usize
 
 // A space and a text, `-` where it is empty.
 fn text_field(out: &mut [u8], at: usize, text: &[u8]) -> usize
-    ensures { λ r. ⌜ Wrote (word (now (text .entry))) (pen (now (out .entry)) at) (pen (now (out .exit)) r) ⌝ }
+    ensures { λ r. ⌜ Wrote (word (now (text .entry))) (bufferAt (now (out .entry)) at) (bufferAt (now (out .exit)) r) ⌝ }
 {
     if text.len() == 0 {
         return buffer::put_all(out, at, b" -");
@@ -77,7 +77,7 @@ fn text_field(out: &mut [u8], at: usize, text: &[u8]) -> usize
 
 // internal: the report's first line.
 pub fn header(out: &mut [u8], at: usize) -> usize
-    ensures { λ r. ⌜ Wrote header (pen (now (out .entry)) at) (pen (now (out .exit)) r) ⌝ }
+    ensures { λ r. ⌜ Wrote header (bufferAt (now (out .entry)) at) (bufferAt (now (out .exit)) r) ⌝ }
 {
     buffer::put_all(out, at, b"balsa report\n")
 }
@@ -92,7 +92,7 @@ pub fn accepted(
     row: &[u8],
     text: &[u8],
 ) -> usize
-    ensures { λ r. ⌜ Wrote (acceptedLine k atoms bonds (now (row .entry)) (now (text .entry))) (pen (now (out .entry)) at) (pen (now (out .exit)) r) ⌝ }
+    ensures { λ r. ⌜ Wrote (acceptedLine k atoms bonds (now (row .entry)) (now (text .entry))) (bufferAt (now (out .entry)) at) (bufferAt (now (out .exit)) r) ⌝ }
 {
     let at = number(out, at, k);
     let at = buffer::put_all(out, at, b": 0");
@@ -105,7 +105,7 @@ pub fn accepted(
 
 // internal: the line of a refused text: its number, the code and the place.
 pub fn refused(out: &mut [u8], at: usize, k: usize, code: u8, place: usize) -> usize
-    ensures { λ r. ⌜ Wrote (refusedLine k code place) (pen (now (out .entry)) at) (pen (now (out .exit)) r) ⌝ }
+    ensures { λ r. ⌜ Wrote (refusedLine k code place) (bufferAt (now (out .entry)) at) (bufferAt (now (out .exit)) r) ⌝ }
 {
     let at = number(out, at, k);
     let at = buffer::put(out, at, b':');
@@ -116,7 +116,7 @@ pub fn refused(out: &mut [u8], at: usize, k: usize, code: u8, place: usize) -> u
 
 // internal: the report's last line: how many texts were accepted and refused.
 pub fn totals(out: &mut [u8], at: usize, accepted: usize, refused: usize) -> usize
-    ensures { λ r. ⌜ Wrote (totalsLine accepted refused) (pen (now (out .entry)) at) (pen (now (out .exit)) r) ⌝ }
+    ensures { λ r. ⌜ Wrote (totalsLine accepted refused) (bufferAt (now (out .entry)) at) (bufferAt (now (out .exit)) r) ⌝ }
 {
     let at = buffer::put_all(out, at, b"accepted");
     let at = field(out, at, accepted);

@@ -18,7 +18,7 @@ use Rattle.ids.specs.Limits.{maxText}
 use Rattle.writing_walk.specs.Emit.{pre}
 use Rattle.writing_walk.specs.Walk.{forestOf, place}
 use Rattle.writing.specs.Write.{WriteResult, bondList, tokens, textOf, renumbering, fewBridges, shallow, writeRefused, writeShort, filled, writeAccepted, writeValid, lent, writeOf}
-use Rattle.buffer.specs.Pen.{Pen, pen, Wrote}
+use Rattle.buffer.specs.Buffer.{BufferAt, bufferAt, Wrote}
 use Rattle.buffer.proofs.Laws.{Laid, laid, over}
 use Rattle.writer.specs.Told.{Said}
 
@@ -32,7 +32,7 @@ numbers-cleared f n r r1 r2 h e g l =
     g ∙ ap (λ (x : ℕ). take n r1 ++ replicate (x - n) 0) l ∙ ap (λ (x : List ℕ). x ++ replicate (length r - n) 0) (ap (take n) e ∙ take-at (upTo f 0 n) (drop n r) n (length-upTo f 0 n))
 
 -- ---- the text in the output
-module _ (l out part : List ℕ) (at : ℕ) (room : maxText ≤ length out) (w : Wrote l (pen (take maxText out) 0) (pen part at)) where
+module _ (l out part : List ℕ) (at : ℕ) (room : maxText ≤ length out) (w : Wrote l (bufferAt (take maxText out) 0) (bufferAt part at)) where
   long : length (take maxText out) ≡ maxText
   long = length-take-le maxText out room
 
@@ -75,7 +75,7 @@ unfolding renumbering
 renumbering-is bonds n m = refl
 
 -- ---- the answers
-module _ {atoms bonds : List ℤ} {n m : ℕ} {few flat : Bool} {p q : Pen} (s : Said atoms bonds n m few flat p q) (out ren : List ℕ) where
+module _ {atoms bonds : List ℤ} {n m : ℕ} {few flat : Bool} {p q : BufferAt} (s : Said atoms bonds n m few flat p q) (out ren : List ℕ) where
   pub tells14 : few ≡ false → writeRefused 14 out ren ≡ writeValid atoms bonds n m out ren
   unfolding writeValid
   tells14 e = sym (rw (sym (s .numbers) ∙ e))
@@ -101,7 +101,7 @@ pub zeroed : (c : ℕ) (out ren o1 o2 r2 : List ℕ) → length o1 ≡ length ou
 zeroed c out ren o1 o2 r2 l e f = λ i. record { code = c; size = 0; output = (e ∙ ap (λ (x : ℕ). replicate x 0) l) i; numbers = f i }
 
 module _ {atoms bonds : List ℤ} {n m : ℕ} {few flat : Bool} (out ren part : List ℕ) (at : ℕ) (room : maxText ≤ length out) (pl : length part ≡ length (take maxText out))
-    (s : Said atoms bonds n m few flat (pen (take maxText out) 0) (pen part at)) (e : few ≡ true) (f : flat ≡ true) where
+    (s : Said atoms bonds n m few flat (bufferAt (take maxText out) 0) (bufferAt part at)) (e : few ≡ true) (f : flat ≡ true) where
   pub told16 : maxText < at → writeRefused 16 out ren ≡ writeValid atoms bonds n m out ren
   told16 h = tells16 s out ren e f (too-long (textOf atoms bonds n m) out part at room (s .text e) h)
 

@@ -29,7 +29,7 @@ use Rattle.writing_walk.proofs.Twice.{Distinct}
 use Rattle.writing_walk.proofs.Rows.{rows-text}
 use Rattle.writing.specs.Spell.{atomBytes, tokensBytes, spelledAtom}
 use Rattle.writing.specs.Write.{walkBond, bondList, tokens, textOf, fewBridges}
-use Rattle.buffer.specs.Pen.{Pen}
+use Rattle.buffer.specs.Buffer.{BufferAt}
 use Rattle.buffer.proofs.Laws.{as-is}
 use Rattle.writing_atoms.specs.Fields.{AtomFits}
 use Rattle.writing_visit.specs.Visit.{BondsFit, Room, Kept, Walked}
@@ -192,7 +192,7 @@ module _ {atoms bonds : List ℤ} {n m : ℕ} (v : Valid atoms bonds n m) {o w u
       }
 
   -- THE STATEMENT
-  pub said : (last sums los his kds l0 : List ℕ) (k : ℕ) (few flat? : Bool) (p q : Pen) → Listed (bondList bonds m) n los his kds k → ((a : ℕ) → a < n → getD sums a 0 ≡ bondSum bonds m a)
+  pub said : (last sums los his kds l0 : List ℕ) (k : ℕ) (few flat? : Bool) (p q : BufferAt) → Listed (bondList bonds m) n los his kds k → ((a : ℕ) → a < n → getD sums a 0 ≡ bondSum bonds m a)
       → maxAtoms < length l0 → last ≡ run (λ x l. set l (getD u x 0) x) 0 n l0
       → Texted (headBytes atoms o u kd last sums) los his kds n k (replicate slotCount 0) few p q → flat? ≡ nestFrom u (moreAt u last) 0 n 0 → Said atoms bonds n m few flat? p q
   unfolding tokens write textOf

@@ -18,7 +18,7 @@ use Rattle.writing_walk.proofs.Read.{openOf, Within, pending, Back, closes-with
 use Rattle.writing_walk.proofs.Walk.{Inside}
 use Rattle.writing_walk.proofs.Trip.{back-of}
 use Rattle.writing.specs.Spell.{kindBytes, spelledAtom}
-use Rattle.buffer.specs.Pen.{Pen, pen, Wrote}
+use Rattle.buffer.specs.Buffer.{BufferAt, bufferAt, Wrote}
 use Rattle.buffer.proofs.Laws.{also, as-is, nothing}
 use Rattle.writing_bridges.specs.Slots.{Bridged, Slots, closesFrom, opensFrom, fits, Ended}
 use Rattle.writer.specs.Emit.{leaveBytes, enterBytes, leadBytes, headBytes, moreAt, Emitted, Texted, Pending, nextSlots, bytesFrom, fewFrom}
@@ -58,7 +58,7 @@ piece-lead x zero k m h e = rw (ne-eqb x 0 e)
 piece-lead x (suc u) k m h e = absurd (omega arith)
 
 -- an atom
-pub emitted : (atoms : List ℤ) (order up kind last sums los his kinds : List ℕ) (k x : ℕ) (a c : List ℕ) (few : Bool) (p q r s : Pen) (m : Bool) → m ≡ moreAt up last x
+pub emitted : (atoms : List ℤ) (order up kind last sums los his kinds : List ℕ) (k x : ℕ) (a c : List ℕ) (few : Bool) (p q r s : BufferAt) (m : Bool) → m ≡ moreAt up last x
     → Wrote (leadBytes x (getD up x 0) m (getD kind x 0)) p q → Wrote (spelledAtom atoms (getD order x 0) (getD sums (getD order x 0) 0)) q r → Ended los his kinds k x a c few r s
     → Emitted atoms order up kind last sums los his kinds k x a c few p s
 emitted atoms order up kind last sums los his kinds k x a c few p q r s m em w1 w2 e =
@@ -98,19 +98,19 @@ module _ {f : ℕ → Bond} {n k : ℕ} {los his : List ℕ} (br : Bridged f n k
       (inv-rings (upTo f 0 k) (closingBonds n (upTo f 0 k)) (openingBonds n (upTo f 0 k)) (back-of n (upTo f 0 k) bridges-inside) x t v)
 
 -- the loop stands before the atom x
-pub record Going (head : ℕ → List ℕ) (f : ℕ → Bond) (n k : ℕ) (a : List ℕ) (t : List Slot) (p : Pen) (x : ℕ) (c : List ℕ) (q : Pen) : Type 0 where
+pub record Going (head : ℕ → List ℕ) (f : ℕ → Bond) (n k : ℕ) (a : List ℕ) (t : List Slot) (p : BufferAt) (x : ℕ) (c : List ℕ) (q : BufferAt) : Type 0 where
   pub within : x ≤ n
   pub long : length c ≡ length a
   pub now-open : List Slot
   pub slots : Slots f k c now-open
   pub waiting : Pending (upTo f 0 k) x now-open
   pub few : fewFrom (length a) f n k 0 n t ≡ fewFrom (length a) f n k x (n - x) now-open
-  pub bytes : (e : Pen) → Wrote (bytesFrom head f n k x (n - x) now-open) q e → Wrote (bytesFrom head f n k 0 n t) p e
+  pub bytes : (e : BufferAt) → Wrote (bytesFrom head f n k x (n - x) now-open) q e → Wrote (bytesFrom head f n k 0 n t) p e
 
-pub record Onward (head : ℕ → List ℕ) (los his kinds : List ℕ) (n k : ℕ) (a : List ℕ) (p : Pen) (x : ℕ) (c : List ℕ) (q : Pen) : Type 0 where
+pub record Onward (head : ℕ → List ℕ) (los his kinds : List ℕ) (n k : ℕ) (a : List ℕ) (p : BufferAt) (x : ℕ) (c : List ℕ) (q : BufferAt) : Type 0 where
   pub told : (f : ℕ → Bond) (t : List Slot) → Bridged f n k los his → ((i : ℕ) → i < k → f i .kind ≡ getD kinds i 0) → Slots f k a t → Pending (upTo f 0 k) 0 t → Going head f n k a t p x c q
 
-pub onward-start : (head : ℕ → List ℕ) (los his kinds : List ℕ) (n k : ℕ) (a : List ℕ) (p : Pen) → Onward head los his kinds n k a p 0 a p
+pub onward-start : (head : ℕ → List ℕ) (los his kinds : List ℕ) (n k : ℕ) (a : List ℕ) (p : BufferAt) → Onward head los his kinds n k a p 0 a p
 onward-start head los his kinds n k a p =
     record {
       told = λ f t br kk sl pe.
@@ -118,7 +118,7 @@ onward-start head los his kinds n k a p =
           record { within = omega arith; long = refl; now-open = t; slots = sl; waiting = pe; few = rw z; bytes = λ e w. rw z at w };
     }
 
-module _ (atoms : List ℤ) (order up kind last sums los his kinds : List ℕ) (n k x : ℕ) (a c d : List ℕ) (p q r : Pen) (few : Bool)
+module _ (atoms : List ℤ) (order up kind last sums los his kinds : List ℕ) (n k x : ℕ) (a c d : List ℕ) (p q r : BufferAt) (few : Bool)
     (on : Onward (headBytes atoms order up kind last sums) los his kinds n k a p x c q) (h : x < n) (em : Emitted atoms order up kind last sums los his kinds k x c d few q r) where
   -- the numbers do not suffice
   pub onward-stop : few ≡ false → Texted (headBytes atoms order up kind last sums) los his kinds n k a few p r
@@ -153,7 +153,7 @@ module _ (atoms : List ℤ) (order up kind last sums los his kinds : List ℕ) (
             };
       }
 
-pub onward-end : (head : ℕ → List ℕ) (los his kinds : List ℕ) (n k x : ℕ) (a c : List ℕ) (p q : Pen) → Onward head los his kinds n k a p x c q → n ≤ x → Texted head los his kinds n k a true p q
+pub onward-end : (head : ℕ → List ℕ) (los his kinds : List ℕ) (n k x : ℕ) (a c : List ℕ) (p q : BufferAt) → Onward head los his kinds n k a p x c q → n ≤ x → Texted head los his kinds n k a true p q
 unfolding fewFrom bytesFrom
 onward-end head los his kinds n k x a c p q on h =
     record {

@@ -12,7 +12,7 @@ use Rattle.writing_walk.specs.Token.{Bond}
 use Rattle.writing_walk.specs.Emit.{Slot, closeAll, openAll}
 use Rattle.writing_walk.specs.Same.{count, openOf, Within, pending}
 use Rattle.writing.specs.Spell.{kindBytes, spelledAtom}
-use Rattle.buffer.specs.Pen.{Pen, Wrote}
+use Rattle.buffer.specs.Buffer.{BufferAt, Wrote}
 use Rattle.writing_atoms.specs.Fields.{AtomFits}
 use Rattle.writing_bridges.specs.Slots.{Bridged, Slots, closesFrom, opensFrom, closeBytes, openBytes, fits}
 
@@ -53,7 +53,7 @@ headBytes atoms order up kind last sums x =
     leadBytes x (getD up x 0) (moreAt up last x) (getD kind x 0) ++ spelledAtom atoms (getD order x 0) (getD sums (getD order x 0) 0)
 
 -- the atom x was written, unless the bridge numbers did not suffice
-pub record Emitted (atoms : List ℤ) (order up kind last sums los his kinds : List ℕ) (k x : ℕ) (a c : List ℕ) (few : Bool) (p q : Pen) : Type 0 where
+pub record Emitted (atoms : List ℤ) (order up kind last sums los his kinds : List ℕ) (k x : ℕ) (a c : List ℕ) (few : Bool) (p q : BufferAt) : Type 0 where
   pub told : (f : ℕ → Bond) (n : ℕ) (t : List Slot) → Bridged f n k los his → ((i : ℕ) → i < k → f i .kind ≡ getD kinds i 0) → Slots f k a t → Within (closesFrom f n k x 0) (openOf t)
       → (few ≡ fits (length a) (opensFrom f n k x 0) (closeAll (closesFrom f n k x 0) t))
       × (few ≡ true → Wrote (headBytes atoms order up kind last sums x ++ (closeBytes (closesFrom f n k x 0) t ++ openBytes (opensFrom f n k x 0) (closeAll (closesFrom f n k x 0) t))) p q
@@ -79,6 +79,6 @@ fewFrom m f n k x zero t = true
 fewFrom m f n k x (suc d) t = fits m (opensFrom f n k x 0) (closeAll (closesFrom f n k x 0) t) && fewFrom m f n k (suc x) d (nextSlots f n k x t)
 
 -- all n atoms were written, unless the bridge numbers did not suffice
-pub record Texted (head : ℕ → List ℕ) (los his kinds : List ℕ) (n k : ℕ) (a : List ℕ) (few : Bool) (p q : Pen) : Type 0 where
+pub record Texted (head : ℕ → List ℕ) (los his kinds : List ℕ) (n k : ℕ) (a : List ℕ) (few : Bool) (p q : BufferAt) : Type 0 where
   pub told : (f : ℕ → Bond) (t : List Slot) → Bridged f n k los his → ((i : ℕ) → i < k → f i .kind ≡ getD kinds i 0) → Slots f k a t → Pending (upTo f 0 k) 0 t
       → (few ≡ fewFrom (length a) f n k 0 n t) × (few ≡ true → Wrote (bytesFrom head f n k 0 n t) p q)

@@ -12,7 +12,7 @@ use Rattle.table.specs.Valid.{Valid}
 use Rattle.table_graph.specs.Graph.{bondSum}
 use Rattle.writing_walk.specs.Emit.{pre}
 use Rattle.writing_walk.specs.Walk.{forestOf, place}
-use Rattle.buffer.specs.Pen.{Pen, Wrote}
+use Rattle.buffer.specs.Buffer.{BufferAt, Wrote}
 use Rattle.writing.specs.Write.{WriteResult, bondList, tokens, textOf, fewBridges, shallow}
 use Rattle.writing_visit.specs.Visit.{Room, Walked}
 use Rattle.writing_visit.specs.Wires.{Wired}
@@ -25,7 +25,7 @@ told (Text n) out ren = record { code = 0; size = n; output = out; numbers = ren
 told (Refused r) out ren = record { code = codeOf r; size = 0; output = out; numbers = ren }
 
 -- the walk of a molecule was written: whether the bridge numbers sufficed, whether the branches nest within the limit, and if the numbers did the text
-pub record Said (atoms bonds : List ℤ) (n m : ℕ) (few flat : Bool) (p q : Pen) : Type 0 where
+pub record Said (atoms bonds : List ℤ) (n m : ℕ) (few flat : Bool) (p q : BufferAt) : Type 0 where
   pub numbers : few ≡ fewBridges (tokens bonds n m)
   pub depth : flat ≡ shallow (tokens bonds n m)
   pub text : few ≡ true → Wrote (textOf atoms bonds n m) p q

@@ -2,7 +2,7 @@
 ghost use mathlib.Core.Bool.{true};
 ghost use Prim.Native.Nat.{ℕ, _<_};
 ghost use lib.ListN.{length, replicate};
-ghost use Rattle.buffer.specs.Pen.{pen, Wrote};
+ghost use Rattle.buffer.specs.Buffer.{bufferAt, Wrote};
 ghost use Rattle.ids.specs.Limits.{bridges};
 ghost use Rattle.writing_bridges.specs.Slots.{slotCount};
 ghost use Rattle.writing_bridges.specs.Unused.{Marked};
@@ -15,7 +15,7 @@ use writing_visit::WalkNumber;
 
 // A branch is left before a child that is not the first.
 fn leave(out: &mut [u8], at: usize, up: usize, x: WalkNumber) -> usize
-    ensures { λ r. ⌜ Wrote (leaveBytes up (x .0)) (pen (now (out .entry)) at) (pen (now (out .exit)) r) ⌝ }
+    ensures { λ r. ⌜ Wrote (leaveBytes up (x .0)) (bufferAt (now (out .entry)) at) (bufferAt (now (out .exit)) r) ⌝ }
 {
     if up == x.0 {
         return at;
@@ -25,7 +25,7 @@ fn leave(out: &mut [u8], at: usize, up: usize, x: WalkNumber) -> usize
 
 // A child that is not the last stands in a branch.
 fn enter(out: &mut [u8], at: usize, more: bool) -> usize
-    ensures { λ r. ⌜ Wrote (enterBytes more) (pen (now (out .entry)) at) (pen (now (out .exit)) r) ⌝ }
+    ensures { λ r. ⌜ Wrote (enterBytes more) (bufferAt (now (out .entry)) at) (bufferAt (now (out .exit)) r) ⌝ }
 {
     if more {
         return buffer::put(out, at, b'(');
@@ -35,7 +35,7 @@ fn enter(out: &mut [u8], at: usize, more: bool) -> usize
 
 // What stands before the atom x: a dot, or parentheses and the symbol of the bond to its parent.
 fn lead(out: &mut [u8], at: usize, x: WalkNumber, up: usize, more: bool, kind: usize) -> usize
-    ensures { λ r. ⌜ Wrote (leadBytes (x .0) up more kind) (pen (now (out .entry)) at) (pen (now (out .exit)) r) ⌝ }
+    ensures { λ r. ⌜ Wrote (leadBytes (x .0) up more kind) (bufferAt (now (out .entry)) at) (bufferAt (now (out .exit)) r) ⌝ }
 {
     if up > 0 {
         let at = leave(out, at, up, x);
@@ -69,7 +69,7 @@ fn emit_atom(
     requires { ⌜ Ready (now atoms) (now order) (now up) (now kind) (now last) (now sums) (now los) (now his) (now kinds) k (x .0) ⌝ }
     requires { ⌜ Marked (now marks) (now los) (now his) k ⌝ }
     requires { ⌜ length (now slots) < bridges ⌝ }
-    ensures { λ r. ⌜ Emitted (now (atoms .entry)) (now (order .entry)) (now (up .entry)) (now (kind .entry)) (now (last .entry)) (now (sums .entry)) (now (los .entry)) (now (his .entry)) (now (kinds .entry)) k (x .0) (now (slots .entry)) (now (slots .exit)) (r .few) (pen (now (out .entry)) at) (pen (now (out .exit)) (r .at)) ⌝ }
+    ensures { λ r. ⌜ Emitted (now (atoms .entry)) (now (order .entry)) (now (up .entry)) (now (kind .entry)) (now (last .entry)) (now (sums .entry)) (now (los .entry)) (now (his .entry)) (now (kinds .entry)) k (x .0) (now (slots .entry)) (now (slots .exit)) (r .few) (bufferAt (now (out .entry)) at) (bufferAt (now (out .exit)) (r .at)) ⌝ }
 {
     let i = x.0;
     let a = order[i] as usize;
@@ -98,7 +98,7 @@ pub fn emit(
 ) -> Spot
     requires { ⌜ ((x : ℕ) → x < n → Ready (now atoms) (now order) (now up) (now kind) (now last) (now sums) (now los) (now his) (now kinds) k x) ⌝ }
     requires { ⌜ Marked (now marks) (now los) (now his) k ⌝ }
-    ensures { λ r. ⌜ Texted (headBytes (now (atoms .entry)) (now (order .entry)) (now (up .entry)) (now (kind .entry)) (now (last .entry)) (now (sums .entry))) (now (los .entry)) (now (his .entry)) (now (kinds .entry)) n k (replicate slotCount 0) (r .few) (pen (now (out .entry)) 0) (pen (now (out .exit)) (r .at)) ⌝ }
+    ensures { λ r. ⌜ Texted (headBytes (now (atoms .entry)) (now (order .entry)) (now (up .entry)) (now (kind .entry)) (now (last .entry)) (now (sums .entry))) (now (los .entry)) (now (his .entry)) (now (kinds .entry)) n k (replicate slotCount 0) (r .few) (bufferAt (now (out .entry)) 0) (bufferAt (now (out .exit)) (r .at)) ⌝ }
 {
     let mut slots = [0u16; SLOTS];
     let mut at = 0;

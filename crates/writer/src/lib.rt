@@ -9,7 +9,7 @@ ghost use Rattle.table.specs.Limits.{maxAtoms};
 ghost use Rattle.ids.specs.Limits.{maxText};
 ghost use Rattle.writing.specs.Write.{writeValid, writeOf};
 ghost use Rattle.table.specs.Valid.{Valid};
-ghost use Rattle.buffer.specs.Pen.{pen};
+ghost use Rattle.buffer.specs.Buffer.{bufferAt};
 ghost use Rattle.writer.specs.Told.{Held, Counted, Said, told};
 use ids::MAX_TEXT;
 use refusal::Refusal;
@@ -48,7 +48,7 @@ fn draw(
     out: &mut [u8],
 ) -> Verdict
     requires { ⌜ ((bonds : List ℤ) × Held (now atoms) bonds n m (now order) (now number) (now up) (now kind) (now ea) (now eb) (now ks) (now sums)) ⌝ }
-    ensures { λ r. ⌜ ((bonds : List ℤ) → Held (now (atoms .entry)) bonds n m (now (order .entry)) (now (number .entry)) (now (up .entry)) (now (kind .entry)) (now (ea .entry)) (now (eb .entry)) (now (ks .entry)) (now (sums .entry)) → Said (now (atoms .entry)) bonds n m (r .few) (r .flat) (pen (now (out .entry)) 0) (pen (now (out .exit)) (r .at))) ⌝ }
+    ensures { λ r. ⌜ ((bonds : List ℤ) → Held (now (atoms .entry)) bonds n m (now (order .entry)) (now (number .entry)) (now (up .entry)) (now (kind .entry)) (now (ea .entry)) (now (eb .entry)) (now (ks .entry)) (now (sums .entry)) → Said (now (atoms .entry)) bonds n m (r .few) (r .flat) (bufferAt (now (out .entry)) 0) (bufferAt (now (out .exit)) (r .at))) ⌝ }
 {
     let mut los = [0u16; MAX_BONDS];
     let mut his = [0u16; MAX_BONDS];
@@ -102,7 +102,7 @@ fn text(
 ) -> Verdict
     requires { ⌜ Valid (now atoms) (now bonds) n m ⌝ }
     requires { ⌜ now number ≡ replicate maxAtoms 0 ⌝ }
-    ensures { λ r. ⌜ Said (now (atoms .entry)) (now (bonds .entry)) n m (r .few) (r .flat) (pen (now (out .entry)) 0) (pen (now (out .exit)) (r .at)) ⌝ }
+    ensures { λ r. ⌜ Said (now (atoms .entry)) (now (bonds .entry)) n m (r .few) (r .flat) (bufferAt (now (out .entry)) 0) (bufferAt (now (out .exit)) (r .at)) ⌝ }
     ensures { λ _. ⌜ Counted (now (bonds .entry)) n m (now (number .exit)) ⌝ }
 {
     let mut order = [0u16; MAX_ATOMS];

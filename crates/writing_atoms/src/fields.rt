@@ -5,7 +5,7 @@ ghost use Prim.Native.Nat.{_<_};
 ghost use lib.IntN.{pos, negsuc};
 ghost use Rattle.table.specs.Limits.{maxAtoms};
 ghost use Rattle.table.specs.Cells.{inRange};
-ghost use Rattle.buffer.specs.Pen.{pen, Wrote};
+ghost use Rattle.buffer.specs.Buffer.{bufferAt, Wrote};
 ghost use Rattle.writing_atoms.specs.Fields.{letters, AtomFits};
 ghost use Rattle.writing.specs.Spell.{isotopeBytes, symbolBytes, hydrogenBytes, sizeBytes, chargeBytes, extensionBytes, bracketBytes, withoutBrackets, spelledAtom};
 use crate::decimal;
@@ -21,7 +21,7 @@ use table::SELECTED;
 // The isotope, nothing for 0.
 fn isotope(out: &mut [u8], at: usize, i: usize) -> usize
     requires { ⌜ i < 1000 ⌝ }
-    ensures { λ r. ⌜ Wrote (isotopeBytes i) (pen (now (out .entry)) at) (pen (now (out .exit)) r) ⌝ }
+    ensures { λ r. ⌜ Wrote (isotopeBytes i) (bufferAt (now (out .entry)) at) (bufferAt (now (out .exit)) r) ⌝ }
 {
     if i == 0 {
         return at;
@@ -31,7 +31,7 @@ fn isotope(out: &mut [u8], at: usize, i: usize) -> usize
 
 // The letters of a symbol.
 fn spelled(out: &mut [u8], at: usize, s: Spelling) -> usize
-    ensures { λ r. ⌜ Wrote (letters s) (pen (now (out .entry)) at) (pen (now (out .exit)) r) ⌝ }
+    ensures { λ r. ⌜ Wrote (letters s) (bufferAt (now (out .entry)) at) (bufferAt (now (out .exit)) r) ⌝ }
 {
     if s.first == 0 {
         return at;
@@ -46,7 +46,7 @@ fn spelled(out: &mut [u8], at: usize, s: Spelling) -> usize
 // The symbol of an element, or its selected letter.
 fn symbol(out: &mut [u8], at: usize, e: usize, selected: usize) -> usize
     requires { ⌜ e < 119 ⌝ }
-    ensures { λ r. ⌜ Wrote (symbolBytes e selected) (pen (now (out .entry)) at) (pen (now (out .exit)) r) ⌝ }
+    ensures { λ r. ⌜ Wrote (symbolBytes e selected) (bufferAt (now (out .entry)) at) (bufferAt (now (out .exit)) r) ⌝ }
 {
     if selected == 1 {
         return spelled(out, at, element::spell_selected(e as u8));
@@ -57,7 +57,7 @@ fn symbol(out: &mut [u8], at: usize, e: usize, selected: usize) -> usize
 // The hydrogens, nothing for 0.
 fn hydrogens(out: &mut [u8], at: usize, h: usize) -> usize
     requires { ⌜ h < 10 ⌝ }
-    ensures { λ r. ⌜ Wrote (hydrogenBytes h) (pen (now (out .entry)) at) (pen (now (out .exit)) r) ⌝ }
+    ensures { λ r. ⌜ Wrote (hydrogenBytes h) (bufferAt (now (out .entry)) at) (bufferAt (now (out .exit)) r) ⌝ }
 {
     sized(out, at, b'H', h)
 }
@@ -65,7 +65,7 @@ fn hydrogens(out: &mut [u8], at: usize, h: usize) -> usize
 // A sign, and its size from 2 on; nothing for 0.
 fn sized(out: &mut [u8], at: usize, sign: u8, h: usize) -> usize
     requires { ⌜ h < 10 ⌝ }
-    ensures { λ r. ⌜ Wrote (sizeBytes sign h) (pen (now (out .entry)) at) (pen (now (out .exit)) r) ⌝ }
+    ensures { λ r. ⌜ Wrote (sizeBytes sign h) (bufferAt (now (out .entry)) at) (bufferAt (now (out .exit)) r) ⌝ }
 {
     if h == 0 {
         return at;
@@ -80,7 +80,7 @@ fn sized(out: &mut [u8], at: usize, sign: u8, h: usize) -> usize
 // The charge, nothing for 0.
 fn charge(out: &mut [u8], at: usize, c: i32) -> usize
     requires { ⌜ inRange c (negsuc 8) (pos 9) ≡ true ⌝ }
-    ensures { λ r. ⌜ Wrote (chargeBytes c) (pen (now (out .entry)) at) (pen (now (out .exit)) r) ⌝ }
+    ensures { λ r. ⌜ Wrote (chargeBytes c) (bufferAt (now (out .entry)) at) (bufferAt (now (out .exit)) r) ⌝ }
 {
     if c < 0 {
         return sized(out, at, b'-', (0 - c) as usize);
@@ -91,7 +91,7 @@ fn charge(out: &mut [u8], at: usize, c: i32) -> usize
 // The extension, nothing for 0.
 fn extension(out: &mut [u8], at: usize, x: usize) -> usize
     requires { ⌜ x < 10000 ⌝ }
-    ensures { λ r. ⌜ Wrote (extensionBytes x) (pen (now (out .entry)) at) (pen (now (out .exit)) r) ⌝ }
+    ensures { λ r. ⌜ Wrote (extensionBytes x) (bufferAt (now (out .entry)) at) (bufferAt (now (out .exit)) r) ⌝ }
 {
     if x == 0 {
         return at;
@@ -104,7 +104,7 @@ fn extension(out: &mut [u8], at: usize, x: usize) -> usize
 fn bracket(atoms: &[i32], a: AtomId, out: &mut [u8], at: usize) -> usize
     requires { ⌜ a .0 < maxAtoms ⌝ }
     requires { ⌜ AtomFits (now atoms) (a .0) ⌝ }
-    ensures { λ r. ⌜ Wrote (bracketBytes (now (atoms .entry)) (a .0)) (pen (now (out .entry)) at) (pen (now (out .exit)) r) ⌝ }
+    ensures { λ r. ⌜ Wrote (bracketBytes (now (atoms .entry)) (a .0)) (bufferAt (now (out .entry)) at) (bufferAt (now (out .exit)) r) ⌝ }
 {
     let at = buffer::put(out, at, b'[');
     let at = isotope(out, at, table::cell::atom_number(atoms, a, ISOTOPE));
@@ -135,7 +135,7 @@ fn is_outside(atoms: &[i32], a: AtomId, sum: usize) -> bool
 pub fn atom(atoms: &[i32], a: AtomId, sum: usize, out: &mut [u8], at: usize) -> usize
     requires { ⌜ a .0 < maxAtoms ⌝ }
     requires { ⌜ AtomFits (now atoms) (a .0) ⌝ }
-    ensures { λ r. ⌜ Wrote (spelledAtom (now (atoms .entry)) (a .0) sum) (pen (now (out .entry)) at) (pen (now (out .exit)) r) ⌝ }
+    ensures { λ r. ⌜ Wrote (spelledAtom (now (atoms .entry)) (a .0) sum) (bufferAt (now (out .entry)) at) (bufferAt (now (out .exit)) r) ⌝ }
 {
     if is_outside(atoms, a, sum) {
         let e = table::cell::atom_number(atoms, a, ELEMENT);

@@ -2,7 +2,7 @@
 ghost use mathlib.Core.List.{[], _∷_};
 ghost use Prim.Native.Nat.{_+_, _<_};
 ghost use Rattle.ids.specs.Limits.{bridges};
-ghost use Rattle.buffer.specs.Pen.{pen, Wrote};
+ghost use Rattle.buffer.specs.Buffer.{bufferAt, Wrote};
 ghost use Rattle.writing.specs.Spell.{digitByte, decimal, kindBytes, bridgeBytes};
 
 pub mod fields;
@@ -10,7 +10,7 @@ pub mod fields;
 // A digit.
 fn digit(out: &mut [u8], at: usize, d: usize) -> usize
     requires { ⌜ d < 10 ⌝ }
-    ensures { λ r. ⌜ Wrote (digitByte d ∷ []) (pen (now (out .entry)) at) (pen (now (out .exit)) r) ⌝ }
+    ensures { λ r. ⌜ Wrote (digitByte d ∷ []) (bufferAt (now (out .entry)) at) (bufferAt (now (out .exit)) r) ⌝ }
 {
     buffer::put(out, at, b'0' + d as u8)
 }
@@ -18,7 +18,7 @@ fn digit(out: &mut [u8], at: usize, d: usize) -> usize
 // internal: a number in decimal.
 pub fn decimal(out: &mut [u8], at: usize, x: usize) -> usize
     requires { ⌜ x < 10000 ⌝ }
-    ensures { λ r. ⌜ Wrote (decimal x) (pen (now (out .entry)) at) (pen (now (out .exit)) r) ⌝ }
+    ensures { λ r. ⌜ Wrote (decimal x) (bufferAt (now (out .entry)) at) (bufferAt (now (out .exit)) r) ⌝ }
 {
     if x < 10 {
         return digit(out, at, x);
@@ -40,7 +40,7 @@ pub fn decimal(out: &mut [u8], at: usize, x: usize) -> usize
 
 // internal: the symbol of a bond's kind; nothing for an elided bond.
 pub fn bond_symbol(out: &mut [u8], at: usize, k: usize) -> usize
-    ensures { λ r. ⌜ Wrote (kindBytes k) (pen (now (out .entry)) at) (pen (now (out .exit)) r) ⌝ }
+    ensures { λ r. ⌜ Wrote (kindBytes k) (bufferAt (now (out .entry)) at) (bufferAt (now (out .exit)) r) ⌝ }
 {
     if k == 1 {
         return buffer::put(out, at, b'-');
@@ -57,7 +57,7 @@ pub fn bond_symbol(out: &mut [u8], at: usize, k: usize) -> usize
 // internal: the number of a bridge; r is the number less one.
 pub fn bridge(out: &mut [u8], at: usize, r: usize) -> usize
     requires { ⌜ r + 1 < bridges ⌝ }
-    ensures { λ s. ⌜ Wrote (bridgeBytes r) (pen (now (out .entry)) at) (pen (now (out .exit)) s) ⌝ }
+    ensures { λ s. ⌜ Wrote (bridgeBytes r) (bufferAt (now (out .entry)) at) (bufferAt (now (out .exit)) s) ⌝ }
 {
     if r < 9 {
         return digit(out, at, r + 1);

@@ -12,7 +12,7 @@ use Rattle.writing_walk.specs.Token.{Bond, eqBond}
 use Rattle.writing_walk.specs.Emit.{Slot, find, release, lowest, insert, closeAll, openAll}
 use Rattle.writing_walk.proofs.Count.{count}
 use Rattle.writing_walk.proofs.Read.{openOf, Within, first-in, close-within}
-use Rattle.buffer.specs.Pen.{Pen, Wrote}
+use Rattle.buffer.specs.Buffer.{BufferAt, Wrote}
 use Rattle.buffer.proofs.Laws.{also, as-is, nothing}
 use Rattle.writing.specs.Spell.{kindBytes, bridgeBytes}
 use Rattle.writing_bridges.specs.Unused.{many, Mark, Marked}
@@ -63,7 +63,7 @@ module _ (los his : List ℕ) (k x y i : ℕ) (near : Near his los x y k k i) wh
       sweep-first (λ b. b .lo) (λ b. b .hi) f n k x y i his los (b .lo) (b .hi) near h (omega arith) (λ j g p q. b .apart j i g h q p)
       ∙ ap (λ (z : ℕ). f i ∷ closesFrom f n k x (z + 1)) (b .lo i h)
 
-  pub close-end : (a : List ℕ) (p : Pen) → k ≤ i → Closed los his k x y a a p p
+  pub close-end : (a : List ℕ) (p : BufferAt) → k ≤ i → Closed los his k x y a a p p
   unfolding closeBytes
   close-end a p h = record { told = λ f n t b s w. (let e = closes-none f n b h in (as-is (ap (λ l. closeBytes l t) e) nothing, subst (λ l. Slots f k a (closeAll l t)) (sym e) s)) }
 
@@ -71,7 +71,7 @@ module _ (los his : List ℕ) (k x y i : ℕ) (near : Near his los x y k k i) wh
   is-open : (f : ℕ → Bond) (n : ℕ) (t : List Slot) → Bridged f n k los his → i < k → Within (closesFrom f n k x y) (openOf t) → 0 < count (eqBond (f i)) (openOf t)
   is-open f n t b h w = first-in (f i) (closesFrom f n k x (getD los i 0 + 1)) (openOf t) (subst (λ l. Within l (openOf t)) (closes-first f n b h) w)
 
-  pub close-next : (a a1 c : List ℕ) (p q s : Pen) → i < k → Released i a a1 p q → Closed los his k x (getD los i 0 + 1) a1 c q s → Closed los his k x y a c p s
+  pub close-next : (a a1 c : List ℕ) (p q s : BufferAt) → i < k → Released i a a1 p q → Closed los his k x (getD los i 0 + 1) a1 c q s → Closed los his k x y a c p s
   unfolding closeBytes
   close-next a a1 c p q s h r n =
       record {
@@ -94,12 +94,12 @@ module _ (los his kinds : List ℕ) (k x y i : ℕ) (near : Near los his x y k k
       sweep-first (λ b. b .hi) (λ b. b .lo) f n k x y i los his (b .hi) (b .lo) near h (b .inside i h) (λ j g p q. b .apart j i g h p q)
       ∙ ap (λ (z : ℕ). f i ∷ opensFrom f n k x (z + 1)) (b .hi i h)
 
-  pub open-end : (a : List ℕ) (p : Pen) → k ≤ i → Opened los his kinds k x y a a true p p
+  pub open-end : (a : List ℕ) (p : BufferAt) → k ≤ i → Opened los his kinds k x y a a true p p
   unfolding openBytes fits
   open-end a p h =
       record { told = λ f n t b kk s. (let e = opens-none f n b h in (sym (ap (λ l. fits (length a) l t) e), λ _. (as-is (ap (λ l. openBytes l t) e) nothing, subst (λ l. Slots f k a (openAll l t)) (sym e) s))) }
 
-  pub open-full : (a c : List ℕ) (p q : Pen) (few : Bool) (kd : ℕ) → i < k → few ≡ false → Inserted i kd a c few p q → Opened los his kinds k x y a c few p q
+  pub open-full : (a c : List ℕ) (p q : BufferAt) (few : Bool) (kd : ℕ) → i < k → few ≡ false → Inserted i kd a c few p q → Opened los his kinds k x y a c few p q
   unfolding fits
   open-full a c p q few kd h e n =
       record {
@@ -109,7 +109,7 @@ module _ (los his kinds : List ℕ) (k x y i : ℕ) (near : Near los his x y k k
             (e ∙ sym (ap (λ l. fits (length a) l t) (opens-first f N b h) ∙ rw z), λ w. absurd (let v : _≡_ {A = ℕ} 0 1 = cc in omega arith));
       }
 
-  pub open-next : (a a1 c : List ℕ) (p q s : Pen) (one few : Bool) (kd : ℕ) → i < k → one ≡ true → length a1 ≡ length a → kd ≡ getD kinds i 0 → Inserted i kd a a1 one p q
+  pub open-next : (a a1 c : List ℕ) (p q s : BufferAt) (one few : Bool) (kd : ℕ) → i < k → one ≡ true → length a1 ≡ length a → kd ≡ getD kinds i 0 → Inserted i kd a a1 one p q
       → Opened los his kinds k x (getD his i 0 + 1) a1 c few q s → Opened los his kinds k x y a c few p s
   unfolding openBytes fits
   open-next a a1 c p q s one few kd h e len ek r n =
@@ -125,14 +125,14 @@ module _ (los his kinds : List ℕ) (k x y i : ℕ) (near : Near los his x y k k
       }
 
 -- one bond is closed, or opened
-pub released-lost : (i : ℕ) (a : List ℕ) (p : Pen) (r : ℕ) → r ≡ indexOf (i + 1) a → length a ≤ r → Released i a a p p
+pub released-lost : (i : ℕ) (a : List ℕ) (p : BufferAt) (r : ℕ) → r ≡ indexOf (i + 1) a → length a ≤ r → Released i a a p p
 released-lost i a p r e g =
     record {
       told = λ f n k los his t b h s o.
           absurd (let q = find-index f k (same-number b) i h s o in let z : r ≡ find (f i) t = e ∙ ap (λ (j : ℕ). indexOf j a) (add-one i) ∙ q .0 in let v = q .1 in omega arith);
     }
 
-pub released : (i : ℕ) (a c : List ℕ) (p q : Pen) (r : ℕ) → r ≡ indexOf (i + 1) a → c ≡ set a r 0 → Wrote (kindBytes 0 ++ bridgeBytes r) p q → Released i a c p q
+pub released : (i : ℕ) (a c : List ℕ) (p q : BufferAt) (r : ℕ) → r ≡ indexOf (i + 1) a → c ≡ set a r 0 → Wrote (kindBytes 0 ++ bridgeBytes r) p q → Released i a c p q
 unfolding kindBytes
 released i a c p q r e g w =
     record {
@@ -141,7 +141,7 @@ released i a c p q r e g w =
           (as-is (ap bridgeBytes (sym z)) w, subst (λ l. Slots f k l (release (f i) t)) (sym (g ∙ ap (λ (j : ℕ). set a j 0) z)) (slots-release f k (same-number b) i h s o));
     }
 
-pub inserted-full : (i kd : ℕ) (a : List ℕ) (p : Pen) (r : ℕ) → r ≡ indexOf 0 a → length a ≤ r → Inserted i kd a a false p p
+pub inserted-full : (i kd : ℕ) (a : List ℕ) (p : BufferAt) (r : ℕ) → r ≡ indexOf 0 a → length a ≤ r → Inserted i kd a a false p p
 inserted-full i kd a p r e g =
     record {
       told = λ f k t h s.
@@ -149,7 +149,7 @@ inserted-full i kd a p r e g =
           (sym (le-ltb (lowest t) (length a) (omega arith)), λ w. absurd (let v : _≡_ {A = ℕ} 0 1 = cc in omega arith));
     }
 
-pub inserted : (i kd : ℕ) (a c : List ℕ) (p q : Pen) (r : ℕ) → r ≡ indexOf 0 a → r < length a → c ≡ set a r (i + 1) → Wrote (kindBytes kd ++ bridgeBytes r) p q → Inserted i kd a c true p q
+pub inserted : (i kd : ℕ) (a c : List ℕ) (p q : BufferAt) (r : ℕ) → r ≡ indexOf 0 a → r < length a → c ≡ set a r (i + 1) → Wrote (kindBytes kd ++ bridgeBytes r) p q → Inserted i kd a c true p q
 inserted i kd a c p q r e l g w =
     record {
       told = λ f k t h s.
@@ -160,7 +160,7 @@ inserted i kd a c p q r e l g w =
     }
 
 -- what closes at an atom and then what opens there
-pub ended : (los his kinds : List ℕ) (k x : ℕ) (a b c : List ℕ) (few : Bool) (p q r : Pen) → length b ≡ length a → Closed los his k x 0 a b p q → Opened los his kinds k x 0 b c few q r → Ended los his kinds k x a c few p r
+pub ended : (los his kinds : List ℕ) (k x : ℕ) (a b c : List ℕ) (few : Bool) (p q r : BufferAt) → length b ≡ length a → Closed los his k x 0 a b p q → Opened los his kinds k x 0 b c few q r → Ended los his kinds k x a c few p r
 ended los his kinds k x a b c few p q r len cl op =
     record {
       told = λ f n t br kk sl wi.
@@ -179,7 +179,7 @@ module _ (marks los his : List ℕ) (k x : ℕ) (m : Marked marks los his k) whe
   unmarked ends keys off n =
       near-none ends keys x 0 k (λ i h e g. let y : getD marks (getD ends i 0) 0 ≡ 0 = ap (λ (j : ℕ). getD marks j 0) e ∙ off in let z = n i h .some in omega arith)
 
-  pub ends-none : (kinds a : List ℕ) (p : Pen) → getD marks x 0 ≡ 0 → Ended los his kinds k x a a true p p
+  pub ends-none : (kinds a : List ℕ) (p : BufferAt) → getD marks x 0 ≡ 0 → Ended los his kinds k x a a true p p
   ends-none kinds a p off =
       ended los his kinds k x a a a true p p p refl (close-end los his k x 0 k (unmarked his los off (m .his)) a p (omega arith)) (open-end los his kinds k x 0 k (unmarked los his off (m .los)) a p (omega arith))
 
@@ -214,7 +214,7 @@ module _ (marks los his : List ℕ) (k x : ℕ) (m : Marked marks los his k) whe
       near-not : (getD ends I 0 ≡ x → ⊥) → Near ends keys x 0 k k k
       near-not e = near-none ends keys x 0 k (λ i h q g. e (subst (λ (j : ℕ). getD ends j 0 ≡ x) (is-single ends n i h q) q))
 
-    pub ends-closing : (kinds a c : List ℕ) (p q : Pen) → length c ≡ length a → getD his I 0 ≡ x → Released I a c p q → Ended los his kinds k x a c true p q
+    pub ends-closing : (kinds a c : List ℕ) (p q : BufferAt) → length c ≡ length a → getD his I 0 ≡ x → Released I a c p q → Ended los his kinds k x a c true p q
     ends-closing kinds a c p q len e r =
         ended los his kinds k x a c c true p q q len
         (close-next los his k x 0 I (near-single his los (m .his) e) a c c p q q single-below r (close-end los his k x (getD los I 0 + 1) k (near-past his los (m .his)) c q (omega arith)))
@@ -226,7 +226,7 @@ module _ (marks los his : List ℕ) (k x : ℕ) (m : Marked marks los his k) whe
               open-end los his kinds k x 0 k (near-not los his (m .los) (λ g. omega arith)) c q (omega arith) .told f n t b kk s;
         })
 
-    pub ends-opening : (kinds a c : List ℕ) (p q : Pen) (few : Bool) (kd : ℕ) → length c ≡ length a → (getD his I 0 ≡ x → ⊥) → kd ≡ getD kinds I 0 → Inserted I kd a c few p q → Ended los his kinds k x a c few p q
+    pub ends-opening : (kinds a c : List ℕ) (p q : BufferAt) (few : Bool) (kd : ℕ) → length c ≡ length a → (getD his I 0 ≡ x → ⊥) → kd ≡ getD kinds I 0 → Inserted I kd a c few p q → Ended los his kinds k x a c few p q
     ends-opening kinds a c p q few kd len e ek r =
         ended los his kinds k x a a c few p p q refl (close-end los his k x 0 k (near-not his los (m .his) e) a p (omega arith)) (go few refl)
       where

@@ -11,7 +11,7 @@ use Rattle.writing_walk.specs.Token.{Bond, eqBond}
 use Rattle.writing_walk.specs.Emit.{Slot, free, held, find, release, lowest, insert, closeAll, openAll}
 use Rattle.writing_walk.specs.Walk.{keep, sweep}
 use Rattle.writing_walk.specs.Same.{count, openOf, Within}
-use Rattle.buffer.specs.Pen.{Pen, Wrote}
+use Rattle.buffer.specs.Buffer.{BufferAt, Wrote}
 use Rattle.writing.specs.Spell.{kindBytes, bridgeBytes}
 
 -- how many slots there are: one for each bridge number, 1 to 99
@@ -66,28 +66,28 @@ fits m [] t = true
 fits m (b ∷ l) t = ltb (lowest t) m && fits m l (insert b t)
 
 -- the bond i was closed
-pub record Released (i : ℕ) (a c : List ℕ) (p q : Pen) : Type 0 where
+pub record Released (i : ℕ) (a c : List ℕ) (p q : BufferAt) : Type 0 where
   pub told : (f : ℕ → Bond) (n k : ℕ) (los his : List ℕ) (t : List Slot) → Bridged f n k los his → i < k → Slots f k a t → 0 < count (eqBond (f i)) (openOf t)
       → Wrote (bridgeBytes (find (f i) t)) p q × Slots f k c (release (f i) t)
 
 -- the bond i was opened with a symbol, unless the slots did not suffice
-pub record Inserted (i kind : ℕ) (a c : List ℕ) (few : Bool) (p q : Pen) : Type 0 where
+pub record Inserted (i kind : ℕ) (a c : List ℕ) (few : Bool) (p q : BufferAt) : Type 0 where
   pub told : (f : ℕ → Bond) (k : ℕ) (t : List Slot) → i < k → Slots f k a t
       → (few ≡ ltb (lowest t) (length a)) × (few ≡ true → Wrote (kindBytes kind ++ bridgeBytes (lowest t)) p q × Slots f k c (insert (f i) t))
 
 -- the closings at x from y on were written
-pub record Closed (los his : List ℕ) (k x y : ℕ) (a c : List ℕ) (p q : Pen) : Type 0 where
+pub record Closed (los his : List ℕ) (k x y : ℕ) (a c : List ℕ) (p q : BufferAt) : Type 0 where
   pub told : (f : ℕ → Bond) (n : ℕ) (t : List Slot) → Bridged f n k los his → Slots f k a t → Within (closesFrom f n k x y) (openOf t)
       → Wrote (closeBytes (closesFrom f n k x y) t) p q × Slots f k c (closeAll (closesFrom f n k x y) t)
 
 -- the openings at x from y on were written, unless the slots did not suffice
-pub record Opened (los his kinds : List ℕ) (k x y : ℕ) (a c : List ℕ) (few : Bool) (p q : Pen) : Type 0 where
+pub record Opened (los his kinds : List ℕ) (k x y : ℕ) (a c : List ℕ) (few : Bool) (p q : BufferAt) : Type 0 where
   pub told : (f : ℕ → Bond) (n : ℕ) (t : List Slot) → Bridged f n k los his → ((i : ℕ) → i < k → f i .kind ≡ getD kinds i 0) → Slots f k a t
       → (few ≡ fits (length a) (opensFrom f n k x y) t)
       × (few ≡ true → Wrote (openBytes (opensFrom f n k x y) t) p q × Slots f k c (openAll (opensFrom f n k x y) t))
 
 -- the closings at x and then the openings there were written, unless the slots did not suffice
-pub record Ended (los his kinds : List ℕ) (k x : ℕ) (a c : List ℕ) (few : Bool) (p q : Pen) : Type 0 where
+pub record Ended (los his kinds : List ℕ) (k x : ℕ) (a c : List ℕ) (few : Bool) (p q : BufferAt) : Type 0 where
   pub told : (f : ℕ → Bond) (n : ℕ) (t : List Slot) → Bridged f n k los his → ((i : ℕ) → i < k → f i .kind ≡ getD kinds i 0) → Slots f k a t → Within (closesFrom f n k x 0) (openOf t)
       → (few ≡ fits (length a) (opensFrom f n k x 0) (closeAll (closesFrom f n k x 0) t))
       × (few ≡ true → Wrote (closeBytes (closesFrom f n k x 0) t ++ openBytes (opensFrom f n k x 0) (closeAll (closesFrom f n k x 0) t)) p q

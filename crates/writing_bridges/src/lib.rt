@@ -5,7 +5,7 @@ ghost use Prim.Native.Nat.{_+_, _<_, _≤_};
 ghost use lib.ListN.{length, set};
 ghost use Rattle.table.specs.Limits.{maxAtoms, maxBonds};
 ghost use Rattle.ids.specs.Limits.{bridges};
-ghost use Rattle.buffer.specs.Pen.{pen, Wrote};
+ghost use Rattle.buffer.specs.Buffer.{bufferAt, Wrote};
 ghost use Rattle.writing.specs.Spell.{kindBytes, bridgeBytes};
 ghost use Rattle.writing_bridges.specs.Slots.{indexOf, Near, Released, Inserted, Closed, Opened, Ended};
 ghost use Rattle.writing_bridges.specs.Unused.{Marked};
@@ -97,7 +97,7 @@ fn write_slot(
 ) -> usize
     requires { ⌜ (length (now slots) < bridges) × (r < length (now slots)) ⌝ }
     requires { ⌜ x ≤ maxBonds ⌝ }
-    ensures { λ s. ⌜ Wrote (kindBytes kind ++ bridgeBytes r) (pen (now (out .entry)) at) (pen (now (out .exit)) s) ⌝ }
+    ensures { λ s. ⌜ Wrote (kindBytes kind ++ bridgeBytes r) (bufferAt (now (out .entry)) at) (bufferAt (now (out .exit)) s) ⌝ }
     ensures { λ s. ⌜ now (slots .exit) ≡ set (now (slots .entry)) r x ⌝ }
 {
     slots[r] = x as u16;
@@ -108,7 +108,7 @@ fn write_slot(
 // The bond i closes: its bridge number is written, and its slot is free again.
 fn close_bond(slots: &mut [u16], out: &mut [u8], at: usize, i: UnusedId) -> usize
     requires { ⌜ (length (now slots) < bridges) × (i .0 < maxBonds) ⌝ }
-    ensures { λ r. ⌜ Released (i .0) (now (slots .entry)) (now (slots .exit)) (pen (now (out .entry)) at) (pen (now (out .exit)) r) ⌝ }
+    ensures { λ r. ⌜ Released (i .0) (now (slots .entry)) (now (slots .exit)) (bufferAt (now (out .entry)) at) (bufferAt (now (out .exit)) r) ⌝ }
 {
     let r = slot_of(slots, i.0 + 1);
     if slots.len() <= r {
@@ -120,7 +120,7 @@ fn close_bond(slots: &mut [u16], out: &mut [u8], at: usize, i: UnusedId) -> usiz
 // The bond i opens: the lowest free bridge number is written after its symbol, if there is one.
 fn open_bond(slots: &mut [u16], out: &mut [u8], at: usize, kind: usize, i: UnusedId) -> Spot
     requires { ⌜ (length (now slots) < bridges) × (i .0 < maxBonds) ⌝ }
-    ensures { λ r. ⌜ Inserted (i .0) kind (now (slots .entry)) (now (slots .exit)) (r .few) (pen (now (out .entry)) at) (pen (now (out .exit)) (r .at)) ⌝ }
+    ensures { λ r. ⌜ Inserted (i .0) kind (now (slots .entry)) (now (slots .exit)) (r .few) (bufferAt (now (out .entry)) at) (bufferAt (now (out .exit)) (r .at)) ⌝ }
 {
     let r = slot_of(slots, 0);
     if slots.len() <= r {
@@ -143,7 +143,7 @@ fn close_from(
 ) -> usize
     requires { ⌜ (k ≤ length (now los)) × (k ≤ length (now his)) ⌝ }
     requires { ⌜ (k ≤ maxBonds) × (length (now slots) < bridges) ⌝ }
-    ensures { λ r. ⌜ Closed (now (los .entry)) (now (his .entry)) k (x .0) (from .0) (now (slots .entry)) (now (slots .exit)) (pen (now (out .entry)) at) (pen (now (out .exit)) r) ⌝ }
+    ensures { λ r. ⌜ Closed (now (los .entry)) (now (his .entry)) k (x .0) (from .0) (now (slots .entry)) (now (slots .exit)) (bufferAt (now (out .entry)) at) (bufferAt (now (out .exit)) r) ⌝ }
 {
     let bond = nearest(his, los, k, x, from);
     let i = bond.0;
@@ -170,7 +170,7 @@ fn open_from(
     requires { ⌜ (k ≤ length (now los)) × (k ≤ length (now his)) ⌝ }
     requires { ⌜ (k ≤ maxBonds) × (length (now slots) < bridges) ⌝ }
     requires { ⌜ k ≤ length (now kinds) ⌝ }
-    ensures { λ r. ⌜ Opened (now (los .entry)) (now (his .entry)) (now (kinds .entry)) k (x .0) (from .0) (now (slots .entry)) (now (slots .exit)) (r .few) (pen (now (out .entry)) at) (pen (now (out .exit)) (r .at)) ⌝ }
+    ensures { λ r. ⌜ Opened (now (los .entry)) (now (his .entry)) (now (kinds .entry)) k (x .0) (from .0) (now (slots .entry)) (now (slots .exit)) (r .few) (bufferAt (now (out .entry)) at) (bufferAt (now (out .exit)) (r .at)) ⌝ }
 {
     let bond = nearest(los, his, k, x, from);
     let i = bond.0;
@@ -204,7 +204,7 @@ pub fn ring_ends(
     requires { ⌜ k ≤ length (now kinds) ⌝ }
     requires { ⌜ Marked (now marks) (now los) (now his) k ⌝ }
     requires { ⌜ x .0 < maxAtoms ⌝ }
-    ensures { λ r. ⌜ Ended (now (los .entry)) (now (his .entry)) (now (kinds .entry)) k (x .0) (now (slots .entry)) (now (slots .exit)) (r .few) (pen (now (out .entry)) at) (pen (now (out .exit)) (r .at)) ⌝ }
+    ensures { λ r. ⌜ Ended (now (los .entry)) (now (his .entry)) (now (kinds .entry)) k (x .0) (now (slots .entry)) (now (slots .exit)) (r .few) (bufferAt (now (out .entry)) at) (bufferAt (now (out .exit)) (r .at)) ⌝ }
 {
     let here = x.0;
     let mark = marks[here];

@@ -2,13 +2,13 @@ use Prim.Native.Nat.{_-_}
 use mathlib.Core.Path.{_≡_, refl, _∙_}
 use lib.ListN.{length}
 use borrow.Author.Needs.{needs}
-use Rattle.buffer.specs.Pen.{pen}
+use Rattle.buffer.specs.Buffer.{bufferAt}
 use Rattle.buffer.proofs.Laws.{Laying, laying-start, laying-step, laid-all}
 use Rattle.buffer.proofs.put_all.Statement.{statement}
 use Rattle.buffer.proofs.put_all.Tie as tie
 
 abbrev Inv-loop : tie.InvT-loop
-Inv-loop out₀ at s to₀ i₀ out to i = Laying (λ b. b) s i (pen out₀ at) (pen out to) × (length out ≡ length out₀)
+Inv-loop out₀ at s to₀ i₀ out to i = Laying (λ b. b) s i (bufferAt out₀ at) (bufferAt out to) × (length out ≡ length out₀)
 
 abbrev μ-loop : tie.MeasureT-loop
 μ-loop out₀ at s to₀ i₀ out to i = length s - i

@@ -3,13 +3,13 @@ use mathlib.Core.Path.{_≡_, refl, _∙_}
 use native.Mathlib.Omega.{arith}
 use lib.ListN.{length}
 use borrow.Author.Needs.{needs}
-use Rattle.buffer.specs.Pen.{pen}
+use Rattle.buffer.specs.Buffer.{bufferAt}
 use Rattle.report_blocks.proofs.Laying.{Between, between-start, between-line, between-over, whole-laid}
 use Rattle.report_blocks.proofs.whole.lay.Statement.{statement}
 use Rattle.report_blocks.proofs.whole.lay.Tie as tie
 
 abbrev Inv-loop : tie.InvT-loop
-Inv-loop input out₀ at₀ tally₀ from₀ out at tally from = Between input (pen out₀ at₀) tally from (pen out at) × (length out ≡ length out₀)
+Inv-loop input out₀ at₀ tally₀ from₀ out at tally from = Between input (bufferAt out₀ at₀) tally from (bufferAt out at) × (length out ≡ length out₀)
 
 abbrev μ-loop : tie.MeasureT-loop
 μ-loop input out₀ at₀ tally₀ from₀ out at tally from = length input - from

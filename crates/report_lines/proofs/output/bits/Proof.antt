@@ -3,14 +3,14 @@ use mathlib.Core.Path.{_≡_, refl, sym, ap, _∙_}
 use mathlib.Core.List.{[], _∷_}
 use lib.ListN.{length}
 use borrow.Author.Needs.{needs}
-use Rattle.buffer.specs.Pen.{pen}
+use Rattle.buffer.specs.Buffer.{bufferAt}
 use Rattle.buffer.proofs.Laws.{Laying, laying-start, laying-step, laying-end, as-is}
 use Rattle.report_lines.specs.Format.{bitByte}
 use Rattle.report_lines.proofs.output.bits.Statement.{statement}
 use Rattle.report_lines.proofs.output.bits.Tie as tie
 
 abbrev Inv-loop : tie.InvT-loop
-Inv-loop out₀ at row to₀ i₀ out to i = Laying bitByte row i (pen out₀ at) (pen out to) × (length out ≡ length out₀)
+Inv-loop out₀ at row to₀ i₀ out to i = Laying bitByte row i (bufferAt out₀ at) (bufferAt out to) × (length out ≡ length out₀)
 
 abbrev μ-loop : tie.MeasureT-loop
 μ-loop out₀ at row to₀ i₀ out to i = length row - i

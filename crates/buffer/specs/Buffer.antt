@@ -19,21 +19,21 @@ abbrev pub capped : ℕ → ℕ
 capped n = pick (ltb n mostCount) n mostCount
 
 -- the buffer, and the place of the next byte
-pub record Pen : Type 0 where
+pub record BufferAt : Type 0 where
   pub output : List ℕ
   pub place : ℕ
 
-abbrev pub pen : List ℕ → ℕ → Pen
-pen out at = record { output = out; place = at }
+abbrev pub bufferAt : List ℕ → ℕ → BufferAt
+bufferAt out at = record { output = out; place = at }
 
 -- a byte is stored where there is room, and counted where there is none
-unfoldable pub putByte : ℕ → Pen → Pen
-putByte b p = pick (ltb (p .place) (length (p .output))) (pen (set (p .output) (p .place) b) (suc (p .place))) (pen (p .output) (following (p .place)))
+unfoldable pub putByte : ℕ → BufferAt → BufferAt
+putByte b p = pick (ltb (p .place) (length (p .output))) (bufferAt (set (p .output) (p .place) b) (suc (p .place))) (bufferAt (p .output) (following (p .place)))
 
-unfoldable pub writes : List ℕ → Pen → Pen
+unfoldable pub writes : List ℕ → BufferAt → BufferAt
 writes [] p = p
 writes (b ∷ l) p = writes l (putByte b p)
 
--- the bytes lead from one pen to the next
-pub record Wrote (l : List ℕ) (p q : Pen) : Type 0 where
+-- the bytes lead from one state of the buffer to the next
+pub record Wrote (l : List ℕ) (p q : BufferAt) : Type 0 where
   pub same : q ≡ writes l p

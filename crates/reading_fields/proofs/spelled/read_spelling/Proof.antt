@@ -2,8 +2,8 @@ use borrow.Author.Needs.{needs}
 use mathlib.Core.Path.{sym, _∙_}
 use Rattle.reading_fields.proofs.Bytes.{some-in}
 use Rattle.reading_fields.proofs.Letters.{spells-zero, spells-selected, spells-nothing}
-use Rattle.reading_fields.proofs.spelled.spell_at.Statement.{statement}
-use Rattle.reading_fields.proofs.spelled.spell_at.Tie as tie
+use Rattle.reading_fields.proofs.spelled.read_spelling.Statement.{statement}
+use Rattle.reading_fields.proofs.spelled.read_spelling.Tie as tie
 
 peek-requires : tie.Need-peek-requires
 peek-requires c κs = search needs
@@ -59,8 +59,8 @@ returns-5 c = c .boxed-at .ensures
 returns-6 : tie.Need-returns-6
 returns-6 c = spells-nothing _ _ (c .before .before .before .before .before .before .pre) (c .before .before .before .before .peek .ensures) (sym (c .before .before .atom-start .ensures) ∙ c .enum-told3 .given .1)
 
-pub spell-at-spec : {M : Type 1} → statement M
-spell-at-spec =
+pub read-spelling-spec : {M : Type 1} → statement M
+read-spelling-spec =
     tie.close
     (tie.spec
     peek-requires
