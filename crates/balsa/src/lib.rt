@@ -8,6 +8,7 @@ ghost use Rattle.reading.specs.Read.{readOf};
 ghost use Rattle.writing.specs.Write.{writeOf};
 ghost use Rattle.balsa.specs.Replies.{readReplyOf, readOut, writeReplyOf, writeOut};
 use kekule_answers::found_code;
+use matching::Call;
 use reader::ending::Answer;
 use table::Check;
 use writer::Written;
@@ -106,6 +107,16 @@ pub extern "C" fn balsa_check(atoms: &[i32], bonds: &[i32], n: usize, m: usize) 
     check_code(table_validity::check_tables(atoms, bonds, n, m))
 }
 
+// One of the two calls for a matching, its answer as a code.
+fn ask(c: Call, atoms: &[i32], bonds: &[i32], n: usize, m: usize, row: &mut [u8]) -> u32
+    ensures { λ r. ⌜ callReply r (now (row .exit)) ≡ callOn c (now (atoms .entry)) (now (bonds .entry)) n m (now (row .entry)) ⌝ }
+{
+    match c {
+        Call::First => found_code(kekule::first(atoms, bonds, n, m, row)) as u32,
+        Call::Next => found_code(kekule::next(atoms, bonds, n, m, row)) as u32,
+    }
+}
+
 // The first matching, into the row: 0, 1, 13 or 11.
 #[no_mangle]
 pub extern "C" fn balsa_first(
@@ -117,7 +128,7 @@ pub extern "C" fn balsa_first(
 ) -> u32
     ensures { λ r. ⌜ callReply r (now (row .exit)) ≡ callOn First (now (atoms .entry)) (now (bonds .entry)) n m (now (row .entry)) ⌝ }
 {
-    found_code(kekule::first(atoms, bonds, n, m, row)) as u32
+    ask(Call::First, atoms, bonds, n, m, row)
 }
 
 // The next matching, into the row: 0, 255 for the end, 1, 13 or 12.
@@ -131,7 +142,7 @@ pub extern "C" fn balsa_next(
 ) -> u32
     ensures { λ r. ⌜ callReply r (now (row .exit)) ≡ callOn Next (now (atoms .entry)) (now (bonds .entry)) n m (now (row .entry)) ⌝ }
 {
-    found_code(kekule::next(atoms, bonds, n, m, row)) as u32
+    ask(Call::Next, atoms, bonds, n, m, row)
 }
 
 // Whether the row is a matching: 0, 1, 13, or 12 if it is none.
