@@ -1,0 +1,104 @@
+-- auxiliary: what the contracts of the engine's functions ask and promise
+use mathlib.Core.Bool.{Bool, true, false, _&&_}
+use mathlib.Core.Path.{_≡_}
+use mathlib.Core.List.{List, [], _∷_, _++_, map}
+use Prim.Native.Nat.{ℕ, zero, suc, _+_, _-_, _<_, _≤_}
+use lib.Dec.{eqb}
+use lib.ListN.{length, take, drop, set, getD, replicate}
+use Rattle.loops.specs.Loop.{pick}
+use Rattle.matching.specs.Enumeration.{Row, matchings, isRow, before, rowFirst}
+use Rattle.matching.specs.declared.Answer.{Answer}
+use Rattle.matching.specs.Graph.{Bond, flagged, nthBond, isMatching}
+use Rattle.matching.specs.Limits.{maxAtoms, maxBonds}
+use Rattle.matching.specs.Model.{free, bondsOf, markAt, reply}
+use Rattle.matching_forced.specs.declared.Turn.{Turn}
+use Rattle.matching_forced.specs.Forced.{count, lowest, freeCount, stuck, forces, forcedBond, pairAt, forcedFrom, forcedList}
+
+-- one more at the atom v
+abbrev pub bumped : List ℕ → ℕ → List ℕ
+bumped counts v = set counts v (getD counts v 0 + 1)
+
+-- one more at each of the atoms a and b, which may be the same
+abbrev pub raised : ℕ → ℕ → List ℕ → List ℕ
+raised a b counts = pick (eqb a b) (bumped counts a) (bumped (bumped counts a) b)
+
+-- the counts are those of the free bonds
+pub record Counts (bs : List Bond) (need counts : List ℕ) : Type 0 where
+  pub each : (v : ℕ) → v < length need → getD counts v 0 ≡ freeCount bs need v
+
+-- the atom v is unpaired and has the count d
+abbrev pub withCount : List ℕ → List ℕ → ℕ → ℕ → Bool
+withCount need counts d v = flagged need v && eqb (getD counts v 0) d
+
+-- what a turn of the rule says
+abbrev pub Says : List Bond → List ℕ → Turn → Type 0
+Says bs need Turn.Stuck = stuck bs need ≡ true
+Says bs need Turn.Rests = (stuck bs need ≡ false) × (forces bs need ≡ false)
+Says bs need (Turn.Pair k) = (forces bs need ≡ true) × (k .0 ≡ forcedBond bs need)
+
+pub record Turned (bs : List Bond) (need : List ℕ) (r : Turn) : Type 0 where
+  pub says : Says bs need r
+
+-- how many bonds are free
+unfoldable pub freeTotal : List Bond → List ℕ → ℕ
+freeTotal bs need = count (λ k. free (nthBond bs k) need) 0 (length bs)
+
+-- the tables are within the limits, and pairs has a cell for each free bond
+pub record Roomy (ea eb el need pairs : List ℕ) : Type 0 where
+  pub few-atoms : length need ≤ maxAtoms
+  pub few-bonds : length ea ≤ maxBonds
+  pub room : freeTotal (bondsOf ea eb el) need ≤ length pairs
+
+-- the flags after all bonds of a list are chosen
+unfoldable pub pairAll : List Bond → List ℕ → List ℕ → List ℕ
+pairAll bs need [] = need
+pairAll bs need (k ∷ ks) = pairAll bs (pairAt bs need k) ks
+
+-- the flags with all bonds of a list taken back, the last first
+unfoldable pub undone : List ℕ → List ℕ → List ℕ → List ℕ → List ℕ
+undone ea eb [] need = need
+undone ea eb (k ∷ ks) need = markAt ea eb (undone ea eb ks need) k 1
+
+-- the forced list stands in pairs, whose rest is as it was; its number is told, the flags are those left, and whether an atom is stuck then
+pub record Filled (bs : List Bond) (need pairs : List ℕ) (n : ℕ) (s : Bool) (need′ pairs′ : List ℕ) : Type 0 where
+  pub told : n ≡ length (forcedFrom bs need)
+  pub wrote : pairs′ ≡ forcedFrom bs need ++ drop n pairs
+  pub left : need′ ≡ pairAll bs need (forcedFrom bs need)
+  pub ends : s ≡ stuck bs need′
+
+-- a row with 1 at each of the bonds ks
+unfoldable pub ones : List ℕ → Row → Row
+ones [] r = r
+ones (k ∷ ks) r = set (ones ks r) k 1
+
+-- a row with 0 at each of the bonds ks
+unfoldable pub zeros : List ℕ → Row → Row
+zeros [] r = r
+zeros (k ∷ ks) r = zeros ks (set r k 0)
+
+-- the first n bonds of pairs have a cell in the row
+pub record Ones (row pairs : List ℕ) (n : ℕ) : Type 0 where
+  pub upto : n ≤ length pairs
+  pub cells : (i : ℕ) → i < n → getD pairs i 0 < length row
+
+-- the bonds with the bond k switched off: it can no longer be chosen
+abbrev pub off : List Bond → ℕ → List Bond
+off bs k = set bs k (record { end1 = nthBond bs k .end1; end2 = nthBond bs k .end2; elided = false })
+
+-- the lowest free bond; the number of bonds where there is none
+unfoldable pub lowestFree : List Bond → List ℕ → ℕ
+lowestFree bs need = lowest (λ k. free (nthBond bs k) need) 0 (length bs)
+
+-- all matchings
+abbrev pub allOf : List Bond → List ℕ → List Row
+allOf bs need = matchings (isMatching need bs) (length bs)
+
+-- those that come after the row r
+abbrev pub laterOf : List Bond → List ℕ → Row → List Row
+laterOf bs need r = matchings (λ s. isMatching need bs s && before r s) (length bs)
+
+-- P9, asked for the first: the plain engine's reply, and the forced list with its number, both zeroed where there is no matching
+pub record FirstReply (bs : List Bond) (need row pairs : List ℕ) (r : Answer) (n : ℕ) (row′ pairs′ : List ℕ) : Type 0 where
+  pub replied : reply r row′ ≡ rowFirst (isMatching need bs) (length bs) (length row)
+  pub counted : n ≡ length (forcedList bs need)
+  pub listed : pairs′ ≡ forcedList bs need ++ replicate (length pairs - n) 0
