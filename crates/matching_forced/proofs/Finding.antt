@@ -5,11 +5,11 @@ use mathlib.Core.List.{List}
 use Prim.Native.Nat.{ℕ, _<_, _≤_}
 use lib.ListN.{length}
 use Rattle.matching.specs.Graph.{Bond, nthBond}
-use Rattle.matching.specs.Model.{free, bondsOf, Tables}
+use Rattle.matching.specs.Model.{free, freeAt, bondsOf, Tables}
 use Rattle.matching_forced.specs.Forced.{freeOf, freeBond, lowest}
 use Rattle.matching_forced.specs.Steps.{lowestFree}
 use Rattle.matching_forced.proofs.Counts.{Sought, sought-here, sought-end}
-use Rattle.matching_forced.proofs.Tables.{bonds-long}
+use Rattle.matching_forced.proofs.Tables.{nth-bonds, bonds-long}
 
 module _ {ea eb el need : List ℕ} (t : Tables ea eb el need 0) where
   abbrev bs : List Bond
@@ -22,3 +22,15 @@ module _ {ea eb el need : List ℕ} (t : Tables ea eb el need 0) where
   pub no-bond : (v : ℕ) {i : ℕ} → Sought (freeOf bs need v) (length ea) i → length ea ≤ i → length ea ≡ freeBond bs need v
   unfolding freeBond
   no-bond v w h = rw (bonds-long t) (sought-end w h)
+
+  -- the lowest free bond
+  pub free-there : {i : ℕ} → i < length ea → free (nthBond bs i) need ≡ freeAt ea eb el need i
+  free-there {i} h = rw (nth-bonds ea eb el i (t .second) (t .third) h)
+
+  pub found-free : {i : ℕ} {r : Bool} → Sought (λ k. free (nthBond bs k) need) (length ea) i → i < length ea → r ≡ freeAt ea eb el need i → r ≡ true → i ≡ lowestFree bs need
+  unfolding lowestFree
+  found-free w h e y = rw (bonds-long t) (sought-here w h (free-there h ∙ sym e ∙ y))
+
+  pub no-free : {i : ℕ} → Sought (λ k. free (nthBond bs k) need) (length ea) i → length ea ≤ i → length ea ≡ lowestFree bs need
+  unfolding lowestFree
+  no-free w h = rw (bonds-long t) (sought-end w h)

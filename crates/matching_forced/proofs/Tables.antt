@@ -44,3 +44,7 @@ module _ {ea eb el need : List ℕ} (t : Tables ea eb el need 0) where
 
     pub mark-at : markAt ea eb need k 0 ≡ pairAt bs need k
     mark-at = rw (nth-bonds ea eb el k (t .second) (t .third) l)
+
+-- the ends, in flags of the same length
+pub ends-long : {ea eb need need′ : List ℕ} {k : ℕ} → length need′ ≡ length need → Ends ea eb need k → Ends ea eb need′ k
+ends-long l e = record { first = e .first; second = e .second; end1 = omega (arith, e .end1); end2 = omega (arith, e .end2) }

@@ -10,7 +10,7 @@ use Rattle.matching.specs.Enumeration.{Row, matchings, isRow, before, rowFirst}
 use Rattle.matching.specs.declared.Answer.{Answer}
 use Rattle.matching.specs.Graph.{Bond, flagged, nthBond, isMatching}
 use Rattle.matching.specs.Limits.{maxAtoms, maxBonds}
-use Rattle.matching.specs.Model.{free, bondsOf, markAt, reply}
+use Rattle.matching.specs.Model.{free, freeAt, bondsOf, markAt, reply}
 use Rattle.matching_forced.specs.declared.Turn.{Turn}
 use Rattle.matching_forced.specs.Forced.{count, lowest, freeCount, stuck, forces, forcedBond, pairAt, forcedFrom, forcedList}
 
@@ -54,10 +54,14 @@ unfoldable pub pairAll : List Bond → List ℕ → List ℕ → List ℕ
 pairAll bs need [] = need
 pairAll bs need (k ∷ ks) = pairAll bs (pairAt bs need k) ks
 
--- the flags with all bonds of a list taken back, the last first
-unfoldable pub undone : List ℕ → List ℕ → List ℕ → List ℕ → List ℕ
-undone ea eb [] need = need
-undone ea eb (k ∷ ks) need = markAt ea eb (undone ea eb ks need) k 1
+-- a step for each number of a list, the last first
+unfoldable pub backward : {S : Type 0} → (ℕ → S → S) → List ℕ → S → S
+backward step [] s = s
+backward step (k ∷ ks) s = step k (backward step ks s)
+
+-- the flags with all bonds of a list taken back
+abbrev pub undone : List ℕ → List ℕ → List ℕ → List ℕ → List ℕ
+undone ea eb = backward (λ k need. markAt ea eb need k 1)
 
 -- the forced list stands in pairs, whose rest is as it was; its number is told, the flags are those left, and whether an atom is stuck then
 pub record Filled (bs : List Bond) (need pairs : List ℕ) (n : ℕ) (s : Bool) (need′ pairs′ : List ℕ) : Type 0 where
@@ -66,12 +70,11 @@ pub record Filled (bs : List Bond) (need pairs : List ℕ) (n : ℕ) (s : Bool) 
   pub left : need′ ≡ pairAll bs need (forcedFrom bs need)
   pub ends : s ≡ stuck bs need′
 
--- a row with 1 at each of the bonds ks
-unfoldable pub ones : List ℕ → Row → Row
-ones [] r = r
-ones (k ∷ ks) r = set (ones ks r) k 1
+-- a row with 1 at each bond of a list
+abbrev pub ones : List ℕ → Row → Row
+ones = backward (λ k r. set r k 1)
 
--- a row with 0 at each of the bonds ks
+-- a row with 0 at each bond of a list
 unfoldable pub zeros : List ℕ → Row → Row
 zeros [] r = r
 zeros (k ∷ ks) r = zeros ks (set r k 0)
@@ -92,6 +95,22 @@ lowestFree bs need = lowest (λ k. free (nthBond bs k) need) 0 (length bs)
 -- all matchings
 abbrev pub allOf : List Bond → List ℕ → List Row
 allOf bs need = matchings (isMatching need bs) (length bs)
+
+-- those with the bond b, and those without it
+abbrev pub takenOf : List Bond → List ℕ → ℕ → List Row
+takenOf bs need b = map (λ s. set s b 1) (allOf bs (pairAt bs need b))
+
+abbrev pub leftOf : List Bond → List ℕ → ℕ → List Row
+leftOf bs need b = allOf (off bs b) need
+
+-- the bond b is there and free
+pub record Chosen (ea eb el need : List ℕ) (b : ℕ) : Type 0 where
+  pub inside : b < length ea
+  pub is-free : freeAt ea eb el need b ≡ true
+
+-- the row r is a matching
+abbrev pub isOf : List Bond → List ℕ → Row → Bool
+isOf bs need r = isRow (length bs) r && isMatching need bs r
 
 -- those that come after the row r
 abbrev pub laterOf : List Bond → List ℕ → Row → List Row

@@ -7,15 +7,20 @@ use ids::MAX_ATOMS;
 use matching::Answer;
 use matching_engine::Sought;
 ghost use mathlib.Core.Path.{_≡_};
-ghost use Prim.Native.Nat.{ℕ, _<_, _≤_};
-ghost use lib.ListN.{length, getD};
+ghost use mathlib.Core.Bool.{true, false};
+ghost use mathlib.Core.List.{[], _++_};
+ghost use Prim.Native.Nat.{ℕ, _-_, _<_, _≤_};
+ghost use lib.ListN.{length, take, replicate, getD};
+ghost use Rattle.matching.specs.Enumeration.{rowNext};
+ghost use Rattle.matching.specs.Graph.{isMatching};
 ghost use Rattle.matching.specs.Limits.{maxAtoms, maxBonds};
-ghost use Rattle.matching.specs.Model.{Tables, Ends, bondsOf};
+ghost use Rattle.matching.specs.Model.{Tables, Ends, Shape, Searched, bondsOf, reply};
+ghost use Rattle.matching_engine.specs.Tried.{Tried};
 ghost use Rattle.matching_forced.specs.Forced.{lowest, freeOf, freeBond};
-ghost use Rattle.matching_forced.specs.Steps.{bumped, raised, withCount, Counts, Turned, Roomy, Filled};
+ghost use Rattle.matching_forced.specs.Steps.{bumped, raised, withCount, Counts, Turned, Roomy, Filled, ones, zeros, undone, Ones, lowestFree, Chosen, allOf, takenOf, leftOf, laterOf, isOf, FirstReply};
 
-// How many bonds the search may choose before it gives up.
-const BUDGET: usize = 400;
+// How many pairs the search may make before it gives up.
+const BUDGET: usize = 2000;
 
 // What a turn of the rule gives.
 pub enum Turn {
@@ -165,4 +170,188 @@ pub fn force(ea: &[u16], eb: &[u16], el: &[u8], need: &mut [u8], pairs: &mut [u1
             }
         }
     }
+}
+
+// The row gets 1 at the first n bonds of pairs.
+fn set_ones(row: &mut [u8], pairs: &[u16], n: usize)
+    requires { ⌜ Ones (now row) (now pairs) n ⌝ }
+    ensures { λ _. ⌜ now (row .exit) ≡ ones (take n (now (pairs .entry))) (now (row .entry)) ⌝ }
+{
+    let mut i = n;
+    while 0 < i {
+        i -= 1;
+        let k = pairs[i] as usize;
+        row[k] = 1;
+    }
+}
+
+// The row gets 0 at the first n bonds of pairs.
+fn set_zeros(row: &mut [u8], pairs: &[u16], n: usize)
+    requires { ⌜ Ones (now row) (now pairs) n ⌝ }
+    ensures { λ _. ⌜ now (row .exit) ≡ zeros (take n (now (pairs .entry))) (now (row .entry)) ⌝ }
+{
+    let mut i = 0;
+    while i < n {
+        let k = pairs[i] as usize;
+        row[k] = 0;
+        i += 1;
+    }
+}
+
+// Takes the first n pairs back, the last first: their atoms are unpaired again.
+fn undo(ea: &[u16], eb: &[u16], need: &mut [u8], pairs: &[u16], n: usize)
+    requires { ⌜ Ones (now ea) (now pairs) n ⌝ }
+    requires { ⌜ ((k : ℕ) → k < length (now ea) → Ends (now ea) (now eb) (now need) k) ⌝ }
+    ensures { λ _. ⌜ now (need .exit) ≡ undone (now (ea .entry)) (now (eb .entry)) (take n (now (pairs .entry))) (now (need .entry)) ⌝ }
+{
+    let mut i = n;
+    while 0 < i {
+        i -= 1;
+        let k = pairs[i] as usize;
+        matching_search::mark(ea, eb, need, BondId(k), 1);
+    }
+}
+
+// The lowest free bond; the number of bonds where there is none.
+fn lowest_free(ea: &[u16], eb: &[u16], el: &[u8], need: &[u8]) -> BondId
+    requires { ⌜ Tables (now ea) (now eb) (now el) (now need) 0 ⌝ }
+    ensures { λ r. ⌜ r .0 ≡ lowestFree (bondsOf (now (ea .entry)) (now (eb .entry)) (now (el .entry))) (now (need .entry)) ⌝ }
+{
+    let mut i = 0;
+    while i < ea.len() {
+        if matching_search::choosable(ea, eb, el, need, BondId(i)) {
+            return BondId(i);
+        }
+        i += 1;
+    }
+    BondId(ea.len())
+}
+
+// Takes n from the budget, or what is left of it.
+fn charge(budget: &mut usize, n: usize) {
+    let left = *budget;
+    if left < n {
+        *budget = 0;
+    } else {
+        *budget = left - n;
+    }
+}
+
+// The first matching with the free bond b.
+fn with_bond(
+    ea: &[u16],
+    eb: &[u16],
+    el: &mut [u8],
+    need: &mut [u8],
+    row: &mut [u8],
+    pairs: &mut [u16],
+    b: BondId,
+    budget: &mut usize,
+) -> Sought
+    requires { ⌜ Shape (now ea) (now eb) (now el) (now need) (now row) 0 ⌝ }
+    requires { ⌜ Roomy (now ea) (now eb) (now el) (now need) (now pairs) × Chosen (now ea) (now eb) (now el) (now need) (b .0) ⌝ }
+    ensures { λ r. ⌜ Tried (now (need .entry)) (now (row .entry)) 0 (length (now (ea .entry))) (takenOf (bondsOf (now (ea .entry)) (now (eb .entry)) (now (el .entry))) (now (need .entry)) (b .0)) r (now (need .exit)) (now (row .exit)) ⌝ }
+    ensures { λ r. ⌜ now (el .exit) ≡ now (el .entry) ⌝ }
+{
+    matching_search::mark(ea, eb, need, b, 0);
+    let got = seek(ea, eb, el, need, row, pairs, budget);
+    matching_search::mark(ea, eb, need, b, 1);
+    let Sought::Found = got else {
+        return got;
+    };
+    let at = b.0;
+    row[at] = 1;
+    Sought::Found
+}
+
+// The first matching without the free bond b.
+fn without_bond(
+    ea: &[u16],
+    eb: &[u16],
+    el: &mut [u8],
+    need: &mut [u8],
+    row: &mut [u8],
+    pairs: &mut [u16],
+    b: BondId,
+    budget: &mut usize,
+) -> Sought
+    requires { ⌜ Shape (now ea) (now eb) (now el) (now need) (now row) 0 ⌝ }
+    requires { ⌜ Roomy (now ea) (now eb) (now el) (now need) (now pairs) × Chosen (now ea) (now eb) (now el) (now need) (b .0) ⌝ }
+    ensures { λ r. ⌜ Tried (now (need .entry)) (now (row .entry)) 0 (length (now (ea .entry))) (leftOf (bondsOf (now (ea .entry)) (now (eb .entry)) (now (el .entry))) (now (need .entry)) (b .0)) r (now (need .exit)) (now (row .exit)) ⌝ }
+    ensures { λ r. ⌜ now (el .exit) ≡ now (el .entry) ⌝ }
+{
+    let at = b.0;
+    el[at] = 0;
+    let got = seek(ea, eb, el, need, row, pairs, budget);
+    el[at] = 1;
+    got
+}
+
+// The search on what is left after the forced pairs: none where an atom is stuck; else the lowest free bond is chosen, and then left.
+fn choose(
+    ea: &[u16],
+    eb: &[u16],
+    el: &mut [u8],
+    need: &mut [u8],
+    row: &mut [u8],
+    pairs: &mut [u16],
+    stuck: bool,
+    budget: &mut usize,
+) -> Sought
+    requires { ⌜ Shape (now ea) (now eb) (now el) (now need) (now row) 0 ⌝ }
+    requires { ⌜ Roomy (now ea) (now eb) (now el) (now need) (now pairs) ⌝ }
+    requires { ⌜ (stuck ≡ true → allOf (bondsOf (now ea) (now eb) (now el)) (now need) ≡ []) ⌝ }
+    ensures { λ r. ⌜ Tried (now (need .entry)) (now (row .entry)) 0 (length (now (ea .entry))) (allOf (bondsOf (now (ea .entry)) (now (eb .entry)) (now (el .entry))) (now (need .entry))) r (now (need .exit)) (now (row .exit)) ⌝ }
+    ensures { λ r. ⌜ now (el .exit) ≡ now (el .entry) ⌝ }
+{
+    if stuck {
+        return Sought::Absent;
+    }
+    let b = lowest_free(ea, eb, el, need);
+    let at = b.0;
+    if ea.len() <= at {
+        matching_search::blank(row, 0, ea.len());
+        return if matching_search::all_paired(need) {
+            Sought::Found
+        } else {
+            Sought::Absent
+        };
+    }
+    let left = *budget;
+    if left == 0 {
+        return Sought::GaveUp;
+    }
+    let got = with_bond(ea, eb, el, need, row, pairs, b, budget);
+    let Sought::Absent = got else {
+        return got;
+    };
+    without_bond(ea, eb, el, need, row, pairs, b, budget)
+}
+
+// The first matching, under a budget: the forced pairs, then what is left.
+fn seek(
+    ea: &[u16],
+    eb: &[u16],
+    el: &mut [u8],
+    need: &mut [u8],
+    row: &mut [u8],
+    pairs: &mut [u16],
+    budget: &mut usize,
+) -> Sought
+    requires { ⌜ Shape (now ea) (now eb) (now el) (now need) (now row) 0 ⌝ }
+    requires { ⌜ Roomy (now ea) (now eb) (now el) (now need) (now pairs) ⌝ }
+    ensures { λ r. ⌜ Tried (now (need .entry)) (now (row .entry)) 0 (length (now (ea .entry))) (allOf (bondsOf (now (ea .entry)) (now (eb .entry)) (now (el .entry))) (now (need .entry))) r (now (need .exit)) (now (row .exit)) ⌝ }
+    ensures { λ r. ⌜ now (el .exit) ≡ now (el .entry) ⌝ }
+{
+    let forcing = force(ea, eb, el, need, pairs);
+    let n = forcing.count;
+    charge(budget, n);
+    charge(budget, 1);
+    let got = choose(ea, eb, el, need, row, &mut pairs[n..], forcing.stuck, budget);
+    undo(ea, eb, need, pairs, n);
+    let Sought::Found = got else {
+        return got;
+    };
+    set_ones(row, pairs, n);
+    Sought::Found
 }
