@@ -12,7 +12,7 @@ use lib.Dec.{eqb}
 use lib.ListN.{List·getD-append, length, take, drop, getD, set, replicate, length-set, length-drop, length-replicate, length-append}
 use lib.Seq.{set-append-left, drop-set-lt, set-set, set-getD, take-at, drop-at, length-take-le, getD-take}
 use borrow.Author.Tests.{eqb-true}
-use borrow.Rule.Slice.PartMut.{putMid, take-put}
+use borrow.Rule.Slice.PartMut.{putMid, take-put, same-len-mid}
 use Rattle.loops.proofs.Loops.{and-left}
 use Rattle.matching.specs.Enumeration.{Row, isRow, matchings, consIf}
 use Rattle.matching.specs.Graph.{Bond, isMatching, noneFlagged, nthBond, flagged}
@@ -25,7 +25,7 @@ use Rattle.matching_search.proofs.Reply.{all-zero}
 use Rattle.matching_engine.specs.Tried.{Tried}
 use Rattle.matching_engine.specs.declared.Sought.{Sought}
 use Rattle.matching_engine.specs.declared.Sought.the-variants.{Found, Absent, GaveUp}
-use Rattle.matching_engine.proofs.Tried.{widen}
+use Rattle.matching_engine.proofs.Tried.{widen, then-blank, then-certified}
 use Rattle.matching_forced.specs.Forced.{stuck, forces, forcedBond, forcedFrom, pairAt}
 use Rattle.matching_forced.specs.Steps.{backward, undone, ones, Ones, off, lowestFree, freeTotal, pairAll, allOf, takenOf, leftOf, Chosen, Roomy, Filled}
 use Rattle.matching_forced.proofs.Counts.{lowest-range}
@@ -67,15 +67,16 @@ matching-long : (p : Row → Bool) (m : ℕ) (e : Row) (es : List Row) → match
 matching-long p m e es h = row-length m e (and-left (isRow m e) (p e) (first-matching p m e es h .0))
 
 module _ (step : Row → Row) (p : Row → Bool) (k : ℕ) {m : ℕ} (km : k ≡ m) (behind : (e z : Row) → length e ≡ m → step (e ++ z) ≡ step e ++ z) where
-  pub found-step : {n need need1 need2 row row1 row2 : List ℕ} → Searched n row 0 m (matchings p k) true need1 row1 → need2 ≡ need → row2 ≡ step row1 → Searched need row 0 m (map step (matchings p k)) true need2 row2
-  found-step {n} {need} {need1} {need2} {row} {row1} {row2} u same e = go (matchings p k) refl (u .told) (u .wrote)
+  pub searched-step : {n need need1 need2 row row′ row1 row2 : List ℕ} {r : Bool} → Searched n row′ 0 m (matchings p k) r need1 row1 → need2 ≡ need → drop m row′ ≡ drop m row
+      → (r ≡ true → row2 ≡ step row1) → (r ≡ false → row2 ≡ row1) → Searched need row 0 m (map step (matchings p k)) r need2 row2
+  searched-step {n} {need} {need1} {need2} {row} {row′} {row1} {row2} {r} u same d y z = go (matchings p k) refl (u .told) (u .wrote)
     where
-      go : (fs : List Row) → matchings p k ≡ fs → true ≡ some? fs → row1 ≡ written 0 row m fs → Searched need row 0 m (map step fs) true need2 row2
-      go [] h t w = absurd (never (sym t))
-      go (x ∷ fs) h t w = record { same = same; told = refl; wrote = e ∙ ap step w ∙ behind x (drop m row) (matching-long p k x fs h ∙ km) }
+      go : (fs : List Row) → matchings p k ≡ fs → r ≡ some? fs → row1 ≡ written 0 row′ m fs → Searched need row 0 m (map step fs) r need2 row2
+      go [] h t w = record { same = same; told = t; wrote = z t ∙ w ∙ ap (λ (l : List ℕ). replicate (m - 0) 0 ++ l) d }
+      go (x ∷ fs) h t w = record { same = same; told = t; wrote = y t ∙ ap step w ∙ behind x (drop m row′) (matching-long p k x fs h ∙ km) ∙ ap (λ (l : List ℕ). step x ++ l) d }
 
   pub tried-step : {n need need1 need2 row row1 row2 : List ℕ} → Tried n row 0 m (matchings p k) Found need1 row1 → need2 ≡ need → row2 ≡ step row1 → drop m row2 ≡ drop m row1 → Tried need row 0 m (map step (matchings p k)) Found need2 row2
-  tried-step t same e back = record { same = same; front = refl; back = back ∙ t .back; found = λ q. found-step (t .found refl) same e; absent = λ q. absurd (differ (cc)) }
+  tried-step t same e back = record { same = same; front = refl; back = back ∙ t .back; found = λ q. searched-step (t .found refl) same refl (λ y. e) (λ z. absurd (never (sym z))); absent = λ q. absurd (differ (cc)) }
 
   pub tried-other : {n need need1 need2 row row1 : List ℕ} {o : Sought} → Tried n row 0 m (matchings p k) o need1 row1 → need2 ≡ need → (o ≡ Found → ⊥) → Tried need row 0 m (map step (matchings p k)) o need2 row1
   tried-other t same n = record { same = same; front = refl; back = t .back; found = λ q. absurd (n q); absent = λ q. ap (map step) (t .absent q) }
@@ -88,15 +89,15 @@ module _ {ea eb el need row : List ℕ} {b : ℕ} (s : Shape ea eb el need row 0
   pub chosen-ends : Ends ea eb need b
   chosen-ends = ends-at (tables-of s) b (w .inside)
 
-  chosen-in : b < length Bs
+  pub chosen-in : b < length Bs
   chosen-in = omega (arith, bonds-long (tables-of s), w .inside)
 
-  chosen-free : free (nthBond Bs b) need ≡ true
+  pub chosen-free : free (nthBond Bs b) need ≡ true
   chosen-free = ap (λ (x : Bond). free x need) (nth-bonds ea eb el b (s .second) (s .third) (w .inside)) ∙ w .is-free
 
   -- it is taken: mid are the flags then
   module _ {mid : List ℕ} (marked : mid ≡ markAt ea eb need b 0) where
-    mid-is : mid ≡ pairAt Bs need b
+    pub mid-is : mid ≡ pairAt Bs need b
     mid-is = marked ∙ mark-at (tables-of s) b (w .inside)
 
     pub taken-less : freeTotal Bs mid < freeTotal Bs need
@@ -108,7 +109,7 @@ module _ {ea eb el need row : List ℕ} {b : ℕ} (s : Shape ea eb el need row 0
     pub taken-back : {need1 need2 : List ℕ} → need1 ≡ mid → need2 ≡ markAt ea eb need1 b 1 → need2 ≡ need
     taken-back e f = f ∙ ap (λ (l : List ℕ). markAt ea eb l b 1) (e ∙ marked) ∙ restore ea eb el need b (w .is-free)
 
-    set-behind : (e z : Row) → length e ≡ length ea → set (e ++ z) b 1 ≡ set e b 1 ++ z
+    pub set-behind : (e z : Row) → length e ≡ length ea → set (e ++ z) b 1 ≡ set e b 1 ++ z
     set-behind e z l = set-append-left e z b 1 (omega (arith, w .inside))
 
     module _ {o : Sought} {need1 row1 : List ℕ} (t : Tried mid row 0 (length ea) (allOf Bs mid) o need1 row1) {need2 : List ℕ} (unmarked : need2 ≡ markAt ea eb need1 b 1) where
@@ -127,7 +128,7 @@ module _ {ea eb el need row : List ℕ} {b : ℕ} (s : Shape ea eb el need row 0
 
   -- it is left: el1 has a 0 for it
   module _ {el1 : List ℕ} (switched : el1 ≡ set el b 0) where
-    off-is : bondsOf ea eb el1 ≡ off Bs b
+    pub off-is : bondsOf ea eb el1 ≡ off Bs b
     off-is = ap (bondsOf ea eb) switched ∙ bonds-off ea eb el b (s .second) (s .third) (w .inside)
 
     pub left-less : freeTotal (bondsOf ea eb el1) need < freeTotal Bs need
@@ -139,6 +140,9 @@ module _ {ea eb el need row : List ℕ} {b : ℕ} (s : Shape ea eb el need row 0
     pub left-shape : Shape ea eb el1 need row 0
     left-shape = record { second = s .second; third = ap length switched ∙ length-set el b 0 ∙ s .third; room = s .room; upto = s .upto; ends1 = s .ends1; ends2 = s .ends2 }
 
+    pub searched-left : {r : Bool} {need1 row1 : List ℕ} → Searched need row 0 (length ea) (allOf (bondsOf ea eb el1) need) r need1 row1 → Searched need row 0 (length ea) (leftOf Bs need b) r need1 row1
+    searched-left {r} {need1} {row1} t = subst (λ (bs : List Bond). Searched need row 0 (length ea) (allOf bs need) r need1 row1) off-is t
+
     pub left-back : {el2 el3 : List ℕ} → el2 ≡ el1 → el3 ≡ set el2 b 1 → el3 ≡ el
     left-back e f = f ∙ ap (λ (l : List ℕ). set l b 1) (e ∙ switched) ∙ set-set el b 0 1 ∙ ap (set el b) (sym one) ∙ set-getD el b 0
       where
@@ -147,7 +151,6 @@ module _ {ea eb el need row : List ℕ} {b : ℕ} (s : Shape ea eb el need row 0
 
     pub tried-left : {o : Sought} {need1 row1 : List ℕ} → Tried need row 0 (length ea) (allOf (bondsOf ea eb el1) need) o need1 row1 → Tried need row 0 (length ea) (leftOf Bs need b) o need1 row1
     tried-left {o} {need1} {row1} t = subst (λ (bs : List Bond). Tried need row 0 (length ea) (allOf bs need) o need1 row1) off-is t
-
 
 -- THE LOWEST FREE BOND: chosen, and then left
 module _ {ea eb el need row : List ℕ} {b : ℕ} (s : Shape ea eb el need row 0) (is : b ≡ lowestFree (bondsOf ea eb el) need) where
@@ -174,7 +177,7 @@ module _ {ea eb el need row : List ℕ} {b : ℕ} (s : Shape ea eb el need row 0
     end-absent n = record { same = refl; front = refl; back = back-end; found = λ q. absurd (differ (cc)); absent = λ q. all-end ∙ rw n }
 
   module _ (h : b < length ea) where
-    in-bonds : lowestFree Bs′ need < length Bs′
+    pub in-bonds : lowestFree Bs′ need < length Bs′
     in-bonds = omega (arith, bonds-long (tables-of s))
 
     pub lowest-chosen : Chosen ea eb el need b
@@ -257,9 +260,20 @@ module _ {ea eb el need row pairs : List ℕ} (s : Shape ea eb el need row 0) (r
   pub list-of : take n pairs1 ≡ F
   list-of = ap (take n) (f .wrote) ∙ take-at F (drop n pairs) n (sym (f .told))
 
+  pub ones-fit : {cells : List ℕ} → length ea ≤ length cells → Ones cells pairs1 n
+  ones-fit {cells} l = record {
+    upto = told-room;
+    cells = λ i h.
+        let g : getD pairs1 i 0 ≡ getD F i 0 = sym (getD-take n pairs1 i 0 h) ∙ ap (λ (x : List ℕ). getD x i 0) list-of in
+        omega (arith, listed-below Bs″ need i (omega (arith, f .told)), bonds-long (tables-of s));
+  }
+
   -- the list where the rest of it was lent and came back
   abbrev put : List ℕ → List ℕ
   put part = putMid n (length pairs1 - n) pairs1 part
+
+  pub put-long : (part : List ℕ) → length part ≡ length (take (length pairs1 - n) (drop n pairs1)) → length (put part) ≡ length pairs
+  put-long part e = same-len-mid n (length pairs1 - n) pairs1 part e ∙ wide
 
   pub put-front : (part : List ℕ) → take n (put part) ≡ take n pairs1
   put-front part = take-put n (length pairs1 - n) pairs1 part told-room
@@ -291,7 +305,7 @@ module _ {ea eb el need row pairs : List ℕ} (s : Shape ea eb el need row 0) (r
   pub forced-back : {need2 need3 ks : List ℕ} → need2 ≡ need1 → ks ≡ take n pairs1 → need3 ≡ undone ea eb ks need2 → need3 ≡ need
   forced-back {need2} {need3} {ks} e p u = u ∙ ap (λ (x : List ℕ). undone ea eb x need2) (p ∙ list-of) ∙ ap (undone ea eb F) (e ∙ f .left) ∙ undone-all ea eb el need (tables-of s)
 
-  ones-behind : (e z : Row) → length e ≡ length ea → ones F (e ++ z) ≡ ones F e ++ z
+  pub ones-behind : (e z : Row) → length e ≡ length ea → ones F (e ++ z) ≡ ones F e ++ z
   ones-behind e z l = ones-left F e z (λ i h. omega (arith, listed-below Bs″ need i h, bonds-long (tables-of s)))
 
   module _ {o : Sought} {need2 row1 : List ℕ} (t : Tried need1 row 0 (length ea) (allOf Bs″ need1) o need2 row1) {need3 : List ℕ} (again : need3 ≡ need) where
@@ -327,3 +341,18 @@ module _ {ea eb el need row : List ℕ} (s : Shape ea eb el need row 0) {el1 nee
 
   pub total-again : freeTotal (bondsOf ea eb el1) need1 ≡ freeTotal (bondsOf ea eb el) need
   total-again = rw (e, n)
+
+-- ALL MATCHINGS, as the certified search names them, and what follows on the answer of the search under a budget
+pub all-is : {ea eb el need : List ℕ} → Tables ea eb el need 0 → allFrom ea eb el need 0 ≡ allOf (bondsOf ea eb el) need
+all-is {ea} {eb} {el} {need} t = all-zero ea eb el need ∙ ap (matchings (isMatching need (bondsOf ea eb el))) (sym (bonds-long t))
+
+module _ {ea eb el need row : List ℕ} (s : Shape ea eb el need row 0) {o : Sought} {need1 row1 : List ℕ} (t : Tried need row 0 (length ea) (allOf (bondsOf ea eb el) need) o need1 row1) where
+  tried-from : Tried need row 0 (length ea) (allFrom ea eb el need 0) o need1 row1
+  tried-from = subst (λ (fs : List Row). Tried need row 0 (length ea) fs o need1 row1) (sym (all-is (tables-of s))) t
+
+  pub any-absent : o ≡ Absent → {row2 : List ℕ} → row2 ≡ take 0 row1 ++ (replicate (length ea - 0) 0 ++ drop (length ea) row1) → Searched need row 0 (length ea) (allOf (bondsOf ea eb el) need) false need1 row2
+  any-absent q {row2} e = subst (λ (fs : List Row). Searched need row 0 (length ea) fs false need1 row2) (all-is (tables-of s)) (then-blank s tried-from q e)
+
+  pub any-certified : {el1 : List ℕ} → el1 ≡ el → {r : Bool} {need2 row2 : List ℕ} → Searched need1 row1 0 (length ea) (allFrom ea eb el1 need1 0) r need2 row2 → Searched need row 0 (length ea) (allOf (bondsOf ea eb el) need) r need2 row2
+  any-certified e {r} {need2} {row2} u = subst (λ (fs : List Row). Searched need row 0 (length ea) fs r need2 row2) (all-is (tables-of s))
+      (then-certified s tried-from (subst (λ (l : List ℕ). Searched need1 row1 0 (length ea) (allFrom ea eb l need1 0) r need2 row2) e u))

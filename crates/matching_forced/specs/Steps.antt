@@ -116,6 +116,10 @@ isOf bs need r = isRow (length bs) r && isMatching need bs r
 abbrev pub laterOf : List Bond → List ℕ → Row → List Row
 laterOf bs need r = matchings (λ s. isMatching need bs s && before r s) (length bs)
 
+-- those of them with the bond b, which the row r has
+abbrev pub laterWith : List Bond → List ℕ → Row → ℕ → List Row
+laterWith bs need r b = map (λ s. set s b 1) (laterOf bs (pairAt bs need b) (set r b 0))
+
 -- P9, asked for the first: the plain engine's reply, and the forced list with its number, both zeroed where there is no matching
 pub record FirstReply (bs : List Bond) (need row pairs : List ℕ) (r : Answer) (n : ℕ) (row′ pairs′ : List ℕ) : Type 0 where
   pub replied : reply r row′ ≡ rowFirst (isMatching need bs) (length bs) (length row)

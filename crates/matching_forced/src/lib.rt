@@ -17,7 +17,7 @@ ghost use Rattle.matching.specs.Limits.{maxAtoms, maxBonds};
 ghost use Rattle.matching.specs.Model.{Tables, Ends, Shape, Searched, bondsOf, reply};
 ghost use Rattle.matching_engine.specs.Tried.{Tried};
 ghost use Rattle.matching_forced.specs.Forced.{lowest, freeOf, freeBond};
-ghost use Rattle.matching_forced.specs.Steps.{bumped, raised, withCount, Counts, Turned, Roomy, Filled, ones, zeros, undone, Ones, lowestFree, Chosen, allOf, takenOf, leftOf, laterOf, isOf, FirstReply};
+ghost use Rattle.matching_forced.specs.Steps.{bumped, raised, withCount, Counts, Turned, Roomy, Filled, ones, zeros, undone, Ones, lowestFree, Chosen, off, allOf, takenOf, leftOf, laterOf, laterWith, isOf, FirstReply};
 
 // How many pairs the search may make before it gives up.
 const BUDGET: usize = 2000;
@@ -161,8 +161,14 @@ pub fn force(ea: &[u16], eb: &[u16], el: &[u8], need: &mut [u8], pairs: &mut [u1
     loop {
         let turn = take_turn(ea, eb, el, need);
         match turn {
-            Turn::Stuck => return Forcing { count: n, stuck: true },
-            Turn::Rests => return Forcing { count: n, stuck: false },
+            Turn::Stuck => return Forcing {
+                count: n,
+                stuck: true,
+            },
+            Turn::Rests => return Forcing {
+                count: n,
+                stuck: false,
+            },
             Turn::Pair(bond) => {
                 pairs[n] = bond.0 as u16;
                 matching_search::mark(ea, eb, need, bond, 0);
@@ -347,11 +353,240 @@ fn seek(
     let n = forcing.count;
     charge(budget, n);
     charge(budget, 1);
-    let got = choose(ea, eb, el, need, row, &mut pairs[n..], forcing.stuck, budget);
+    let got = choose(
+        ea,
+        eb,
+        el,
+        need,
+        row,
+        &mut pairs[n..],
+        forcing.stuck,
+        budget,
+    );
     undo(ea, eb, need, pairs, n);
     let Sought::Found = got else {
         return got;
     };
     set_ones(row, pairs, n);
     Sought::Found
+}
+
+// The first matching, written to the row up to the last bond; zeros where there is none. Where the budget is spent, the certified search answers.
+fn seek_any(
+    ea: &[u16],
+    eb: &[u16],
+    el: &mut [u8],
+    need: &mut [u8],
+    row: &mut [u8],
+    pairs: &mut [u16],
+) -> bool
+    requires { ⌜ Shape (now ea) (now eb) (now el) (now need) (now row) 0 ⌝ }
+    requires { ⌜ Roomy (now ea) (now eb) (now el) (now need) (now pairs) ⌝ }
+    ensures { λ r. ⌜ Searched (now (need .entry)) (now (row .entry)) 0 (length (now (ea .entry))) (allOf (bondsOf (now (ea .entry)) (now (eb .entry)) (now (el .entry))) (now (need .entry))) r (now (need .exit)) (now (row .exit)) ⌝ }
+    ensures { λ r. ⌜ now (el .exit) ≡ now (el .entry) ⌝ }
+{
+    let mut budget = BUDGET;
+    let got = seek(ea, eb, el, need, row, pairs, &mut budget);
+    match got {
+        Sought::Found => true,
+        Sought::Absent => {
+            matching_search::blank(row, 0, ea.len());
+            false
+        }
+        Sought::GaveUp => matching_certified::seek(ea, eb, el, need, row, BondId(0)),
+    }
+}
+
+// Zeros from the cell `from` on.
+fn clear_pairs(pairs: &mut [u16], from: usize)
+    requires { ⌜ from ≤ length (now pairs) ⌝ }
+    ensures { λ _. ⌜ now (pairs .exit) ≡ take from (now (pairs .entry)) ++ replicate (length (now (pairs .entry)) - from) 0 ⌝ }
+{
+    let mut i = from;
+    while i < pairs.len() {
+        pairs[i] = 0;
+        i += 1;
+    }
+}
+
+// internal: the first matching, and the forced list with its number, zeroed where there is no matching. The flags are used up.
+pub fn first_forced(
+    ea: &[u16],
+    eb: &[u16],
+    el: &mut [u8],
+    need: &mut [u8],
+    row: &mut [u8],
+    pairs: &mut [u16],
+) -> FirstForced
+    requires { ⌜ Shape (now ea) (now eb) (now el) (now need) (now row) 0 ⌝ }
+    requires { ⌜ Roomy (now ea) (now eb) (now el) (now need) (now pairs) ⌝ }
+    ensures { λ r. ⌜ FirstReply (bondsOf (now (ea .entry)) (now (eb .entry)) (now (el .entry))) (now (need .entry)) (now (row .entry)) (now (pairs .entry)) (r .answer) (r .count) (now (row .exit)) (now (pairs .exit)) ⌝ }
+{
+    let m = ea.len();
+    let forcing = force(ea, eb, el, need, pairs);
+    let n = forcing.count;
+    let found = seek_any(ea, eb, el, need, row, &mut pairs[n..]);
+    matching_search::clear(row, m);
+    if found {
+        set_ones(row, pairs, n);
+        clear_pairs(pairs, n);
+        return FirstForced {
+            answer: Answer::Given,
+            count: n,
+        };
+    }
+    clear_pairs(pairs, 0);
+    FirstForced {
+        answer: Answer::Absent,
+        count: 0,
+    }
+}
+
+// The first matching after the row that has the free bond b, as the row has it.
+fn later_with(
+    ea: &[u16],
+    eb: &[u16],
+    el: &mut [u8],
+    need: &mut [u8],
+    row: &mut [u8],
+    pairs: &mut [u16],
+    b: BondId,
+) -> bool
+    requires { ⌜ Shape (now ea) (now eb) (now el) (now need) (now row) 0 ⌝ }
+    requires { ⌜ Roomy (now ea) (now eb) (now el) (now need) (now pairs) × Chosen (now ea) (now eb) (now el) (now need) (b .0) ⌝ }
+    requires { ⌜ (isOf (bondsOf (now ea) (now eb) (now el)) (now need) (take (length (now ea)) (now row)) ≡ true) × (getD (now row) (b .0) 0 ≡ 1) ⌝ }
+    ensures { λ r. ⌜ Searched (now (need .entry)) (now (row .entry)) 0 (length (now (ea .entry))) (laterWith (bondsOf (now (ea .entry)) (now (eb .entry)) (now (el .entry))) (now (need .entry)) (take (length (now (ea .entry))) (now (row .entry))) (b .0)) r (now (need .exit)) (now (row .exit)) ⌝ }
+    ensures { λ r. ⌜ now (el .exit) ≡ now (el .entry) ⌝ }
+{
+    let at = b.0;
+    row[at] = 0;
+    matching_search::mark(ea, eb, need, b, 0);
+    let found = later(ea, eb, el, need, row, pairs);
+    matching_search::mark(ea, eb, need, b, 1);
+    if found {
+        row[at] = 1;
+    }
+    found
+}
+
+// The first matching after the row without the free bond b, as the row is without it.
+fn later_without(
+    ea: &[u16],
+    eb: &[u16],
+    el: &mut [u8],
+    need: &mut [u8],
+    row: &mut [u8],
+    pairs: &mut [u16],
+    b: BondId,
+) -> bool
+    requires { ⌜ Shape (now ea) (now eb) (now el) (now need) (now row) 0 ⌝ }
+    requires { ⌜ Roomy (now ea) (now eb) (now el) (now need) (now pairs) × Chosen (now ea) (now eb) (now el) (now need) (b .0) ⌝ }
+    requires { ⌜ (isOf (bondsOf (now ea) (now eb) (now el)) (now need) (take (length (now ea)) (now row)) ≡ true) × (getD (now row) (b .0) 0 ≡ 0) ⌝ }
+    ensures { λ r. ⌜ Searched (now (need .entry)) (now (row .entry)) 0 (length (now (ea .entry))) (laterOf (off (bondsOf (now (ea .entry)) (now (eb .entry)) (now (el .entry))) (b .0)) (now (need .entry)) (take (length (now (ea .entry))) (now (row .entry)))) r (now (need .exit)) (now (row .exit)) ⌝ }
+    ensures { λ r. ⌜ now (el .exit) ≡ now (el .entry) ⌝ }
+{
+    let at = b.0;
+    el[at] = 0;
+    let found = later(ea, eb, el, need, row, pairs);
+    el[at] = 1;
+    found
+}
+
+// The first matching of all without the free bond b.
+fn first_without(
+    ea: &[u16],
+    eb: &[u16],
+    el: &mut [u8],
+    need: &mut [u8],
+    row: &mut [u8],
+    pairs: &mut [u16],
+    b: BondId,
+) -> bool
+    requires { ⌜ Shape (now ea) (now eb) (now el) (now need) (now row) 0 ⌝ }
+    requires { ⌜ Roomy (now ea) (now eb) (now el) (now need) (now pairs) × Chosen (now ea) (now eb) (now el) (now need) (b .0) ⌝ }
+    ensures { λ r. ⌜ Searched (now (need .entry)) (now (row .entry)) 0 (length (now (ea .entry))) (leftOf (bondsOf (now (ea .entry)) (now (eb .entry)) (now (el .entry))) (now (need .entry)) (b .0)) r (now (need .exit)) (now (row .exit)) ⌝ }
+    ensures { λ r. ⌜ now (el .exit) ≡ now (el .entry) ⌝ }
+{
+    let at = b.0;
+    el[at] = 0;
+    let found = seek_any(ea, eb, el, need, row, pairs);
+    el[at] = 1;
+    found
+}
+
+// What is left after the forced pairs, from a row that is a matching: the lowest free bond is kept as the row has it, and then left.
+fn later_left(
+    ea: &[u16],
+    eb: &[u16],
+    el: &mut [u8],
+    need: &mut [u8],
+    row: &mut [u8],
+    pairs: &mut [u16],
+) -> bool
+    requires { ⌜ Shape (now ea) (now eb) (now el) (now need) (now row) 0 ⌝ }
+    requires { ⌜ Roomy (now ea) (now eb) (now el) (now need) (now pairs) ⌝ }
+    requires { ⌜ isOf (bondsOf (now ea) (now eb) (now el)) (now need) (take (length (now ea)) (now row)) ≡ true ⌝ }
+    ensures { λ r. ⌜ Searched (now (need .entry)) (now (row .entry)) 0 (length (now (ea .entry))) (laterOf (bondsOf (now (ea .entry)) (now (eb .entry)) (now (el .entry))) (now (need .entry)) (take (length (now (ea .entry))) (now (row .entry)))) r (now (need .exit)) (now (row .exit)) ⌝ }
+    ensures { λ r. ⌜ now (el .exit) ≡ now (el .entry) ⌝ }
+{
+    let b = lowest_free(ea, eb, el, need);
+    let at = b.0;
+    if ea.len() <= at {
+        return false;
+    }
+    if row[at] == 1 {
+        if later_with(ea, eb, el, need, row, pairs, b) {
+            return true;
+        }
+        return first_without(ea, eb, el, need, row, pairs, b);
+    }
+    later_without(ea, eb, el, need, row, pairs, b)
+}
+
+// The first matching that comes after the row, which is one, written over it; zeros where there is none.
+fn later(
+    ea: &[u16],
+    eb: &[u16],
+    el: &mut [u8],
+    need: &mut [u8],
+    row: &mut [u8],
+    pairs: &mut [u16],
+) -> bool
+    requires { ⌜ Shape (now ea) (now eb) (now el) (now need) (now row) 0 ⌝ }
+    requires { ⌜ Roomy (now ea) (now eb) (now el) (now need) (now pairs) ⌝ }
+    requires { ⌜ isOf (bondsOf (now ea) (now eb) (now el)) (now need) (take (length (now ea)) (now row)) ≡ true ⌝ }
+    ensures { λ r. ⌜ Searched (now (need .entry)) (now (row .entry)) 0 (length (now (ea .entry))) (laterOf (bondsOf (now (ea .entry)) (now (eb .entry)) (now (el .entry))) (now (need .entry)) (take (length (now (ea .entry))) (now (row .entry)))) r (now (need .exit)) (now (row .exit)) ⌝ }
+    ensures { λ r. ⌜ now (el .exit) ≡ now (el .entry) ⌝ }
+{
+    let forcing = force(ea, eb, el, need, pairs);
+    let n = forcing.count;
+    set_zeros(row, pairs, n);
+    let found = later_left(ea, eb, el, need, row, &mut pairs[n..]);
+    undo(ea, eb, need, pairs, n);
+    if found {
+        set_ones(row, pairs, n);
+    }
+    found
+}
+
+// internal: the first matching that comes after the row. What pairs holds afterwards is left open: it is scratch.
+pub fn next_forced(
+    ea: &[u16],
+    eb: &[u16],
+    el: &mut [u8],
+    need: &mut [u8],
+    row: &mut [u8],
+    pairs: &mut [u16],
+) -> Answer
+    requires { ⌜ Shape (now ea) (now eb) (now el) (now need) (now row) 0 ⌝ }
+    requires { ⌜ Roomy (now ea) (now eb) (now el) (now need) (now pairs) ⌝ }
+    ensures { λ r. ⌜ reply r (now (row .exit)) ≡ rowNext (isMatching (now (need .entry)) (bondsOf (now (ea .entry)) (now (eb .entry)) (now (el .entry)))) (length (now (ea .entry))) (length (now (row .entry))) (take (length (now (ea .entry))) (now (row .entry))) ⌝ }
+{
+    if !matching_search::is_matching(ea, eb, el, need, row, BondId(0)) {
+        matching_search::clear(row, 0);
+        return Answer::Refused;
+    }
+    let found = later(ea, eb, el, need, row, pairs);
+    matching_search::clear(row, ea.len());
+    if found { Answer::Given } else { Answer::Ended }
 }

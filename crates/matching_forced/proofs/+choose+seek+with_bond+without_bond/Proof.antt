@@ -151,11 +151,16 @@ choose-returns-5 : (t : ℕ) → choose-lts.Need-returns-5 (choose-claims t) (ch
 choose-returns-5 t c = (choice-told (c .before .before .before .before .before .before .before .before .before .before .before .before .before .before .before .before .before .before .before .before .before .before .before .before .before .before .before .before .pre .1 .0) (c .before .before .before .before .before .before .before .before .before .before .before .before .before .before .before .before .before .before .lowest-free .ensures) (c .before .before .before .before .before .before .before .before .before .before .before .before .before .before .before .before .before .if2 .left) (c .before .before .before .before .before .before .before .before .before .with-bond .ensures .0) (not-absent (c .before .before .before .before .before .before .before .before .before .with-bond .result) (c .match .keys2)), c .before .before .before .before .before .before .before .before .before .with-bond .ensures .1)
 
 choose-without-bond-requires : (t : ℕ) → choose-lts.Need-without-bond-requires (choose-claims t) (choose-at t) choose.Post
-choose-without-bond-requires t c κs = 
-    (omega (arith, c .before .before .before .before .before .before .before .before .before .before .before .before .before .before .before .before .before .before .before .before .before .before .before .before .before .before .before .before .before .before .before .before .before .before .pre .0, total-again (c .before .before .before .before .before .before .before .before .before .before .before .before .before .before .before .before .before .before .before .before .before .before .before .before .before .before .before .before .before .before .before .before .before .before .pre .1 .0) (c .before .before .before .before .before .before .before .before .before .before .before .before .before .before .before .with-bond .ensures .1) (c .before .before .before .before .before .before .before .before .before .before .before .before .before .before .before .with-bond .ensures .0 .same)),
-    (shape-again (c .before .before .before .before .before .before .before .before .before .before .before .before .before .before .before .before .before .before .before .before .before .before .before .before .before .before .before .before .before .before .before .before .before .before .pre .1 .0) (c .before .before .before .before .before .before .before .before .before .before .before .before .before .before .before .with-bond .ensures .1) (c .before .before .before .before .before .before .before .before .before .before .before .before .before .before .before .with-bond .ensures .0 .same) (c .before .before .before .before .before .before .before .before .before .before .before .before .before .before .before .with-bond .kept .1 .1 .1 .1 .0),
-    (roomy-again (c .before .before .before .before .before .before .before .before .before .before .before .before .before .before .before .before .before .before .before .before .before .before .before .before .before .before .before .before .before .before .before .before .before .before .pre .1 .0) (c .before .before .before .before .before .before .before .before .before .before .before .before .before .before .before .with-bond .ensures .1) (c .before .before .before .before .before .before .before .before .before .before .before .before .before .before .before .with-bond .ensures .0 .same) (c .before .before .before .before .before .before .before .before .before .before .before .before .before .before .before .with-bond .kept .1 .1 .1 .1 .1 .0) (c .before .before .before .before .before .before .before .before .before .before .before .before .before .before .before .before .before .before .before .before .before .before .before .before .before .before .before .before .before .before .before .before .before .before .pre .1 .1 .0),
-    chosen-again (c .before .before .before .before .before .before .before .before .before .before .before .before .before .before .before .before .before .before .before .before .before .before .before .before .before .before .before .before .before .before .before .before .before .before .pre .1 .0) (c .before .before .before .before .before .before .before .before .before .before .before .before .before .before .before .with-bond .ensures .1) (c .before .before .before .before .before .before .before .before .before .before .before .before .before .before .before .with-bond .ensures .0 .same) (lowest-chosen (c .before .before .before .before .before .before .before .before .before .before .before .before .before .before .before .before .before .before .before .before .before .before .before .before .before .before .before .before .before .before .before .before .before .before .pre .1 .0) (c .before .before .before .before .before .before .before .before .before .before .before .before .before .before .before .before .before .before .before .before .before .before .before .before .lowest-free .ensures) (c .before .before .before .before .before .before .before .before .before .before .before .before .before .before .before .before .before .before .before .before .before .before .before .if2 .left)))))
+choose-without-bond-requires t c κs = (
+  omega (arith, c .before .before .before .before .before .before .before .before .before .before .before .before .before .before .before .before .before .before .before .before .before .before .before .before .before .before .before .before .before .before .before .before .before .before .pre .0, total-again (c .before .before .before .before .before .before .before .before .before .before .before .before .before .before .before .before .before .before .before .before .before .before .before .before .before .before .before .before .before .before .before .before .before .before .pre .1 .0) (c .before .before .before .before .before .before .before .before .before .before .before .before .before .before .before .with-bond .ensures .1) (c .before .before .before .before .before .before .before .before .before .before .before .before .before .before .before .with-bond .ensures .0 .same)),
+  (
+    shape-again (c .before .before .before .before .before .before .before .before .before .before .before .before .before .before .before .before .before .before .before .before .before .before .before .before .before .before .before .before .before .before .before .before .before .before .pre .1 .0) (c .before .before .before .before .before .before .before .before .before .before .before .before .before .before .before .with-bond .ensures .1) (c .before .before .before .before .before .before .before .before .before .before .before .before .before .before .before .with-bond .ensures .0 .same) (c .before .before .before .before .before .before .before .before .before .before .before .before .before .before .before .with-bond .kept .1 .1 .1 .1 .0),
+    (
+      roomy-again (c .before .before .before .before .before .before .before .before .before .before .before .before .before .before .before .before .before .before .before .before .before .before .before .before .before .before .before .before .before .before .before .before .before .before .pre .1 .0) (c .before .before .before .before .before .before .before .before .before .before .before .before .before .before .before .with-bond .ensures .1) (c .before .before .before .before .before .before .before .before .before .before .before .before .before .before .before .with-bond .ensures .0 .same) (c .before .before .before .before .before .before .before .before .before .before .before .before .before .before .before .with-bond .kept .1 .1 .1 .1 .1 .0) (c .before .before .before .before .before .before .before .before .before .before .before .before .before .before .before .before .before .before .before .before .before .before .before .before .before .before .before .before .before .before .before .before .before .before .pre .1 .1 .0),
+      chosen-again (c .before .before .before .before .before .before .before .before .before .before .before .before .before .before .before .before .before .before .before .before .before .before .before .before .before .before .before .before .before .before .before .before .before .before .pre .1 .0) (c .before .before .before .before .before .before .before .before .before .before .before .before .before .before .before .with-bond .ensures .1) (c .before .before .before .before .before .before .before .before .before .before .before .before .before .before .before .with-bond .ensures .0 .same) (lowest-chosen (c .before .before .before .before .before .before .before .before .before .before .before .before .before .before .before .before .before .before .before .before .before .before .before .before .before .before .before .before .before .before .before .before .before .before .pre .1 .0) (c .before .before .before .before .before .before .before .before .before .before .before .before .before .before .before .before .before .before .before .before .before .before .before .before .lowest-free .ensures) (c .before .before .before .before .before .before .before .before .before .before .before .before .before .before .before .before .before .before .before .before .before .before .before .if2 .left)),
+    ),
+  ),
+)
 
 choose-same-length-13 : (t : ℕ) → choose-lts.Need-same-length-13 (choose-claims t) (choose-at t) choose.Post
 choose-same-length-13 t c = search needs
@@ -198,16 +203,22 @@ seek-part-choose-end : (t : ℕ) → seek-lts.Need-part-choose-end (seek-claims 
 seek-part-choose-end t c = search needs
 
 seek-choose-requires : (t : ℕ) → seek-lts.Need-choose-requires (seek-claims t) (seek-at t) seek.Post
-seek-choose-requires t c κs = 
-    (omega (arith, c .before .before .before .before .before .before .before .before .before .before .before .before .before .before .before .before .before .before .before .before .before .before .before .pre .0, forced-fewer (c .before .before .before .before .before .before .before .before .before .before .before .before .before .before .before .before .before .before .before .before .before .before .before .pre .1 .0) (c .before .before .before .before .before .before .before .before .before .before .before .before .before .before .before .before .before .before .before .before .before .before .before .pre .1 .1) (c .before .before .before .before .before .before .before .before .before .before .before .before .before .force .ensures) (c .before .before .before .before .before .before .before .before .before .before .before .before .before .force .kept .1 .1 .1 .1 .0)),
-    (shape-both (c .before .before .before .before .before .before .before .before .before .before .before .before .before .before .before .before .before .before .before .before .before .before .before .pre .1 .0) (c .before .before .before .before .before .before .before .before .before .before .before .before .before .force .kept .1 .1 .1 .0) refl,
-    (forced-roomy (c .before .before .before .before .before .before .before .before .before .before .before .before .before .before .before .before .before .before .before .before .before .before .before .pre .1 .0) (c .before .before .before .before .before .before .before .before .before .before .before .before .before .before .before .before .before .before .before .before .before .before .before .pre .1 .1) (c .before .before .before .before .before .before .before .before .before .before .before .before .before .force .ensures) (c .before .before .before .before .before .before .before .before .before .before .before .before .before .force .kept .1 .1 .1 .1 .0) (c .before .before .before .before .before .before .before .before .before .before .before .before .before .force .kept .1 .1 .1 .0),
-    forced-stuck (c .before .before .before .before .before .before .before .before .before .before .before .before .before .before .before .before .before .before .before .before .before .before .before .pre .1 .0) (c .before .before .before .before .before .before .before .before .before .before .before .before .before .before .before .before .before .before .before .before .before .before .before .pre .1 .1) (c .before .before .before .before .before .before .before .before .before .before .before .before .before .force .ensures) (c .before .before .before .before .before .before .before .before .before .before .before .before .before .force .kept .1 .1 .1 .1 .0))))
+seek-choose-requires t c κs = (
+  omega (arith, c .before .before .before .before .before .before .before .before .before .before .before .before .before .before .before .before .before .before .before .before .before .before .before .pre .0, forced-fewer (c .before .before .before .before .before .before .before .before .before .before .before .before .before .before .before .before .before .before .before .before .before .before .before .pre .1 .0) (c .before .before .before .before .before .before .before .before .before .before .before .before .before .before .before .before .before .before .before .before .before .before .before .pre .1 .1) (c .before .before .before .before .before .before .before .before .before .before .before .before .before .force .ensures) (c .before .before .before .before .before .before .before .before .before .before .before .before .before .force .kept .1 .1 .1 .1 .0)),
+  (
+    shape-both (c .before .before .before .before .before .before .before .before .before .before .before .before .before .before .before .before .before .before .before .before .before .before .before .pre .1 .0) (c .before .before .before .before .before .before .before .before .before .before .before .before .before .force .kept .1 .1 .1 .0) refl,
+    (
+      forced-roomy (c .before .before .before .before .before .before .before .before .before .before .before .before .before .before .before .before .before .before .before .before .before .before .before .pre .1 .0) (c .before .before .before .before .before .before .before .before .before .before .before .before .before .before .before .before .before .before .before .before .before .before .before .pre .1 .1) (c .before .before .before .before .before .before .before .before .before .before .before .before .before .force .ensures) (c .before .before .before .before .before .before .before .before .before .before .before .before .before .force .kept .1 .1 .1 .1 .0) (c .before .before .before .before .before .before .before .before .before .before .before .before .before .force .kept .1 .1 .1 .0),
+      forced-stuck (c .before .before .before .before .before .before .before .before .before .before .before .before .before .before .before .before .before .before .before .before .before .before .before .pre .1 .0) (c .before .before .before .before .before .before .before .before .before .before .before .before .before .before .before .before .before .before .before .before .before .before .before .pre .1 .1) (c .before .before .before .before .before .before .before .before .before .before .before .before .before .force .ensures) (c .before .before .before .before .before .before .before .before .before .before .before .before .before .force .kept .1 .1 .1 .1 .0),
+    ),
+  ),
+)
 
 seek-undo-requires : (t : ℕ) → seek-lts.Need-undo-requires (seek-claims t) (seek-at t) seek.Post
-seek-undo-requires t c κs = 
-    (put-ones (c .before .before .before .before .before .before .before .before .before .before .before .before .before .before .before .before .before .before .before .before .before .before .before .before .before .before .before .before .before .before .before .before .before .before .pre .1 .0) (c .before .before .before .before .before .before .before .before .before .before .before .before .before .before .before .before .before .before .before .before .before .before .before .before .before .before .before .before .before .before .before .before .before .before .pre .1 .1) (c .before .before .before .before .before .before .before .before .before .before .before .before .before .before .before .before .before .before .before .before .before .before .before .before .force .ensures) (c .before .before .before .before .before .before .before .before .before .before .before .before .before .before .before .before .before .before .before .before .before .before .before .before .force .kept .1 .1 .1 .1 .0) (c .before .before .before .before .before .before .before .before .before .before .choose .last .1 .1 .1 .1 .1 .0) (omega arith),
-    λ k l. ends-long (c .before .before .before .before .before .before .before .before .before .before .choose .kept .1 .1 .1 .0 ∙ c .before .before .before .before .before .before .before .before .before .before .before .before .before .before .before .before .before .before .before .before .before .before .before .before .force .kept .1 .1 .1 .0) (ends-at (tables-of (c .before .before .before .before .before .before .before .before .before .before .before .before .before .before .before .before .before .before .before .before .before .before .before .before .before .before .before .before .before .before .before .before .before .before .pre .1 .0)) k l))
+seek-undo-requires t c κs = (
+  put-ones (c .before .before .before .before .before .before .before .before .before .before .before .before .before .before .before .before .before .before .before .before .before .before .before .before .before .before .before .before .before .before .before .before .before .before .pre .1 .0) (c .before .before .before .before .before .before .before .before .before .before .before .before .before .before .before .before .before .before .before .before .before .before .before .before .before .before .before .before .before .before .before .before .before .before .pre .1 .1) (c .before .before .before .before .before .before .before .before .before .before .before .before .before .before .before .before .before .before .before .before .before .before .before .before .force .ensures) (c .before .before .before .before .before .before .before .before .before .before .before .before .before .before .before .before .before .before .before .before .before .before .before .before .force .kept .1 .1 .1 .1 .0) (c .before .before .before .before .before .before .before .before .before .before .choose .last .1 .1 .1 .1 .1 .0) (omega arith),
+  λ k l. ends-long (c .before .before .before .before .before .before .before .before .before .before .choose .kept .1 .1 .1 .0 ∙ c .before .before .before .before .before .before .before .before .before .before .before .before .before .before .before .before .before .before .before .before .before .before .before .before .force .kept .1 .1 .1 .0) (ends-at (tables-of (c .before .before .before .before .before .before .before .before .before .before .before .before .before .before .before .before .before .before .before .before .before .before .before .before .before .before .before .before .before .before .before .before .before .before .pre .1 .0)) k l),
+)
 
 seek-enum-told : (t : ℕ) → seek-lts.Need-enum-told (seek-claims t) (seek-at t) seek.Post
 seek-enum-told t c = search needs
@@ -225,7 +236,7 @@ seek-same-length-4 : (t : ℕ) → seek-lts.Need-same-length-4 (seek-claims t) (
 seek-same-length-4 t c = search needs
 
 seek-returns : (t : ℕ) → seek-lts.Need-returns (seek-claims t) (seek-at t) seek.Post
-seek-returns t c = 
+seek-returns t c =
     let wide = c .before .before .before .before .before .before .before .before .before .before .before .before .before .before .before .before .before .before .before .before .before .before .before .before .before .before .before .before .force .kept .1 .1 .1 .1 .0 in
     let again = forced-back (c .before .before .before .before .before .before .before .before .before .before .before .before .before .before .before .before .before .before .before .before .before .before .before .before .before .before .before .before .before .before .before .before .before .before .before .before .before .before .pre .1 .0) (c .before .before .before .before .before .before .before .before .before .before .before .before .before .before .before .before .before .before .before .before .before .before .before .before .before .before .before .before .before .before .before .before .before .before .before .before .before .before .pre .1 .1) (c .before .before .before .before .before .before .before .before .before .before .before .before .before .before .before .before .before .before .before .before .before .before .before .before .before .before .before .before .force .ensures) wide (c .before .before .before .before .before .before .before .before .before .before .before .before .before .before .choose .ensures .0 .same) (put-front (c .before .before .before .before .before .before .before .before .before .before .before .before .before .before .before .before .before .before .before .before .before .before .before .before .before .before .before .before .before .before .before .before .before .before .before .before .before .before .pre .1 .0) (c .before .before .before .before .before .before .before .before .before .before .before .before .before .before .before .before .before .before .before .before .before .before .before .before .before .before .before .before .before .before .before .before .before .before .before .before .before .before .pre .1 .1) (c .before .before .before .before .before .before .before .before .before .before .before .before .before .before .before .before .before .before .before .before .before .before .before .before .before .before .before .before .force .ensures) wide (c .before .before .before .before .before .before .before .before .before .before .before .before .before .before .choose .last .1 .1 .1 .1 .1 .0)) (c .before .before .before .undo .ensures) in
     (forced-other (c .before .before .before .before .before .before .before .before .before .before .before .before .before .before .before .before .before .before .before .before .before .before .before .before .before .before .before .before .before .before .before .before .before .before .before .before .before .before .pre .1 .0) (c .before .before .before .before .before .before .before .before .before .before .before .before .before .before .before .before .before .before .before .before .before .before .before .before .before .before .before .before .before .before .before .before .before .before .before .before .before .before .pre .1 .1) (c .before .before .before .before .before .before .before .before .before .before .before .before .before .before .before .before .before .before .before .before .before .before .before .before .before .before .before .before .force .ensures) wide (c .before .before .before .before .before .before .before .before .before .before .before .before .before .before .choose .ensures .0) again (not-found (c .before .before .before .before .before .before .before .before .before .before .before .before .before .before .choose .result) (c .match .keys2)), c .before .before .before .before .before .before .before .before .before .before .before .before .before .before .choose .ensures .1)
@@ -246,7 +257,7 @@ seek-same-length-8 : (t : ℕ) → seek-lts.Need-same-length-8 (seek-claims t) (
 seek-same-length-8 t c = search needs
 
 seek-returns-2 : (t : ℕ) → seek-lts.Need-returns-2 (seek-claims t) (seek-at t) seek.Post
-seek-returns-2 t c = 
+seek-returns-2 t c =
     let wide = c .before .before .before .before .before .before .before .before .before .before .before .before .before .before .before .before .before .before .before .before .before .before .before .before .before .before .before .before .before .before .before .before .before .before .force .kept .1 .1 .1 .1 .0 in
     let front = put-front (c .before .before .before .before .before .before .before .before .before .before .before .before .before .before .before .before .before .before .before .before .before .before .before .before .before .before .before .before .before .before .before .before .before .before .before .before .before .before .before .before .before .before .before .before .pre .1 .0) (c .before .before .before .before .before .before .before .before .before .before .before .before .before .before .before .before .before .before .before .before .before .before .before .before .before .before .before .before .before .before .before .before .before .before .before .before .before .before .before .before .before .before .before .before .pre .1 .1) (c .before .before .before .before .before .before .before .before .before .before .before .before .before .before .before .before .before .before .before .before .before .before .before .before .before .before .before .before .before .before .before .before .before .before .force .ensures) wide (c .before .before .before .before .before .before .before .before .before .before .before .before .before .before .before .before .before .before .before .before .choose .last .1 .1 .1 .1 .1 .0) in
     let again = forced-back (c .before .before .before .before .before .before .before .before .before .before .before .before .before .before .before .before .before .before .before .before .before .before .before .before .before .before .before .before .before .before .before .before .before .before .before .before .before .before .before .before .before .before .before .before .pre .1 .0) (c .before .before .before .before .before .before .before .before .before .before .before .before .before .before .before .before .before .before .before .before .before .before .before .before .before .before .before .before .before .before .before .before .before .before .before .before .before .before .before .before .before .before .before .before .pre .1 .1) (c .before .before .before .before .before .before .before .before .before .before .before .before .before .before .before .before .before .before .before .before .before .before .before .before .before .before .before .before .before .before .before .before .before .before .force .ensures) wide (c .before .before .before .before .before .before .before .before .before .before .before .before .before .before .before .before .before .before .before .before .choose .ensures .0 .same) front (c .before .before .before .before .before .before .before .before .before .undo .ensures) in
@@ -260,9 +271,10 @@ with-bond-mark-requires : (t : ℕ) → with-bond-lts.Need-mark-requires (with-b
 with-bond-mark-requires t c κs = chosen-ends (c .before .before .before .before .before .before .before .pre .1 .0) (c .before .before .before .before .before .before .before .pre .1 .1 .1)
 
 with-bond-seek-requires : (t : ℕ) → with-bond-lts.Need-seek-requires (with-bond-claims t) (with-bond-at t) with-bond.Post
-with-bond-seek-requires t c κs = 
-    (omega (arith, c .before .before .before .before .before .before .before .before .before .before .before .before .before .before .before .pre .0, taken-less (c .before .before .before .before .before .before .before .before .before .before .before .before .before .before .before .pre .1 .0) (c .before .before .before .before .before .before .before .before .before .before .before .before .before .before .before .pre .1 .1 .1) (c .before .before .before .before .before .before .before .mark .ensures)),
-    (shape-both (c .before .before .before .before .before .before .before .before .before .before .before .before .before .before .before .pre .1 .0) (c .before .before .before .before .before .before .before .mark .kept .1 .1 .0) refl, taken-roomy (c .before .before .before .before .before .before .before .before .before .before .before .before .before .before .before .pre .1 .0) (c .before .before .before .before .before .before .before .before .before .before .before .before .before .before .before .pre .1 .1 .1) (c .before .before .before .before .before .before .before .mark .ensures) (c .before .before .before .before .before .before .before .mark .kept .1 .1 .0) (c .before .before .before .before .before .before .before .before .before .before .before .before .before .before .before .pre .1 .1 .0)))
+with-bond-seek-requires t c κs = (
+  omega (arith, c .before .before .before .before .before .before .before .before .before .before .before .before .before .before .before .pre .0, taken-less (c .before .before .before .before .before .before .before .before .before .before .before .before .before .before .before .pre .1 .0) (c .before .before .before .before .before .before .before .before .before .before .before .before .before .before .before .pre .1 .1 .1) (c .before .before .before .before .before .before .before .mark .ensures)),
+  (shape-both (c .before .before .before .before .before .before .before .before .before .before .before .before .before .before .before .pre .1 .0) (c .before .before .before .before .before .before .before .mark .kept .1 .1 .0) refl, taken-roomy (c .before .before .before .before .before .before .before .before .before .before .before .before .before .before .before .pre .1 .0) (c .before .before .before .before .before .before .before .before .before .before .before .before .before .before .before .pre .1 .1 .1) (c .before .before .before .before .before .before .before .mark .ensures) (c .before .before .before .before .before .before .before .mark .kept .1 .1 .0) (c .before .before .before .before .before .before .before .before .before .before .before .before .before .before .before .pre .1 .1 .0)),
+)
 
 with-bond-mark-requires-2 : (t : ℕ) → with-bond-lts.Need-mark-requires-2 (with-bond-claims t) (with-bond-at t) with-bond.Post
 with-bond-mark-requires-2 t c κs = ends-long (c .before .before .before .before .before .before .before .before .before .seek .kept .1 .1 .1 .0 ∙ c .before .before .before .before .before .before .before .before .before .before .before .before .before .before .before .before .before .mark .kept .1 .1 .0) (chosen-ends (c .before .before .before .before .before .before .before .before .before .before .before .before .before .before .before .before .before .before .before .before .before .before .before .before .before .pre .1 .0) (c .before .before .before .before .before .before .before .before .before .before .before .before .before .before .before .before .before .before .before .before .before .before .before .before .before .pre .1 .1 .1))
@@ -311,7 +323,7 @@ without-bond-slice-write-el : (t : ℕ) → without-bond-lts.Need-slice-write-el
 without-bond-slice-write-el t c = omega (arith, c .before .before .before .before .before .before .pre .1 .1 .1 .inside, c .before .before .before .before .before .before .pre .1 .0 .third)
 
 without-bond-seek-requires : (t : ℕ) → without-bond-lts.Need-seek-requires (without-bond-claims t) (without-bond-at t) without-bond.Post
-without-bond-seek-requires t c κs = 
+without-bond-seek-requires t c κs =
     (omega (arith, c .before .before .before .before .before .before .before .before .before .before .before .pre .0, left-less (c .before .before .before .before .before .before .before .before .before .before .before .pre .1 .0) (c .before .before .before .before .before .before .before .before .before .before .before .pre .1 .1 .1) refl), (left-shape (c .before .before .before .before .before .before .before .before .before .before .before .pre .1 .0) (c .before .before .before .before .before .before .before .before .before .before .before .pre .1 .1 .1) refl, left-roomy (c .before .before .before .before .before .before .before .before .before .before .before .pre .1 .0) (c .before .before .before .before .before .before .before .before .before .before .before .pre .1 .1 .1) refl (c .before .before .before .before .before .before .before .before .before .before .before .pre .1 .1 .0)))
 
 without-bond-slice-write-el-2 : (t : ℕ) → without-bond-lts.Need-slice-write-el-2 (without-bond-claims t) (without-bond-at t) without-bond.Post
@@ -334,4 +346,4 @@ without-bond-returns t c = (tried-left (c .before .before .before .before .befor
 
 pub +choose+seek+with-bond+without-bond-spec : {M : Type 1} → statement M
 +choose+seek+with-bond+without-bond-spec =
-    close μ-choose μ-seek μ-with-bond μ-without-bond (λ t. choose-lts.spec (choose-claims t) (choose-at t) choose.Post (choose-returns t) (choose-lowest-free-requires t) (choose-blank-requires t) (choose-all-paired-requires t) (choose-same-length t) (choose-same-length-2 t) (choose-same-length-3 t) (choose-returns-2 t) (choose-same-length-4 t) (choose-same-length-5 t) (choose-same-length-6 t) (choose-returns-3 t) (choose-same-length-7 t) (choose-same-length-8 t) (choose-returns-4 t) (choose-with-bond-requires t) (choose-enum-told t) (choose-same-length-9 t) (choose-same-length-10 t) (choose-same-length-11 t) (choose-same-length-12 t) (choose-returns-5 t) (choose-without-bond-requires t) (choose-same-length-13 t) (choose-same-length-14 t) (choose-same-length-15 t) (choose-same-length-16 t) (choose-returns-6 t)) (λ t. seek-lts.spec (seek-claims t) (seek-at t) seek.Post (seek-force-requires t) (seek-charge-requires t) (seek-charge-requires-2 t) (seek-mul-choose t) (seek-sub-choose t) (seek-part-choose-start t) (seek-part-choose-end t) (seek-choose-requires t) (seek-undo-requires t) (seek-enum-told t) (seek-same-length t) (seek-same-length-2 t) (seek-same-length-3 t) (seek-same-length-4 t) (seek-returns t) (seek-set-ones-requires t) (seek-same-length-5 t) (seek-same-length-6 t) (seek-same-length-7 t) (seek-same-length-8 t) (seek-returns-2 t)) (λ t. with-bond-lts.spec (mark-reads.Asked, mark-reads.Learnt, seek-below t, seek.Post) (with-bond-at t) with-bond.Post (with-bond-mark-requires t) (with-bond-seek-requires t) (with-bond-mark-requires-2 t) (with-bond-enum-told t) (with-bond-same-length t) (with-bond-same-length-2 t) (with-bond-same-length-3 t) (with-bond-same-length-4 t) (with-bond-returns t) (with-bond-slice-write-row t) (with-bond-same-length-5 t) (with-bond-same-length-6 t) (with-bond-same-length-7 t) (with-bond-same-length-8 t) (with-bond-returns-2 t)) λ t. without-bond-lts.spec (seek-below t, seek.Post) (without-bond-at t) without-bond.Post (without-bond-slice-write-el t) (without-bond-seek-requires t) (without-bond-slice-write-el-2 t) (without-bond-same-length t) (without-bond-same-length-2 t) (without-bond-same-length-3 t) (without-bond-same-length-4 t) (without-bond-returns t) 
+    close μ-choose μ-seek μ-with-bond μ-without-bond (λ t. choose-lts.spec (choose-claims t) (choose-at t) choose.Post (choose-returns t) (choose-lowest-free-requires t) (choose-blank-requires t) (choose-all-paired-requires t) (choose-same-length t) (choose-same-length-2 t) (choose-same-length-3 t) (choose-returns-2 t) (choose-same-length-4 t) (choose-same-length-5 t) (choose-same-length-6 t) (choose-returns-3 t) (choose-same-length-7 t) (choose-same-length-8 t) (choose-returns-4 t) (choose-with-bond-requires t) (choose-enum-told t) (choose-same-length-9 t) (choose-same-length-10 t) (choose-same-length-11 t) (choose-same-length-12 t) (choose-returns-5 t) (choose-without-bond-requires t) (choose-same-length-13 t) (choose-same-length-14 t) (choose-same-length-15 t) (choose-same-length-16 t) (choose-returns-6 t)) (λ t. seek-lts.spec (seek-claims t) (seek-at t) seek.Post (seek-force-requires t) (seek-charge-requires t) (seek-charge-requires-2 t) (seek-mul-choose t) (seek-sub-choose t) (seek-part-choose-start t) (seek-part-choose-end t) (seek-choose-requires t) (seek-undo-requires t) (seek-enum-told t) (seek-same-length t) (seek-same-length-2 t) (seek-same-length-3 t) (seek-same-length-4 t) (seek-returns t) (seek-set-ones-requires t) (seek-same-length-5 t) (seek-same-length-6 t) (seek-same-length-7 t) (seek-same-length-8 t) (seek-returns-2 t)) (λ t. with-bond-lts.spec (mark-reads.Asked, mark-reads.Learnt, seek-below t, seek.Post) (with-bond-at t) with-bond.Post (with-bond-mark-requires t) (with-bond-seek-requires t) (with-bond-mark-requires-2 t) (with-bond-enum-told t) (with-bond-same-length t) (with-bond-same-length-2 t) (with-bond-same-length-3 t) (with-bond-same-length-4 t) (with-bond-returns t) (with-bond-slice-write-row t) (with-bond-same-length-5 t) (with-bond-same-length-6 t) (with-bond-same-length-7 t) (with-bond-same-length-8 t) (with-bond-returns-2 t)) λ t. without-bond-lts.spec (seek-below t, seek.Post) (without-bond-at t) without-bond.Post (without-bond-slice-write-el t) (without-bond-seek-requires t) (without-bond-slice-write-el-2 t) (without-bond-same-length t) (without-bond-same-length-2 t) (without-bond-same-length-3 t) (without-bond-same-length-4 t) (without-bond-returns t)
