@@ -141,3 +141,7 @@ pub zeros-at : (n v : ℕ) → _≡_ {A = ℕ} (getD (replicate n 0) v 0) 0
 zeros-at zero v = refl
 zeros-at (suc n) zero = refl
 zeros-at (suc n) (suc v) = zeros-at n v
+
+-- the test of an atom, by its flag as it was read
+pub counted-as : (need counts : List ℕ) (d v : ℕ) {r b : Bool} → r ≡ flagged need v → (r && eqb (getD counts v 0) d) ≡ b → withCount need counts d v ≡ b
+counted-as need counts d v e h = ap (λ (x : Bool). x && eqb (getD counts v 0) d) (sym e) ∙ h

@@ -419,7 +419,7 @@ pub fn first_forced(
     pairs: &mut [u16],
 ) -> FirstForced
     requires { ⌜ Shape (now ea) (now eb) (now el) (now need) (now row) 0 ⌝ }
-    requires { ⌜ Roomy (now ea) (now eb) (now el) (now need) (now pairs) ⌝ }
+    requires { ⌜ Roomy (now ea) (now eb) (now el) (now need) (now pairs) × (length (now ea) ≤ length (now pairs)) ⌝ }
     ensures { λ r. ⌜ FirstReply (bondsOf (now (ea .entry)) (now (eb .entry)) (now (el .entry))) (now (need .entry)) (now (row .entry)) (now (pairs .entry)) (r .answer) (r .count) (now (row .exit)) (now (pairs .exit)) ⌝ }
 {
     let m = ea.len();

@@ -2,9 +2,9 @@
 use Prim.Native.Nat.{_-_, _≤_}
 use native.Mathlib.Omega.{arith}
 use lib.ListN.{length}
-use mathlib.Core.Path.{_∙_, sym}
 use Rattle.matching_forced.specs.Steps.{withCount}
 use Rattle.matching_forced.proofs.Counts.{Sought, sought-left, sought-fewer, sought-here, sought-end}
+use Rattle.matching_forced.proofs.Tallies.{counted-as}
 use Rattle.matching_forced.proofs.lowest_with.Statement.{statement}
 use Rattle.matching_forced.proofs.lowest_with.Tie as tie
 
@@ -30,7 +30,7 @@ shared-slice-read-if1 : tie.Need-shared-slice-read-if1 Inv-loop μ-loop
 shared-slice-read-if1 c = omega (arith, c .before .before .before .before .before .before .pre)
 
 returns : tie.Need-returns Inv-loop μ-loop
-returns c = sought-here (c .before .before .before .before .loop .inv .1) (omega arith) (rw (← c .before .before .unpaired .ensures) (c .if1 .taken))
+returns c = sought-here (c .before .before .before .before .loop .inv .1) (omega arith) (counted-as (c .before .before .before .before .before .before .before .args .need .now) (c .before .before .before .before .before .before .before .args .counts .now) (c .before .before .before .before .before .before .before .args .d) (length (c .before .before .before .before .before .before .before .args .need .now) - c .before .before .before .before .loop .left) (c .before .before .unpaired .ensures) (c .if1 .taken))
 
 sub-left : tie.Need-sub-left Inv-loop μ-loop
 sub-left c = omega arith
@@ -39,7 +39,7 @@ loop-less : tie.Need-loop-less Inv-loop μ-loop
 loop-less c = omega arith
 
 loop-again : tie.Need-loop-again Inv-loop μ-loop
-loop-again c = (omega arith, sought-fewer (c .before .before .before .before .loop .inv .1) (c .before .before .before .before .loop .inv .0) (omega arith) (rw (← c .before .before .unpaired .ensures) (c .if1 .left)))
+loop-again c = (omega arith, sought-fewer (c .before .before .before .before .loop .inv .1) (c .before .before .before .before .loop .inv .0) (omega arith) (counted-as (c .before .before .before .before .before .before .before .args .need .now) (c .before .before .before .before .before .before .before .args .counts .now) (c .before .before .before .before .before .before .before .args .d) (length (c .before .before .before .before .before .before .before .args .need .now) - c .before .before .before .before .loop .left) (c .before .before .unpaired .ensures) (c .if1 .left)))
 
 returns-2 : tie.Need-returns-2 Inv-loop μ-loop
 returns-2 c = sought-end (c .before .loop .inv .1) (omega arith)
