@@ -397,8 +397,8 @@ fn seek_any(
     }
 }
 
-// Zeros from the cell `from` on.
-fn clear_pairs(pairs: &mut [u16], from: usize)
+// internal: zeros from the cell `from` on.
+pub fn clear_pairs(pairs: &mut [u16], from: usize)
     requires { ⌜ from ≤ length (now pairs) ⌝ }
     ensures { λ _. ⌜ now (pairs .exit) ≡ take from (now (pairs .entry)) ++ replicate (length (now (pairs .entry)) - from) 0 ⌝ }
 {

@@ -1,0 +1,82 @@
+-- What the second engine says of the buffers that `build` filled, in the terms of the molecule, and the ways of its calls. Assumes nothing.
+use Prim.Native.Nat.{ℕ, _-_, _≤_}
+use native.Mathlib.Omega.{arith}
+use mathlib.Core.Path.{_≡_, refl, sym, ap, _∙_}
+use mathlib.Core.Bool.{Bool, true, false, _&&_}
+use mathlib.Core.List.{List, _++_}
+use lib.ListN.{length, take, replicate}
+use lib.IntN.{ℤ}
+use lib.Dec.{leb}
+use borrow.Author.Tests.{leb-true}
+use Rattle.loops.proofs.Loops.{and-left, and-right, length-upTo}
+use Rattle.refusal.specs.declared.Refusal.the-variants.{Short, Invalid}
+use Rattle.table.specs.Limits.{maxBonds}
+use Rattle.table.specs.Valid.{Valid, valid}
+use Rattle.matching.specs.Enumeration.{Reply, rowFirst, rowCall}
+use Rattle.matching.specs.Graph.{isMatching}
+use Rattle.matching.specs.Model.{bondsOf, reply}
+use Rattle.matching.specs.declared.Answer.{Answer}
+use Rattle.matching.specs.declared.Call.the-variants.{First}
+use Rattle.table_graph.specs.Graph.{delocalizedFlags, bondOf, graphOf, matchingOf}
+use Rattle.table_graph.specs.Built.{Built}
+use Rattle.table_graph.proofs.Graph.{built-bonds, length-first, length-flags}
+use Rattle.matching_forced.specs.Forced.{forcedList}
+use Rattle.matching_forced.specs.Steps.{Roomy, FirstReply}
+use Rattle.matching_forced.proofs.Turns.{most}
+use Rattle.kekule_answers.specs.declared.Found.{Found}
+use Rattle.kekule_answers.specs.declared.Found.the-variants.{Refused}
+use Rattle.kekule_answers.specs.Answers.{foundOf}
+use Rattle.kekule.specs.Kekule.{roomy}
+use Rattle.kekule.proofs.Kekule.{cleared}
+use Rattle.kekule_forced.specs.Forced.{forcedOf, ForcedOut, forcedOut, withList, roomyList, firstForcedOn}
+
+module _ {atoms bonds : List ℤ} {n m : ℕ} {flags ea eb el : List ℕ} (b : Built atoms bonds n m flags ea eb el) where
+  graph-long : length (bondsOf (take m ea) (take m eb) (take m el)) ≡ m
+  graph-long = ap length (built-bonds b) ∙ length-upTo (bondOf bonds) 0 m
+
+  pub built-roomy : Valid atoms bonds n m → {pairs : List ℕ} → maxBonds ≤ length pairs → Roomy (take m ea) (take m eb) (take m el) (take n flags) pairs
+  built-roomy v l = record {
+    few-atoms = omega (arith, length-flags b, v .few-atoms);
+    few-bonds = omega (arith, length-first b, v .few-bonds);
+    room = omega (arith, most (bondsOf (take m ea) (take m eb) (take m el)) (take n flags), graph-long, v .few-bonds);
+  }
+
+  pub first-listed : (row pairs : List ℕ) {a : Answer} {k : ℕ} {row′ pairs′ : List ℕ} → FirstReply (bondsOf (take m ea) (take m eb) (take m el)) (take n flags) row pairs a k row′ pairs′
+      → forcedOut (foundOf a) row′ k pairs′ ≡ withList (rowCall (matchingOf atoms bonds n m) m First row) (forcedOf atoms bonds n m) (length pairs)
+  unfolding rowCall
+  first-listed row pairs {a} {k} {row′} {pairs′} f =
+      let g : reply a row′ ≡ rowFirst (matchingOf atoms bonds n m) m (length row) = f .replied ∙ simp (graph-long, built-bonds b, b .delocalized-part) in
+      let l : forcedList (bondsOf (take m ea) (take m eb) (take m el)) (take n flags) ≡ forcedOf atoms bonds n m = simp (built-bonds b, b .delocalized-part) in
+      let c : k ≡ length (forcedOf atoms bonds n m) = f .counted ∙ ap length l in
+      let p : pairs′ ≡ forcedOf atoms bonds n m ++ replicate (length pairs - length (forcedOf atoms bonds n m)) 0 = f .listed ∙ rw (l, c) in
+      rw (c, p) (ap (λ (t : Reply). withList t (forcedOf atoms bonds n m) (length pairs)) g)
+
+-- the return paths of the call for the first: 1, 13, and the engine's answer
+module _ (atoms bonds : List ℤ) (n m : ℕ) (row pairs : List ℕ) where
+  pub first-short : roomyList atoms bonds (length row) (length pairs) ≡ false → forcedOut (Refused Short) row 0 pairs ≡ firstForcedOn atoms bonds n m row pairs
+  unfolding firstForcedOn
+  first-short e = simp e
+
+  module _ (e : roomyList atoms bonds (length row) (length pairs) ≡ true) where
+    pub row-roomy : roomy atoms bonds (length row) ≡ true
+    row-roomy = and-left (roomy atoms bonds (length row)) (leb maxBonds (length pairs)) e
+
+    pub list-roomy : maxBonds ≤ length pairs
+    list-roomy = leb-true maxBonds (length pairs) (and-right (roomy atoms bonds (length row)) (leb maxBonds (length pairs)) e)
+
+    pub first-invalid : valid atoms bonds n m ≡ false → {row′ pairs′ : List ℕ} → row′ ≡ take 0 row ++ replicate (length row - 0) 0 → pairs′ ≡ take 0 pairs ++ replicate (length pairs - 0) 0
+        → forcedOut (Refused Invalid) row′ 0 pairs′ ≡ firstForcedOn atoms bonds n m row pairs
+    unfolding firstForcedOn
+    first-invalid f h k = simp (e, f) (rw (h ∙ cleared row, k ∙ cleared pairs))
+
+    pub first-done : valid atoms bonds n m ≡ true → {o : ForcedOut} → o ≡ withList (rowCall (matchingOf atoms bonds n m) m First row) (forcedOf atoms bonds n m) (length pairs) → o ≡ firstForcedOn atoms bonds n m row pairs
+    unfolding firstForcedOn
+    first-done f h = h ∙ simp (e, f)
+
+-- the test of the buffers, by what `kekule::roomy` told
+pub listed-test : {atoms bonds : List ℤ} {len listed : ℕ} {r : Bool} → r ≡ roomy atoms bonds len → (r && leb maxBonds listed) ≡ roomyList atoms bonds len listed
+listed-test {listed = listed} e = ap (λ (b : Bool). b && leb maxBonds listed) e
+
+-- the answer of the engine as an answer of the call
+pub told-as : {a : Answer} {f : Found} {row pairs : List ℕ} {k : ℕ} {o : ForcedOut} → f ≡ foundOf a → forcedOut (foundOf a) row k pairs ≡ o → forcedOut f row k pairs ≡ o
+told-as e h = rw e h
