@@ -142,12 +142,88 @@ static void forced_pairs(void) {
     expect(f.code == 13 && f.forced == 0 && all(pairs, sizeof pairs, 0), "13 zeroes the list");
 }
 
+/* The register: too short, any bytes, gaps, full at 64 entries and at byte 32,767; a refusal changes nothing. */
+static void registers(void) {
+    static uint8_t reg[BALSA_REGISTER + 3], before[sizeof reg], body[BALSA_REGISTER_BODY + 1];
+    memset(reg, 7, sizeof reg);
+    memset(before, 7, sizeof before);
+    expect(balsa_register_empty(reg, BALSA_REGISTER - 1) == 1 && balsa_register_empty(NULL, 0) == 1,
+           "a short register");
+    expect(balsa_register_add(reg, sizeof reg, 5, body, 1) == 17, "rubbish is 17");
+    expect(balsa_register_entry(reg, sizeof reg, 0).code == 17, "rubbish has no entries");
+    expect(memcmp(reg, before, sizeof reg) == 0, "1 and 17 leave the register");
+    expect(balsa_register_empty(reg, sizeof reg) == 0 && reg[0] == 1 && reg[1] == 0 &&
+           memcmp(reg + 2, before + 2, sizeof reg - 2) == 0, "emptying stores two bytes");
+    expect(balsa_register_add(reg, sizeof reg, 1, body, BALSA_REGISTER_BODY + 1) == 18, "a long body");
+    for (unsigned i = 0; i < 7; i++) {
+        expect(balsa_register_add(reg, sizeof reg, 1, body, BALSA_REGISTER_BODY) == 0, "a full body");
+    }
+    expect(balsa_register_add(reg, sizeof reg, 1, body, 3711) == 18, "past byte 32,767");
+    for (size_t k = 0; k < 3710 + 7; k++) {
+        expect(balsa_register_entry(reg, sizeof reg, 7).found == 0, "not added before the last step");
+        expect(balsa_register_step(reg, sizeof reg, 65535, body, 3710, k) == 0, "a step");
+    }
+    balsa_entry_reply e = balsa_register_entry(reg, sizeof reg, 7);
+    expect(e.code == 0 && e.found == 1 && e.tag == 65535 && e.start == 29058 && e.length == 3710,
+           "the entry up to byte 32,767");
+    for (unsigned i = 8; i < BALSA_REGISTER_ENTRIES; i++) {
+        expect(balsa_register_add(reg, sizeof reg, 2, NULL, 0) == 0, "an empty body, as null");
+    }
+    expect(balsa_register_add(reg, sizeof reg, 2, NULL, 0) == 18, "a 65th entry");
+    e = balsa_register_entry(reg, sizeof reg, SIZE_MAX);
+    expect(e.code == 0 && e.found == 0 && e.tag == 0 && e.start == 0 && e.length == 0,
+           "no entry at the largest place");
+    balsa_walk_reply w = {.next = 0};
+    for (unsigned i = 0; i < BALSA_REGISTER_ENTRIES; i++) {
+        w = balsa_register_walk(reg, sizeof reg, w.next);
+        expect(w.code == 0 && w.next == i + 1 && w.tag == (i < 7 ? 1 : i == 7 ? 65535 : 2),
+               "each entry in its turn");
+    }
+    for (unsigned i = 0; i < 3; i++) {
+        w = balsa_register_walk(reg, sizeof reg, w.next);
+        expect(w.code == BALSA_END && w.next == BALSA_REGISTER_ENTRIES && w.length == 0,
+               "the end, as often as asked");
+    }
+    w = balsa_register_walk(reg, sizeof reg, SIZE_MAX);
+    expect(w.code == BALSA_END && w.next == SIZE_MAX, "the end at the largest place");
+    w = balsa_register_walk(reg, BALSA_REGISTER - 1, 9);
+    expect(w.code == 1 && w.next == 9, "a walk of a short register");
+    reg[8]++;
+    expect(balsa_register_entry(reg, sizeof reg, 0).code == 17, "a gap between bodies");
+    w = balsa_register_walk(reg, sizeof reg, 5);
+    expect(w.code == 17 && w.next == 5, "17 at any step");
+    expect(reg[BALSA_REGISTER] == 7, "bytes past the register stay");
+}
+
+/* The report: as long as it says; one byte too few changes nothing; zeros follow it. */
+static void reports(void) {
+    static const char input[] = "c1ccccc1\nC11\n\n";
+    static const char report[] = "balsa report\n1: 0 6 6 101010 C1=CC=CC=C1\n2: 7 2\n3: 0 0 0 - -\n"
+                                 "accepted 2 refused 1\n";
+    size_t input_len = sizeof input - 1, length = sizeof report - 1;
+    const uint8_t *lines = (const uint8_t *)input;
+    expect(balsa_report_length(lines, input_len) == length, "the length of the report");
+    memset(out, 7, sizeof out);
+    balsa_report_reply r = balsa_report(lines, input_len, out, length - 1);
+    expect(r.code == 1 && r.length == 0 && all(out, sizeof out, 7), "a report that does not fit");
+    r = balsa_report(lines, input_len, NULL, 0);
+    expect(r.code == 1, "no output");
+    r = balsa_report(lines, input_len, out, length);
+    expect(r.code == 0 && r.length == length && memcmp(out, report, length) == 0, "01's sample");
+    expect(all(out + length, sizeof out - length, 7), "nothing after the output");
+    r = balsa_report(NULL, 0, out, sizeof out);
+    expect(r.code == 0 && r.length == 34, "the report of nothing");
+    expect(all(out + r.length, sizeof out - r.length, 0), "zeros after the report");
+}
+
 int main(void) {
     short_buffers();
     texts();
     invalid_tables();
     rubbish_rows();
     forced_pairs();
+    registers();
+    reports();
     printf("%u checks hold\n", checks);
     return 0;
 }

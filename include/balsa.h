@@ -9,7 +9,7 @@
  * (first end, second end, kind). Least lengths: atoms 1200, bonds 750, row 250, out 4096, ren 200.
  * n and m are the numbers of atoms and bonds in the tables.
  *
- * Codes: 0 accepted, 1 to 16 the refusals of docs/RULES.md, 255 "end" (balsa_next). Refusal 1 changes
+ * Codes: 0 accepted, 1 to 16 the refusals of docs/RULES.md, 255 "end" (balsa_next, balsa_register_walk). Refusal 1 changes
  * nothing; any other zeroes what is named as output; an acceptance zeroes the unused rest. */
 #ifndef BALSA_H
 #define BALSA_H
@@ -49,6 +49,25 @@ typedef struct {
     uint32_t code;
     size_t forced;
 } balsa_forced_reply;
+
+/* code 0 with the symbol's bytes, atomic number (0 for '*') and 1 for a selected letter; or code 3 with
+ * the place of the byte with which no symbol goes on */
+typedef struct {
+    uint32_t code;
+    size_t place;
+    size_t length;
+    uint32_t element;
+    uint32_t selected;
+} balsa_symbol_reply;
+
+/* The symbol of a bracket at two bytes; second is 0 where first is the last byte. */
+balsa_symbol_reply balsa_symbol(uint8_t first, uint8_t second);
+
+/* code 0 with the number of bytes of the report, or code 1 with length 0 */
+typedef struct {
+    uint32_t code;
+    size_t length;
+} balsa_report_reply;
 
 /* Reads a text. Output: atoms, bonds. Refusals 1 to 11. */
 balsa_read_reply balsa_read(const uint8_t *text, size_t text_len, int32_t *atoms, size_t atoms_len,
@@ -99,6 +118,71 @@ balsa_forced_reply balsa_first_forced(const int32_t *atoms, size_t atoms_len, co
 /* As balsa_next. Output: row. Refusals 1, 13, 12. */
 uint32_t balsa_next_forced(const int32_t *atoms, size_t atoms_len, const int32_t *bonds,
                            size_t bonds_len, size_t n, size_t m, uint8_t *row, size_t row_len);
+
+/* The report of the lines of an input, as the program `report` writes it (docs/RULES.md). Output: out; the
+ * bytes after the report are zeroed. Refusal 1 where the report does not fit: nothing changes. */
+balsa_report_reply balsa_report(const uint8_t *input, size_t input_len, uint8_t *out, size_t out_len);
+
+/* How many bytes the report of an input has. SIZE_MAX stands for that number and all larger ones, which
+ * no buffer has. */
+size_t balsa_report_length(const uint8_t *input, size_t input_len);
+
+/* ---- A register of entries, each a tag and a body, that survives a power cut ----
+ *
+ * A register is at least 32,768 bytes that the caller lends (what is beyond is neither looked at nor
+ * changed): byte 0 is 1, byte 1 the number of entries, then 64 entries of 6 bytes (start, length and
+ * tag, low byte first), then from byte 386 the bodies back to back. At most 64 entries; a body has at
+ * most 4,096 bytes and ends at byte 32,767 or before. Any bytes may stand in a register that is lent.
+ *
+ * Codes: 0 done; 1 the register is too short; 17 its layout breaks a rule; 18 no room for the body.
+ * They are checked in this order, and a refusal leaves the register as it was. */
+
+enum {
+    BALSA_REGISTER = 32768,
+    BALSA_REGISTER_ENTRIES = 64,
+    BALSA_REGISTER_BODY = 4096
+};
+
+/* code 0 with found 1, the tag and where the body stands; code 0 with found 0 where there is no such
+ * entry; or a refusal's code. What is not named is 0. */
+typedef struct {
+    uint32_t code;
+    uint32_t found;
+    uint16_t tag;
+    size_t start;
+    size_t length;
+} balsa_entry_reply;
+
+/* Empties a register, whatever stands in it: stores bytes 0 and 1, no more. Refusal 1. */
+uint32_t balsa_register_empty(uint8_t *reg, size_t reg_len);
+
+/* Adds an entry: all the steps of balsa_register_step, in order. Refusals 1, 17, 18. */
+uint32_t balsa_register_add(uint8_t *reg, size_t reg_len, uint16_t tag, const uint8_t *body,
+                            size_t body_len);
+
+/* Step k of adding: stores at most one byte. The body comes first, then the entry, and byte 1 with
+ * step body_len + 6, the last; past it nothing changes. Made in order from 0 on, the register lists
+ * after every step the old entries, or after the last one those and the new one: power may go after
+ * any of them. Refusals 1, 17, 18. */
+uint32_t balsa_register_step(uint8_t *reg, size_t reg_len, uint16_t tag, const uint8_t *body,
+                             size_t body_len, size_t k);
+
+/* The entry at a place counted from 0. Refusals 1, 17. */
+balsa_entry_reply balsa_register_entry(const uint8_t *reg, size_t reg_len, size_t place);
+
+/* code 0 with an entry's tag, where its body stands and the place of the next step; or 255 past the
+ * last entry, or a refusal's code, with next as it was handed in. What is not named is 0. */
+typedef struct {
+    uint32_t code;
+    uint16_t tag;
+    size_t start;
+    size_t length;
+    size_t next;
+} balsa_walk_reply;
+
+/* A step of a walk from a place, 0 at the start: each entry once, in order, and then 255 as often as
+ * it is asked. Refusals 1, 17. */
+balsa_walk_reply balsa_register_walk(const uint8_t *reg, size_t reg_len, size_t place);
 
 #ifdef __cplusplus
 }

@@ -1,1 +1,4 @@
 pub mod Capi
+pub mod Symbol
+pub mod Registers
+pub mod Reporting

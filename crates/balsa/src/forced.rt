@@ -1,10 +1,8 @@
 // The calls of the second engine (02, P9) for C and Rust.
 ghost use mathlib.Core.Path.{_≡_};
 ghost use Rattle.matching.specs.declared.Call.the-variants.{Next};
-ghost use Rattle.kekule.specs.Kekule.{callOn};
-ghost use Rattle.kekule_forced.specs.Forced.{firstForcedOn};
-ghost use Rattle.balsa.specs.Capi.{rowOut, rowOutOf};
-ghost use Rattle.balsa.specs.Forced.{forcedReplied, forcedRepliedOf};
+ghost use Rattle.kekule.specs.Kekule.{rowOut, callOn};
+ghost use Rattle.kekule_forced.specs.Forced.{forcedOut, firstForcedOn};
 use kekule_answers::found_code;
 
 // What the call for the first hands back: code 0 with how many pairs are forced, or the refusal's code with 0.
@@ -24,7 +22,7 @@ pub extern "C" fn balsa_first_forced(
     row: &mut [u8],
     pairs: &mut [u16],
 ) -> ForcedReply
-    ensures { λ r. ⌜ forcedReplied (r .code) (r .forced) (now (row .exit)) (now (pairs .exit)) ≡ forcedRepliedOf (firstForcedOn (now (atoms .entry)) (now (bonds .entry)) n m (now (row .entry)) (now (pairs .entry))) ⌝ }
+    ensures { λ r. ⌜ forcedOut (r .code) (now (row .exit)) (r .forced) (now (pairs .exit)) ≡ firstForcedOn (now (atoms .entry)) (now (bonds .entry)) n m (now (row .entry)) (now (pairs .entry)) ⌝ }
 {
     let first = kekule_forced::first_forced(atoms, bonds, n, m, row, pairs);
     let found = first.found;
@@ -43,7 +41,7 @@ pub extern "C" fn balsa_next_forced(
     m: usize,
     row: &mut [u8],
 ) -> u32
-    ensures { λ r. ⌜ rowOut r (now (row .exit)) ≡ rowOutOf (callOn Next (now (atoms .entry)) (now (bonds .entry)) n m (now (row .entry))) ⌝ }
+    ensures { λ r. ⌜ rowOut r (now (row .exit)) ≡ callOn Next (now (atoms .entry)) (now (bonds .entry)) n m (now (row .entry)) ⌝ }
 {
     found_code(kekule_forced::next_forced(atoms, bonds, n, m, row)) as u32
 }

@@ -1,18 +1,21 @@
 // The public calls for C and Rust: slices, counts and numbers in, codes out.
 ghost use mathlib.Core.Path.{_≡_};
-ghost use Rattle.kekule_answers.specs.Answers.{askedCode};
 ghost use Rattle.matching.specs.declared.Call.the-variants.{First, Next};
-ghost use Rattle.kekule.specs.Kekule.{callOn, askedOf, kekulizedOf};
-ghost use Rattle.kekule.specs.Calls.{replayedOf};
-ghost use Rattle.table.specs.Valid.{checkOf};
+ghost use Rattle.kekule.specs.Kekule.{rowOut, callOn, askedOf, tablesOut, kekulizedOf};
+ghost use Rattle.kekule.specs.Calls.{replayOut, replayedOf};
+ghost use Rattle.table.specs.Valid.{checkCode, checkOf};
 ghost use Rattle.reading.specs.Read.{readOf};
 ghost use Rattle.writing.specs.Write.{writeOf};
-ghost use Rattle.balsa.specs.Capi.{readReplyOf, readOut, writeReplyOf, writeOut, checkCode, rowOut, rowOutOf, tablesOut, tablesOutOf, replayOut, replayOutOf};
-use kekule_answers::asked_code;
+ghost use Rattle.balsa.specs.Capi.{readReplyOf, readOut, writeReplyOf, writeOut};
 use kekule_answers::found_code;
 use reader::ending::Answer;
 use table::Check;
 use writer::Written;
+
+pub mod forced;
+mod register_calls;
+pub mod reporting;
+pub mod symbol;
 
 // What reading hands back: code 0 with the counts of atoms and bonds, or the refusal's code with its offset.
 #[repr(C)]
@@ -99,7 +102,7 @@ fn check_code(c: Check) -> u32
 // Whether the tables can be worked with: 0, 1 or 13.
 #[no_mangle]
 pub extern "C" fn balsa_check(atoms: &[i32], bonds: &[i32], n: usize, m: usize) -> u32
-    ensures { λ r. ⌜ r ≡ checkCode (checkOf (now (atoms .entry)) (now (bonds .entry)) n m) ⌝ }
+    ensures { λ r. ⌜ r ≡ checkOf (now (atoms .entry)) (now (bonds .entry)) n m ⌝ }
 {
     check_code(table_validity::check_tables(atoms, bonds, n, m))
 }
@@ -113,7 +116,7 @@ pub extern "C" fn balsa_first(
     m: usize,
     row: &mut [u8],
 ) -> u32
-    ensures { λ r. ⌜ rowOut r (now (row .exit)) ≡ rowOutOf (callOn First (now (atoms .entry)) (now (bonds .entry)) n m (now (row .entry))) ⌝ }
+    ensures { λ r. ⌜ rowOut r (now (row .exit)) ≡ callOn First (now (atoms .entry)) (now (bonds .entry)) n m (now (row .entry)) ⌝ }
 {
     found_code(kekule::first(atoms, bonds, n, m, row)) as u32
 }
@@ -127,12 +130,12 @@ pub extern "C" fn balsa_next(
     m: usize,
     row: &mut [u8],
 ) -> u32
-    ensures { λ r. ⌜ rowOut r (now (row .exit)) ≡ rowOutOf (callOn Next (now (atoms .entry)) (now (bonds .entry)) n m (now (row .entry))) ⌝ }
+    ensures { λ r. ⌜ rowOut r (now (row .exit)) ≡ callOn Next (now (atoms .entry)) (now (bonds .entry)) n m (now (row .entry)) ⌝ }
 {
     found_code(kekule::next(atoms, bonds, n, m, row)) as u32
 }
 
-// Whether the row is a matching: 0, 12 for no, 1 or 13.
+// Whether the row is a matching: 0, 1, 13, or 12 if it is none.
 #[no_mangle]
 pub extern "C" fn balsa_is_matching(
     atoms: &[i32],
@@ -141,9 +144,9 @@ pub extern "C" fn balsa_is_matching(
     m: usize,
     row: &[u8],
 ) -> u32
-    ensures { λ r. ⌜ r ≡ askedCode (askedOf (now (atoms .entry)) (now (bonds .entry)) n m (now (row .entry))) ⌝ }
+    ensures { λ r. ⌜ r ≡ askedOf (now (atoms .entry)) (now (bonds .entry)) n m (now (row .entry)) ⌝ }
 {
-    asked_code(kekule::is_matching(atoms, bonds, n, m, row))
+    check_code(kekule::is_matching(atoms, bonds, n, m, row))
 }
 
 // Kekulizes the tables by the row: 0, 1, 13 or 12.
@@ -155,7 +158,7 @@ pub extern "C" fn balsa_kekulize(
     m: usize,
     row: &[u8],
 ) -> u32
-    ensures { λ r. ⌜ tablesOut r (now (atoms .exit)) (now (bonds .exit)) ≡ tablesOutOf (kekulizedOf (now (atoms .entry)) (now (bonds .entry)) n m (now (row .entry))) ⌝ }
+    ensures { λ r. ⌜ tablesOut r (now (atoms .exit)) (now (bonds .exit)) ≡ kekulizedOf (now (atoms .entry)) (now (bonds .entry)) n m (now (row .entry)) ⌝ }
 {
     check_code(kekule::kekulize(atoms, bonds, n, m, row))
 }
@@ -172,7 +175,7 @@ pub extern "C" fn balsa_replay(
     row: &mut [u8],
     codes: &mut [u8],
 ) -> u32
-    ensures { λ r. ⌜ replayOut r (now (row .exit)) (now (codes .exit)) ≡ replayOutOf (replayedOf (now (calls .entry)) (now (atoms .entry)) (now (bonds .entry)) n m (now (row .entry)) (now (codes .entry))) ⌝ }
+    ensures { λ r. ⌜ replayOut r (now (row .exit)) (now (codes .exit)) ≡ replayedOf (now (calls .entry)) (now (atoms .entry)) (now (bonds .entry)) n m (now (row .entry)) (now (codes .entry)) ⌝ }
 {
     check_code(kekule::replay(calls, atoms, bonds, n, m, row, codes))
 }

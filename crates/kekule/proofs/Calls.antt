@@ -11,7 +11,6 @@ use borrow.Author.Tests.{le-leb, lt-leb}
 use lib.IntN.{ℤ}
 use Rattle.loops.specs.Loop.{pick, run}
 use Rattle.loops.proofs.Loops.{and-left, length-upTo, Ran, ran-start, ran-step}
-use Rattle.refusal.specs.declared.Refusal.the-variants.{Short, Invalid}
 use Rattle.table.specs.Valid.{valid}
 use Rattle.table.proofs.Valid.{facts}
 use Rattle.matching.specs.Enumeration.{Row, matchings, isRow, orZeroed, zeroed, rowCall, rowReplies}
@@ -23,18 +22,10 @@ use Rattle.matching.specs.declared.Call.the-variants.{First, Next}
 use Rattle.matching.proofs.Enumeration.{first-matching, row-length, after}
 use Rattle.matching.proofs.Graph.{enumeration-agrees}
 use Rattle.table_graph.specs.Graph.{delocalizedFlags, bondOf, graphOf, matchingOf}
-use Rattle.table.specs.declared.Check.the-variants.{Fine, Refused as checkRefused}
-use Rattle.kekule_answers.specs.declared.Found.{Found}
-use Rattle.kekule_answers.specs.declared.Found.the-variants.{Refused}
-use Rattle.kekule_answers.specs.Answers.{foundCode, callOf}
-use Rattle.kekule.specs.Kekule.{Out, out, outOf, roomy, callOn}
-use Rattle.kekule.specs.Calls.{repliesOf, codesOf, lastRow, State, state, callStep, ranOf, replayed, replayedOf}
+use Rattle.kekule_answers.specs.Answers.{callOf}
+use Rattle.kekule.specs.Kekule.{Out, rowOut, outOf, roomy, callOn}
+use Rattle.kekule.specs.Calls.{repliesOf, turns, codesOf, lastRow, State, state, callStep, ranOf, replayOut, replayedOf, Replays}
 use Rattle.kekule.proofs.Kekule.{row-room}
-
--- the answers to the calls, each seeing its row alone
-unfoldable pub turns : (Call → List ℕ → Out) → List Call → List ℕ → List Out
-turns f [] row = []
-turns f (c ∷ cs) row = let o = f c row in o ∷ turns f cs (o .row)
 
 length-turns : (f : Call → List ℕ → Out) (cs : List Call) (row : List ℕ) → length (turns f cs row) ≡ length cs
 unfolding turns
@@ -50,7 +41,7 @@ module _ (f : Call → List ℕ → Out) (calls : List ℕ) where
   from (c ∷ cs) k row codes e h =
       let q : getD calls k 0 ≡ c = rw (add-zero k) at (e 0 (omega arith)) in
       let o = f (callOf c) row in
-      let v = foundCode (o .found) in
+      let v = o .code in
       let h2 : suc k + length cs ≤ length (set codes k v) = simp length-set (omega arith) in
       let i : k < length codes = omega arith in
       let j : k < suc k + length cs = omega arith in
@@ -87,16 +78,16 @@ module _ (atoms bonds : List ℤ) (n m : ℕ) where
   on c row = callOn c atoms bonds n m row
 
   -- too short: every call gives 1, and nothing changes
-  short-turns : (cs : List Call) (row : List ℕ) → roomy atoms bonds (length row) ≡ false → turns on cs row ≡ map (λ c. out (Refused Short) row) cs
+  short-turns : (cs : List Call) (row : List ℕ) → roomy atoms bonds (length row) ≡ false → turns on cs row ≡ map (λ c. rowOut 1 row) cs
   unfolding turns callOn
   short-turns [] row e = refl
-  short-turns (c ∷ cs) row e = rw e (ap (λ (os : List Out). out (Refused Short) row ∷ os) (short-turns cs row e))
+  short-turns (c ∷ cs) row e = rw e (ap (λ (os : List Out). rowOut 1 row ∷ os) (short-turns cs row e))
 
   -- not valid: every call gives 13 and a zeroed row
-  invalid-turns : (cs : List Call) (len : ℕ) (row : List ℕ) → length row ≡ len → roomy atoms bonds len ≡ true → valid atoms bonds n m ≡ false → turns on cs row ≡ map (λ c. out (Refused Invalid) (replicate len 0)) cs
+  invalid-turns : (cs : List Call) (len : ℕ) (row : List ℕ) → length row ≡ len → roomy atoms bonds len ≡ true → valid atoms bonds n m ≡ false → turns on cs row ≡ map (λ c. rowOut 13 (replicate len 0)) cs
   unfolding turns callOn
   invalid-turns [] len row l e f = refl
-  invalid-turns (c ∷ cs) len row l e f = rw (l, e, f) (ap (λ (os : List Out). out (Refused Invalid) (replicate len 0) ∷ os) (invalid-turns cs len (replicate len 0) (length-replicate len 0) e f))
+  invalid-turns (c ∷ cs) len row l e f = rw (l, e, f) (ap (λ (os : List Out). rowOut 13 (replicate len 0) ∷ os) (invalid-turns cs len (replicate len 0) (length-replicate len 0) e f))
 
   -- valid: the answers of the row machine
   valid-turns : (cs : List Call) (len : ℕ) (row : List ℕ) → length row ≡ len → m ≤ len → roomy atoms bonds len ≡ true → valid atoms bonds n m ≡ true → turns on cs row ≡ map outOf (rowReplies (matchingOf atoms bonds n m) m cs row)
@@ -117,7 +108,7 @@ calls-enumerated cs atoms bonds n m row = go (roomy atoms bonds (length row)) (v
     flags = delocalizedFlags atoms bonds n m
 
     go : (x y : Bool) → roomy atoms bonds (length row) ≡ x → valid atoms bonds n m ≡ y
-        → turns (λ c r. callOn c atoms bonds n m r) cs row ≡ pick x (pick y (map outOf (enumeration flags (graphOf bonds m) cs row)) (map (λ c. out (Refused Invalid) (replicate (length row) 0)) cs)) (map (λ c. out (Refused Short) row) cs)
+        → turns (λ c r. callOn c atoms bonds n m r) cs row ≡ pick x (pick y (map outOf (enumeration flags (graphOf bonds m) cs row)) (map (λ c. rowOut 13 (replicate (length row) 0)) cs)) (map (λ c. rowOut 1 row) cs)
     go false y e q = short-turns atoms bonds n m cs row e
     go true false e q = invalid-turns atoms bonds n m cs (length row) row refl e q
     go true true e q =
@@ -135,21 +126,21 @@ pub record Calling (f : Call → List ℕ → Out) (calls row₀ codes₀ : List
 pub calling-start : {f : Call → List ℕ → Out} {calls row codes : List ℕ} → Calling f calls row codes 0 row codes
 calling-start = record { ran = ran-start; row-same = refl; codes-same = refl }
 
-pub calling-step : {f : Call → List ℕ → Out} {calls row₀ codes₀ : List ℕ} {i : ℕ} {row codes row′ : List ℕ} {a : Found} {c : Call} {k : ℕ} → Calling f calls row₀ codes₀ i row codes → i < length calls
-    → c ≡ callOf (getD calls i 0) → out a row′ ≡ f c row → length row′ ≡ length row → k ≡ foundCode a → Calling f calls row₀ codes₀ (i + 1) row′ (set codes i k)
-calling-step {f} {calls} {i = i} {row} {codes} {row′} {a} {c} {k} w h e g l q =
+pub calling-step : {f : Call → List ℕ → Out} {calls row₀ codes₀ : List ℕ} {i : ℕ} {row codes row′ : List ℕ} {c : Call} {a k : ℕ} → Calling f calls row₀ codes₀ i row codes → i < length calls
+    → c ≡ callOf (getD calls i 0) → rowOut a row′ ≡ f c row → length row′ ≡ length row → k ≡ a → Calling f calls row₀ codes₀ (i + 1) row′ (set codes i k)
+calling-step {f} {calls} {i = i} {row} {codes} {row′} {c} {k = k} w h e g l q =
     let s : state row′ (set codes i k) ≡ callStep f calls i (state row codes) =
-    ap (λ (x : ℕ). state row′ (set codes i x)) q ∙ ap (λ (o : Out). state (o .row) (set codes i (foundCode (o .found)))) (g ∙ ap (λ (d : Call). f d row) e) in
+    ap (λ (x : ℕ). state row′ (set codes i x)) q ∙ ap (λ (o : Out). state (o .row) (set codes i (o .code))) (g ∙ ap (λ (d : Call). f d row) e) in
     record { ran = ran-step (w .ran) (state row′ (set codes i k)) h s; row-same = l ∙ w .row-same; codes-same = length-set codes i k ∙ w .codes-same }
 
 -- the two return paths of a list of calls
 module _ (calls : List ℕ) (atoms bonds : List ℤ) (n m : ℕ) (row codes : List ℕ) where
-  pub replay-short : length codes < length calls → replayed (checkRefused Short) row codes ≡ replayedOf calls atoms bonds n m row codes
+  pub replay-short : length codes < length calls → Replays calls atoms bonds n m row codes (replayOut 1 row codes)
   unfolding replayedOf
-  replay-short h = simp (lt-leb (length calls) (length codes) h)
+  replay-short h = record { each = calls-enumerated (map callOf calls) atoms bonds n m row; handed = simp (lt-leb (length calls) (length codes) h) }
 
   pub replay-done : {row′ codes₁ codes₂ : List ℕ} → length calls ≤ length codes → state row′ codes₁ ≡ ranOf calls atoms bonds n m row codes → length codes₁ ≡ length codes
-      → codes₂ ≡ take (length calls) codes₁ ++ replicate (length codes₁ - length calls) 0 → replayed Fine row′ codes₂ ≡ replayedOf calls atoms bonds n m row codes
+      → codes₂ ≡ take (length calls) codes₁ ++ replicate (length codes₁ - length calls) 0 → Replays calls atoms bonds n m row codes (replayOut 0 row′ codes₂)
   unfolding replayedOf ranOf
   replay-done {row′} {codes₁} {codes₂} h e l z =
       let os = turns (λ c r. callOn c atoms bonds n m r) (map callOf calls) row in
@@ -158,4 +149,18 @@ module _ (calls : List ℕ) (atoms bonds : List ℤ) (n m : ℕ) (row codes : Li
       let k : length (codesOf os) ≡ length calls = length-map os _ ∙ length-turns (λ c r. callOn c atoms bonds n m r) (map callOf calls) row ∙ length-map calls callOf in
       let c2 : codes₂ ≡ codesOf os ++ replicate (length codes - length calls) 0 = z ∙ rw l (ap (λ (x : List ℕ). x ++ replicate (length codes - length calls) 0) (ap (take (length calls)) c1 ∙ take-at (codesOf os) (drop (length calls) codes) (length calls) k)) in
       let q = calls-enumerated (map callOf calls) atoms bonds n m row in
-      simp (le-leb (length calls) (length codes) h, ← q) (ap₂ (replayed Fine) (ap (λ (s : State). s .row) t) c2)
+      record { each = q; handed = simp (le-leb (length calls) (length codes) h, ← q) (ap₂ (replayOut 0) (ap (λ (s : State). s .row) t) c2) }
+
+  -- 01: "If a table or the row is too short, every call gives 1 and nothing changes"
+  pub short-codes : roomy atoms bonds (length row) ≡ false → length calls ≤ length codes
+      → replayedOf calls atoms bonds n m row codes ≡ replayOut 0 row (replicate (length calls) 1 ++ replicate (length codes - length calls) 0)
+  unfolding replayedOf repliesOf lastRow
+  short-codes e h = simp (e, le-leb (length calls) (length codes) h) (ap₂ (replayOut 0) (same calls) (ap (λ (l : List ℕ). l ++ replicate (length codes - length calls) 0) (ones calls)))
+    where
+      same : (cs : List ℕ) → lastRow row (map (λ c. rowOut 1 row) (map callOf cs)) ≡ row
+      same [] = refl
+      same (c ∷ cs) = same cs
+
+      ones : (cs : List ℕ) → codesOf (map (λ c. rowOut 1 row) (map callOf cs)) ≡ replicate (length cs) 1
+      ones [] = refl
+      ones (c ∷ cs) = ap (λ (l : List ℕ). 1 ∷ l) (ones cs)

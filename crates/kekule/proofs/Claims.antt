@@ -9,7 +9,6 @@ use lib.ListN.{length, take, replicate}
 use lib.IntN.{ℤ}
 use Rattle.loops.specs.Loop.{pick}
 use Rattle.loops.proofs.Loops.{length-upTo}
-use Rattle.refusal.specs.declared.Refusal.the-variants.{Short, NoMatching, Invalid}
 use Rattle.table.specs.Valid.{Valid, valid}
 use Rattle.table.proofs.Valid.{facts-back}
 use Rattle.matching.specs.Enumeration.{Row, matchings, cursorAt, fill, given, zeroed, orZeroed, rowCall}
@@ -22,17 +21,16 @@ use Rattle.matching.specs.declared.Call.the-variants.{First, Next}
 use Rattle.matching.proofs.Calls.{whole-list, first-none, none-first, next-present}
 use Rattle.matching.proofs.Claims.{empty-iff}
 use Rattle.table_graph.specs.Graph.{delocalizedFlags, bondOf, graphOf, matchingOf, matchable}
-use Rattle.kekule_answers.specs.declared.Found.the-variants.{Given, End, Refused}
-use Rattle.kekule_answers.specs.Answers.{foundOf}
-use Rattle.kekule.specs.Kekule.{Out, out, outOf, roomy, callOn}
+use Rattle.kekule_answers.specs.Answers.{foundOf, foundCode}
+use Rattle.kekule.specs.Kekule.{Out, rowOut, outOf, roomy, callOn}
 use Rattle.kekule.specs.Calls.{repliesOf}
 
 -- only the answer "absent" is told as 11
-absent : (a : Answer) → foundOf a ≡ Refused NoMatching → a ≡ Absent
-absent answerGiven e = cc
+absent : (a : Answer) → foundCode (foundOf a) ≡ 11 → a ≡ Absent
+absent answerGiven e = absurd (omega arith)
 absent Absent e = refl
-absent answerRefused e = cc
-absent Ended e = cc
+absent answerRefused e = absurd (omega arith)
+absent Ended e = absurd (omega arith)
 
 module _ {atoms bonds : List ℤ} {n m : ℕ} (v : Valid atoms bonds n m) (row : List ℕ) (h : roomy atoms bonds (length row) ≡ true) where
   -- a call on valid tables is answered by the row machine
@@ -40,49 +38,49 @@ module _ {atoms bonds : List ℤ} {n m : ℕ} (v : Valid atoms bonds n m) (row :
   unfolding callOn
   valid-call c = simp (h, facts-back v)
 
-  valid-found : (c : Call) → callOn c atoms bonds n m row .found ≡ foundOf (rowCall (matchingOf atoms bonds n m) m c row .answer)
-  valid-found c = ap (λ (o : Out). o .found) (valid-call c)
+  valid-code : (c : Call) → callOn c atoms bonds n m row .code ≡ foundCode (foundOf (rowCall (matchingOf atoms bonds n m) m c row .answer))
+  valid-code c = ap (λ (o : Out). o .code) (valid-call c)
 
   graph-length : length (graphOf bonds m) ≡ m
   graph-length = length-upTo (bondOf bonds) 0 m
 
   -- asking for the first gives a matching exactly if the molecule has one, else 11
-  pub first-matchable : callOn First atoms bonds n m row .found ≡ pick (matchable atoms bonds n m) Given (Refused NoMatching)
+  pub first-matchable : callOn First atoms bonds n m row .code ≡ pick (matchable atoms bonds n m) 0 11
   unfolding matchable rowCall
-  first-matchable = valid-found First ∙ go (matchings (matchingOf atoms bonds n m) m)
+  first-matchable = valid-code First ∙ go (matchings (matchingOf atoms bonds n m) m)
     where
-      go : (es : List Row) → foundOf (orZeroed (length row) Absent es .answer) ≡ pick (some? es) Given (Refused NoMatching)
+      go : (es : List Row) → foundCode (foundOf (orZeroed (length row) Absent es .answer)) ≡ pick (some? es) 0 11
       go [] = refl
       go (r ∷ es) = refl
 
   -- 11 exactly if no set of induced bonds has each delocalized atom as an end of exactly one
-  pub first-none-iff : (callOn First atoms bonds n m row .found ≡ Refused NoMatching) ↔ ((S : ℕ → Bool) → Pairs (delocalizedFlags atoms bonds n m) (graphOf bonds m) S → ⊥)
+  pub first-none-iff : (callOn First atoms bonds n m row .code ≡ 11) ↔ ((S : ℕ → Bool) → Pairs (delocalizedFlags atoms bonds n m) (graphOf bonds m) S → ⊥)
   first-none-iff =
       let p = matchingOf atoms bonds n m in
       let sets = empty-iff (delocalizedFlags atoms bonds n m) (graphOf bonds m) in (
-        λ e. sets .0 (ap (matchings p) graph-length ∙ first-none p m row (absent (rowCall p m First row .answer) (sym (valid-found First) ∙ e))),
-        λ k. valid-found First ∙ ap foundOf (none-first p m row (ap (matchings p) (sym graph-length) ∙ sets .1 k)),
+        λ e. sets .0 (ap (matchings p) graph-length ∙ first-none p m row (absent (rowCall p m First row .answer) (sym (valid-code First) ∙ e))),
+        λ k. valid-code First ∙ ap (λ a. foundCode (foundOf a)) (none-first p m row (ap (matchings p) (sym graph-length) ∙ sets .1 k)),
       )
 
   -- the first and then the next, as often as there are matchings, give each matching in order and then "end"
   pub all-given : (e : Row) (rest : List Row) → matchings (matchingOf atoms bonds n m) m ≡ e ∷ rest
-      → repliesOf (First ∷ replicate (length (e ∷ rest)) Next) atoms bonds n m row ≡ map (λ r. out Given (fill (length row) r)) (e ∷ rest) ++ (out End (replicate (length row) 0) ∷ [])
+      → repliesOf (First ∷ replicate (length (e ∷ rest)) Next) atoms bonds n m row ≡ map (λ r. rowOut 0 (fill (length row) r)) (e ∷ rest) ++ (rowOut 255 (replicate (length row) 0) ∷ [])
   unfolding repliesOf enumeration
   all-given e rest q =
       let es = matchings (matchingOf atoms bonds n m) (length (graphOf bonds m)) in
       let k : es ≡ e ∷ rest = ap (matchings (matchingOf atoms bonds n m)) graph-length ∙ q in
       simp (h, facts-back v, k) (ap (map outOf) (whole-list (length row) (afterZero (delocalizedFlags atoms bonds n m) (e ∷ rest)) e rest _) ∙ outs (length row) (e ∷ rest))
     where
-      outs : (len : ℕ) (es : List Row) → map outOf (map (given len) es ++ (zeroed len Ended ∷ [])) ≡ map (λ r. out Given (fill len r)) es ++ (out End (replicate len 0) ∷ [])
+      outs : (len : ℕ) (es : List Row) → map outOf (map (given len) es ++ (zeroed len Ended ∷ [])) ≡ map (λ r. rowOut 0 (fill len r)) es ++ (rowOut 255 (replicate len 0) ∷ [])
       outs len [] = refl
-      outs len (r ∷ es) = ap (λ (l : List Out). out Given (fill len r) ∷ l) (outs len es)
+      outs len (r ∷ es) = ap (λ (l : List Out). rowOut 0 (fill len r) ∷ l) (outs len es)
 
 -- asking for the next never gives 11, whatever the tables and the row
-pub next-never-none : (atoms bonds : List ℤ) (n m : ℕ) (row : List ℕ) → callOn Next atoms bonds n m row .found ≡ Refused NoMatching → ⊥
+pub next-never-none : (atoms bonds : List ℤ) (n m : ℕ) (row : List ℕ) → callOn Next atoms bonds n m row .code ≡ 11 → ⊥
 unfolding callOn
 next-never-none atoms bonds n m row = go (roomy atoms bonds (length row)) (valid atoms bonds n m)
   where
-    go : (x y : Bool) → pick x (pick y (outOf (rowCall (matchingOf atoms bonds n m) m Next row)) (out (Refused Invalid) (replicate (length row) 0))) (out (Refused Short) row) .found ≡ Refused NoMatching → ⊥
-    go false y e = let z : _≡_ {A = ℕ} 0 1 = cc in omega arith
-    go true false e = let z : _≡_ {A = ℕ} 0 1 = cc in omega arith
+    go : (x y : Bool) → pick x (pick y (outOf (rowCall (matchingOf atoms bonds n m) m Next row)) (rowOut 13 (replicate (length row) 0))) (rowOut 1 row) .code ≡ 11 → ⊥
+    go false y e = omega arith
+    go true false e = omega arith
     go true true e = let p = matchingOf atoms bonds n m in next-present p m row (absent (rowCall p m Next row .answer) e)

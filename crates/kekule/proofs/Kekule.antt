@@ -20,10 +20,7 @@ use Rattle.matching_search.proofs.Reply.{matching-all}
 use Rattle.table_graph.specs.Graph.{matchingOf}
 use Rattle.table_graph.specs.Built.{Built}
 use Rattle.table_graph.proofs.Graph.{built-bonds, length-first}
-use Rattle.refusal.specs.declared.Refusal.the-variants.{Short, NotMatching, Invalid}
-use Rattle.table.specs.declared.Check.the-variants.{Refused as checkRefused}
-use Rattle.kekule_answers.specs.declared.Found.the-variants.{Refused}
-use Rattle.kekule.specs.Kekule.{Out, out, outOf, roomy, callOn, isMatchingOf, Tables, tables, kekulized, kekulizedOf}
+use Rattle.kekule.specs.Kekule.{Out, rowOut, outOf, roomy, callOn, isMatchingOf, Tables, tablesOut, kekulized, kekulizedOf}
 
 module _ {atoms bonds : List ℤ} {n m : ℕ} {flags ea eb el : List ℕ} (b : Built atoms bonds n m flags ea eb el) where
   pub first-built : (c : Call) (row : List ℕ) {g : Reply} → c ≡ First → g ≡ rowFirst (isMatching (take n flags) (bondsOf (take m ea) (take m eb) (take m el))) (length (take m ea)) (length row)
@@ -56,13 +53,13 @@ row-room atoms bonds n m len h v = omega (arith, leb-true maxBonds len (and-left
 
 -- the return paths of a call: 1, 13, and the search's answer
 module _ (c : Call) (atoms bonds : List ℤ) (n m : ℕ) (row : List ℕ) where
-  pub call-short : roomy atoms bonds (length row) ≡ false → out (Refused Short) row ≡ callOn c atoms bonds n m row
+  pub call-short : roomy atoms bonds (length row) ≡ false → rowOut 1 row ≡ callOn c atoms bonds n m row
   unfolding callOn
   call-short e = simp e
 
-  pub call-invalid : {row′ : List ℕ} → roomy atoms bonds (length row) ≡ true → valid atoms bonds n m ≡ false → row′ ≡ take 0 row ++ replicate (length row - 0) 0 → out (Refused Invalid) row′ ≡ callOn c atoms bonds n m row
+  pub call-invalid : {row′ : List ℕ} → roomy atoms bonds (length row) ≡ true → valid atoms bonds n m ≡ false → row′ ≡ take 0 row ++ replicate (length row - 0) 0 → rowOut 13 row′ ≡ callOn c atoms bonds n m row
   unfolding callOn
-  call-invalid e f h = simp (e, f, h) (ap (out (Refused Invalid)) (cleared row))
+  call-invalid e f h = simp (e, f, h) (ap (rowOut 13) (cleared row))
 
   pub call-done : {o : Out} → roomy atoms bonds (length row) ≡ true → valid atoms bonds n m ≡ true → o ≡ outOf (rowCall (matchingOf atoms bonds n m) m c row) → o ≡ callOn c atoms bonds n m row
   unfolding callOn
@@ -70,15 +67,15 @@ module _ (c : Call) (atoms bonds : List ℤ) (n m : ℕ) (row : List ℕ) where
 
 -- the return paths of kekulizing: 1, 13, 12, and the tables kekulized
 module _ (atoms bonds : List ℤ) (n m : ℕ) (row : List ℕ) where
-  pub kekulize-short : roomy atoms bonds (length row) ≡ false → tables (checkRefused Short) atoms bonds ≡ kekulizedOf atoms bonds n m row
+  pub kekulize-short : roomy atoms bonds (length row) ≡ false → tablesOut 1 atoms bonds ≡ kekulizedOf atoms bonds n m row
   unfolding kekulizedOf
   kekulize-short e = simp e
 
-  pub kekulize-invalid : roomy atoms bonds (length row) ≡ true → valid atoms bonds n m ≡ false → tables (checkRefused Invalid) atoms bonds ≡ kekulizedOf atoms bonds n m row
+  pub kekulize-invalid : roomy atoms bonds (length row) ≡ true → valid atoms bonds n m ≡ false → tablesOut 13 atoms bonds ≡ kekulizedOf atoms bonds n m row
   unfolding kekulizedOf
   kekulize-invalid e f = simp (e, f)
 
-  pub kekulize-wrong : roomy atoms bonds (length row) ≡ true → valid atoms bonds n m ≡ true → isMatchingOf atoms bonds n m row ≡ false → tables (checkRefused NotMatching) atoms bonds ≡ kekulizedOf atoms bonds n m row
+  pub kekulize-wrong : roomy atoms bonds (length row) ≡ true → valid atoms bonds n m ≡ true → isMatchingOf atoms bonds n m row ≡ false → tablesOut 12 atoms bonds ≡ kekulizedOf atoms bonds n m row
   unfolding kekulizedOf
   kekulize-wrong e f g = simp (e, f, g)
 

@@ -15,14 +15,12 @@ use Rattle.table.specs.Valid.{selectedOk, sameEnds, fresh, distinct, atomOk, bo
 use Rattle.table.specs.Edits.{unselectedAtoms, doubledBonds}
 use Rattle.table.proofs.Valid.{facts, enough-facts, Enough, AtomFine, atom-row, atom-fine-back, BondFine, bond-row, bond-fine-back}
 use Rattle.table.proofs.Edits.{unselected-cell, unselected-field, doubled-kind, doubled-field}
-use Rattle.refusal.specs.declared.Refusal.the-variants.{Short, NotMatching, Invalid}
-use Rattle.table.specs.declared.Check.the-variants.{Fine, Refused}
 use Rattle.valence.specs.Valence.{delocalized}
 use Rattle.matching.specs.Enumeration.{matchings}
 use Rattle.matching.specs.Graph.{noneFlagged}
 use Rattle.matching.proofs.Graph.{only-zeros, matching-pairs}
 use Rattle.table_graph.specs.Graph.{delocalizedAt, delocalizedFlag, delocalizedFlags, flag, bondOf, graphOf, matchingOf}
-use Rattle.kekule.specs.Kekule.{roomy, isMatchingOf, tables, kekulized, kekulizedOf}
+use Rattle.kekule.specs.Kekule.{roomy, isMatchingOf, tablesOut, kekulized, kekulizedOf}
 
 -- flags that are all 0
 zero-flags : (f : ℕ → ℕ) (k n : ℕ) → ((j : ℕ) → j < k + n → f j ≡ 0) → noneFlagged (upTo f k n) ≡ true
@@ -129,15 +127,15 @@ pub record Settled (atoms bonds : List ℤ) (n m : ℕ) : Type 0 where
   pub unselected : (a : ℕ) → a < n → atomCell atoms a SELECTED ≡ pos 0
   pub localized : (a : ℕ) → a < n → delocalizedAt atoms bonds m a ≡ false
 
-pub kekulize-settles : (atoms bonds : List ℤ) (n m : ℕ) (row : List ℕ) → kekulizedOf atoms bonds n m row .check ≡ Fine → Settled (kekulizedOf atoms bonds n m row .atoms) (kekulizedOf atoms bonds n m row .bonds) n m
+pub kekulize-settles : (atoms bonds : List ℤ) (n m : ℕ) (row : List ℕ) → kekulizedOf atoms bonds n m row .code ≡ 0 → Settled (kekulizedOf atoms bonds n m row .atoms) (kekulizedOf atoms bonds n m row .bonds) n m
 unfolding kekulizedOf
 kekulize-settles atoms bonds n m row = go (roomy atoms bonds (length row)) (valid atoms bonds n m) (isMatchingOf atoms bonds n m row) refl refl
   where
     go : (x y z : Bool) → roomy atoms bonds (length row) ≡ x → valid atoms bonds n m ≡ y
-        → let o = pick x (pick y (pick z (kekulized atoms bonds n m row) (tables (Refused NotMatching) atoms bonds)) (tables (Refused Invalid) atoms bonds)) (tables (Refused Short) atoms bonds) in o .check ≡ Fine → Settled (o .atoms) (o .bonds) n m
-    go false y z e f h = absurd (let q : _≡_ {A = ℕ} 0 1 = cc in omega arith)
-    go true false z e f h = absurd (let q : _≡_ {A = ℕ} 0 1 = cc in omega arith)
-    go true true false e f h = absurd (let q : _≡_ {A = ℕ} 0 1 = cc in omega arith)
+        → let o = pick x (pick y (pick z (kekulized atoms bonds n m row) (tablesOut 12 atoms bonds)) (tablesOut 13 atoms bonds)) (tablesOut 1 atoms bonds) in o .code ≡ 0 → Settled (o .atoms) (o .bonds) n m
+    go false y z e f h = absurd (omega arith)
+    go true false z e f h = absurd (omega arith)
+    go true true false e f h = absurd (omega arith)
     go true true true e f h =
         let v = facts atoms bonds n m f in
         let r = enough-facts atoms bonds (and-right (leb maxBonds (length row)) (enough atoms bonds) e) in

@@ -6,28 +6,26 @@ use lib.ListN.{length, take, getD, replicate}
 use lib.IntN.{ℤ}
 use lib.Dec.{eqb, leb}
 use Rattle.loops.specs.Loop.{pick, each}
-use Rattle.refusal.specs.declared.Refusal.the-variants.{Short, NotMatching, Invalid}
 use Rattle.table.specs.Limits.{maxAtoms, maxBonds}
-use Rattle.table.specs.Valid.{valid, enough}
+use Rattle.table.specs.Valid.{valid, enough, checkCode}
 use Rattle.table.specs.Edits.{unselectedAtoms, doubledBonds}
 use Rattle.table.specs.declared.Check.{Check}
-use Rattle.table.specs.declared.Check.the-variants.{Fine, Refused as checkRefused}
 use Rattle.matching.specs.Enumeration.{Reply, isRow, rowCall}
 use Rattle.matching.specs.declared.Call.{Call}
 use Rattle.table_graph.specs.Graph.{matchingOf}
 use Rattle.kekule_answers.specs.declared.Found.{Found}
-use Rattle.kekule_answers.specs.declared.Found.the-variants.{Refused}
-use Rattle.kekule_answers.specs.declared.Asked.{Asked}
-use Rattle.kekule_answers.specs.declared.Asked.the-variants.{Yes, No, Refused as askedRefused}
-use Rattle.kekule_answers.specs.Answers.{foundOf}
+use Rattle.kekule_answers.specs.Answers.{foundOf, foundCode}
 
--- an answer and the row as it is then
+-- what a call for a matching hands back: 01's number for its answer, and the row as it is then
 pub record Out : Type 0 where
-  pub found : Found
+  pub code : ℕ
   pub row : List ℕ
 
+abbrev pub rowOut : ℕ → List ℕ → Out
+rowOut c row = record { code = c; row = row }
+
 abbrev pub out : Found → List ℕ → Out
-out a row = record { found = a; row = row }
+out a row = rowOut (foundCode a) row
 
 abbrev pub outOf : Reply → Out
 outOf g = out (foundOf (g .answer)) (g .row)
@@ -40,8 +38,8 @@ roomy atoms bonds len = leb maxBonds len && enough atoms bonds
 unfoldable pub callOn : Call → List ℤ → List ℤ → ℕ → ℕ → List ℕ → Out
 callOn c atoms bonds n m row =
     pick (roomy atoms bonds (length row))
-    (pick (valid atoms bonds n m) (outOf (rowCall (matchingOf atoms bonds n m) m c row)) (out (Refused Invalid) (replicate (length row) 0)))
-    (out (Refused Short) row)
+    (pick (valid atoms bonds n m) (outOf (rowCall (matchingOf atoms bonds n m) m c row)) (rowOut 13 (replicate (length row) 0)))
+    (rowOut 1 row)
 
 -- the row, up to the last bond, is a matching; "in a row handed in, cells past the last bond are not looked at"
 abbrev pub isMatchingOf : List ℤ → List ℤ → ℕ → ℕ → List ℕ → Bool
@@ -51,34 +49,34 @@ isMatchingOf atoms bonds n m row = isRow m (take m row) && matchingOf atoms bond
 unfoldable pub allZero : ℕ → List ℕ → Bool
 allZero m row = each (λ b. eqb (getD row b 0) 0) 0 m
 
--- the question whether a row is a matching
-unfoldable pub askedOf : List ℤ → List ℤ → ℕ → ℕ → List ℕ → Asked
-askedOf atoms bonds n m row =
-    pick (roomy atoms bonds (length row))
-    (pick (valid atoms bonds n m) (pick (isMatchingOf atoms bonds n m row) Yes No) (askedRefused Invalid))
-    (askedRefused Short)
+-- the question whether a row is a matching: 1, 13, then 12
+unfoldable pub askedOf : List ℤ → List ℤ → ℕ → ℕ → List ℕ → ℕ
+askedOf atoms bonds n m row = pick (roomy atoms bonds (length row)) (pick (valid atoms bonds n m) (pick (isMatchingOf atoms bonds n m row) 0 12) 13) 1
 
--- an answer and the tables as they are then
+-- what kekulizing hands back: 01's number for its answer, and the tables as they are then
 pub record Tables : Type 0 where
-  pub check : Check
+  pub code : ℕ
   pub atoms : List ℤ
   pub bonds : List ℤ
 
+abbrev pub tablesOut : ℕ → List ℤ → List ℤ → Tables
+tablesOut c atoms bonds = record { code = c; atoms = atoms; bonds = bonds }
+
 abbrev pub tables : Check → List ℤ → List ℤ → Tables
-tables a atoms bonds = record { check = a; atoms = atoms; bonds = bonds }
+tables a atoms bonds = tablesOut (checkCode a) atoms bonds
 
 -- 01, Settling: makes the matching's bonds kind 2 and clears every selected cell; all else stays
 abbrev pub kekulized : List ℤ → List ℤ → ℕ → ℕ → List ℕ → Tables
-kekulized atoms bonds n m row = tables Fine (unselectedAtoms n atoms) (doubledBonds row m bonds)
+kekulized atoms bonds n m row = tablesOut 0 (unselectedAtoms n atoms) (doubledBonds row m bonds)
 
 -- "a refusal leaves those tables untouched": 1, 13, then 12
 unfoldable pub kekulizedOf : List ℤ → List ℤ → ℕ → ℕ → List ℕ → Tables
 kekulizedOf atoms bonds n m row =
     pick (roomy atoms bonds (length row))
     (pick (valid atoms bonds n m)
-    (pick (isMatchingOf atoms bonds n m row) (kekulized atoms bonds n m row) (tables (checkRefused NotMatching) atoms bonds))
-    (tables (checkRefused Invalid) atoms bonds))
-    (tables (checkRefused Short) atoms bonds)
+    (pick (isMatchingOf atoms bonds n m row) (kekulized atoms bonds n m row) (tablesOut 12 atoms bonds))
+    (tablesOut 13 atoms bonds))
+    (tablesOut 1 atoms bonds)
 
 -- the counts are within the limits, and the row has a cell for each bond
 pub record Counted (n m : ℕ) (row : List ℕ) : Type 0 where

@@ -4,14 +4,14 @@ ghost use Prim.Native.Nat.{_≤_};
 ghost use mathlib.Core.List.{List};
 ghost use lib.ListN.{length};
 ghost use lib.IntN.{ℤ};
-ghost use Rattle.table.specs.Valid.{Valid};
+ghost use Rattle.table.specs.Valid.{Valid, checkCode};
 ghost use Rattle.matching.specs.Enumeration.{rowCall, zeroed};
 ghost use Rattle.matching.specs.Model.{reply};
 ghost use Rattle.table_graph.specs.Graph.{matchingOf, matchable};
 ghost use Rattle.table_graph.specs.Built.{Prepared};
 ghost use Rattle.kekule.specs.Kekule.{out, outOf, roomy, callOn, allZero, isMatchingOf, askedOf, tables, kekulized, kekulizedOf, Counted};
-ghost use Rattle.kekule.specs.Calls.{state, ranOf, replayed, replayedOf};
-use kekule_answers::Asked;
+ghost use Rattle.kekule.specs.Calls.{state, ranOf, replayed, Replays};
+use ids::BondId;
 use kekule_answers::Found;
 use kekule_answers::call_of;
 use kekule_answers::found_code;
@@ -52,7 +52,7 @@ fn search_graph(c: Call, atoms: &[i32], bonds: &[i32], n: usize, m: usize, row: 
 fn give_zeros(row: &mut [u8]) -> Answer
     ensures { λ r. ⌜ reply r (now (row .exit)) ≡ zeroed (length (now (row .entry))) Answer.Given ⌝ }
 {
-    matching_search::clear(row, 0);
+    matching_search::clear(row, BondId(0));
     Answer::Given
 }
 
@@ -123,11 +123,12 @@ pub fn matchable(
 fn call(c: Call, atoms: &[i32], bonds: &[i32], n: usize, m: usize, row: &mut [u8]) -> Found
     ensures { λ r. ⌜ out r (now (row .exit)) ≡ callOn c (now (atoms .entry)) (now (bonds .entry)) n m (now (row .entry)) ⌝ }
 {
-    if !roomy(atoms, bonds, row.len()) {
+    let len = row.len();
+    if !roomy(atoms, bonds, len) {
         return Found::Refused(Refusal::Short);
     }
     if !table_validity::valid(atoms, bonds, n, m) {
-        matching_search::clear(row, 0);
+        matching_search::clear(row, BondId(0));
         return Found::Refused(Refusal::Invalid);
     }
     call_valid(c, atoms, bonds, n, m, row)
@@ -183,20 +184,20 @@ pub fn is_matching_valid(atoms: &[i32], bonds: &[i32], n: usize, m: usize, row: 
 }
 
 // Whether the row, up to the last bond, is a matching of the molecule; nothing changes. 1: a table or the row is too short,
-// 13: the tables are not valid.
-pub fn is_matching(atoms: &[i32], bonds: &[i32], n: usize, m: usize, row: &[u8]) -> Asked
-    ensures { λ r. ⌜ r ≡ askedOf (now (atoms .entry)) (now (bonds .entry)) n m (now (row .entry)) ⌝ }
+// 13: the tables are not valid, 12: the row is no matching.
+pub fn is_matching(atoms: &[i32], bonds: &[i32], n: usize, m: usize, row: &[u8]) -> Check
+    ensures { λ r. ⌜ checkCode r ≡ askedOf (now (atoms .entry)) (now (bonds .entry)) n m (now (row .entry)) ⌝ }
 {
     if !roomy(atoms, bonds, row.len()) {
-        return Asked::Refused(Refusal::Short);
+        return Check::Refused(Refusal::Short);
     }
     if !table_validity::valid(atoms, bonds, n, m) {
-        return Asked::Refused(Refusal::Invalid);
+        return Check::Refused(Refusal::Invalid);
     }
     if is_matching_valid(atoms, bonds, n, m, row) {
-        return Asked::Yes;
+        return Check::Fine;
     }
-    Asked::No
+    Check::Refused(Refusal::NotMatching)
 }
 
 // internal: kekulizes valid tables by a row known to be a matching.
@@ -247,9 +248,10 @@ fn run_calls(
     }
 }
 
-// Makes a list of calls on a row, 0 for the first matching and any other byte for the next. The codes of the answers, and the
-// row after the last, are those of the molecule's enumeration; so, over the beginnings of the list, is the row after each call.
-// 1: there is no cell for each code, and nothing changes; the cells past the codes are zeroed.
+// Makes a list of calls on a row, 0 for the first matching and any other byte for the next. Every answer, and the row after
+// every call, are those of the molecule's enumeration; handed back are the codes of the answers and the row after the last.
+// Where a table or the row is too short each code is 1 and the row stays. 1: there is no cell for each code, and nothing
+// changes; the cells past the codes are zeroed.
 pub fn replay(
     calls: &[u8],
     atoms: &[i32],
@@ -259,12 +261,12 @@ pub fn replay(
     row: &mut [u8],
     codes: &mut [u8],
 ) -> Check
-    ensures { λ r. ⌜ replayed r (now (row .exit)) (now (codes .exit)) ≡ replayedOf (now (calls .entry)) (now (atoms .entry)) (now (bonds .entry)) n m (now (row .entry)) (now (codes .entry)) ⌝ }
+    ensures { λ r. ⌜ Replays (now (calls .entry)) (now (atoms .entry)) (now (bonds .entry)) n m (now (row .entry)) (now (codes .entry)) (replayed r (now (row .exit)) (now (codes .exit))) ⌝ }
 {
     if codes.len() < calls.len() {
         return Check::Refused(Refusal::Short);
     }
     run_calls(calls, atoms, bonds, n, m, row, codes);
-    matching_search::clear(codes, calls.len());
+    buffer::clear_from(codes, calls.len());
     Check::Fine
 }

@@ -2,24 +2,22 @@
 use Prim.Native.Nat.{ℕ, zero, suc}
 use mathlib.Core.Bool.{Bool, false, true}
 use Rattle.refusal.specs.Code.{codeOf}
-use Rattle.refusal.specs.declared.Refusal.the-variants.{NoMatching, NotMatching}
+use Rattle.refusal.specs.declared.Refusal.the-variants.{Unmatchable, NotMatching}
 use Rattle.matching.specs.declared.Answer.{Answer}
 use Rattle.matching.specs.declared.Answer.the-variants.{Given as answerGiven, Absent, Refused as answerRefused, Ended}
 use Rattle.matching.specs.declared.Call.{Call}
 use Rattle.matching.specs.declared.Call.the-variants.{First, Next}
 use Rattle.kekule_answers.specs.declared.Found.{Found}
 use Rattle.kekule_answers.specs.declared.Found.the-variants.{Given, End, Refused}
-use Rattle.kekule_answers.specs.declared.Asked.{Asked}
-use Rattle.kekule_answers.specs.declared.Asked.the-variants.{Yes, No, Refused as askedRefused}
 
 -- an answer of the enumeration (01: of the book): 11 without a matching, 12 where the row is none, "end" after the last
 abbrev pub foundOf : Answer → Found
 foundOf answerGiven = Given
-foundOf Absent = Refused NoMatching
+foundOf Absent = Refused Unmatchable
 foundOf answerRefused = Refused NotMatching
 foundOf Ended = End
 
--- the code of an answer: 0 for a matching, 255 for "end", else the refusal's
+-- 01's number for each answer: 0 for a matching, 255 for "end" (01 gives it none), else the refusal's
 abbrev pub foundCode : Found → ℕ
 foundCode Given = 0
 foundCode End = 255
@@ -35,9 +33,3 @@ isGiven (Refused r) = false
 abbrev pub callOf : ℕ → Call
 callOf zero = First
 callOf (suc b) = Next
-
--- a row that is no matching has 01's code 12
-abbrev pub askedCode : Asked → ℕ
-askedCode Yes = 0
-askedCode No = 12
-askedCode (askedRefused r) = codeOf r

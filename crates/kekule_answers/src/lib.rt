@@ -1,6 +1,6 @@
 // What the calls for matchings answer, and the code of each answer.
 ghost use mathlib.Core.Path.{_≡_};
-ghost use Rattle.kekule_answers.specs.Answers.{foundOf, foundCode, isGiven, callOf, askedCode};
+ghost use Rattle.kekule_answers.specs.Answers.{foundOf, foundCode, isGiven, callOf};
 use matching::Answer;
 use matching::Call;
 use refusal::Refusal;
@@ -11,13 +11,6 @@ pub enum Found {
     Given,
     // None follows.
     End,
-    Refused(Refusal),
-}
-
-// What the question for a matching answers.
-pub enum Asked {
-    Yes,
-    No,
     Refused(Refusal),
 }
 
@@ -38,7 +31,7 @@ pub fn found_of(a: Answer) -> Found
 {
     match a {
         Answer::Given => Found::Given,
-        Answer::Absent => Found::Refused(Refusal::NoMatching),
+        Answer::Absent => Found::Refused(Refusal::Unmatchable),
         Answer::Refused => Found::Refused(Refusal::NotMatching),
         Answer::Ended => Found::End,
     }
@@ -59,16 +52,5 @@ pub fn is_given(f: Found) -> bool
         Found::Given => true,
         Found::End => false,
         Found::Refused(_) => false,
-    }
-}
-
-// The code of the answer to the question for a matching: 0 for yes, 12 for no.
-pub fn asked_code(a: Asked) -> u32
-    ensures { λ r. ⌜ r ≡ askedCode a ⌝ }
-{
-    match a {
-        Asked::Yes => 0,
-        Asked::No => 12,
-        Asked::Refused(r) => refusal::code(r) as u32,
     }
 }

@@ -9,7 +9,6 @@ use lib.IntN.{ℤ}
 use lib.Dec.{leb}
 use borrow.Author.Tests.{leb-true}
 use Rattle.loops.proofs.Loops.{and-left, and-right, length-upTo}
-use Rattle.refusal.specs.declared.Refusal.the-variants.{Short, Invalid}
 use Rattle.table.specs.Limits.{maxBonds}
 use Rattle.table.specs.Valid.{Valid, valid}
 use Rattle.matching.specs.Enumeration.{Reply, rowFirst, rowCall}
@@ -24,8 +23,7 @@ use Rattle.matching_forced.specs.Forced.{forcedList}
 use Rattle.matching_forced.specs.Steps.{Roomy, FirstReply}
 use Rattle.matching_forced.proofs.Turns.{most}
 use Rattle.kekule_answers.specs.declared.Found.{Found}
-use Rattle.kekule_answers.specs.declared.Found.the-variants.{Refused}
-use Rattle.kekule_answers.specs.Answers.{foundOf}
+use Rattle.kekule_answers.specs.Answers.{foundOf, foundCode}
 use Rattle.kekule.specs.Kekule.{roomy}
 use Rattle.kekule.proofs.Kekule.{cleared}
 use Rattle.kekule_forced.specs.Forced.{forcedOf, ForcedOut, forcedOut, withList, roomyList, firstForcedOn}
@@ -42,7 +40,7 @@ module _ {atoms bonds : List ℤ} {n m : ℕ} {flags ea eb el : List ℕ} (b : B
   }
 
   pub first-listed : (row pairs : List ℕ) {a : Answer} {k : ℕ} {row′ pairs′ : List ℕ} → FirstReply (bondsOf (take m ea) (take m eb) (take m el)) (take n flags) row pairs a k row′ pairs′
-      → forcedOut (foundOf a) row′ k pairs′ ≡ withList (rowCall (matchingOf atoms bonds n m) m First row) (forcedOf atoms bonds n m) (length pairs)
+      → forcedOut (foundCode (foundOf a)) row′ k pairs′ ≡ withList (rowCall (matchingOf atoms bonds n m) m First row) (forcedOf atoms bonds n m) (length pairs)
   unfolding rowCall
   first-listed row pairs {a} {k} {row′} {pairs′} f =
       let g : reply a row′ ≡ rowFirst (matchingOf atoms bonds n m) m (length row) = f .replied ∙ simp (graph-long, built-bonds b, b .delocalized-part) in
@@ -53,7 +51,7 @@ module _ {atoms bonds : List ℤ} {n m : ℕ} {flags ea eb el : List ℕ} (b : B
 
 -- the return paths of the call for the first: 1, 13, and the engine's answer
 module _ (atoms bonds : List ℤ) (n m : ℕ) (row pairs : List ℕ) where
-  pub first-short : roomyList atoms bonds (length row) (length pairs) ≡ false → forcedOut (Refused Short) row 0 pairs ≡ firstForcedOn atoms bonds n m row pairs
+  pub first-short : roomyList atoms bonds (length row) (length pairs) ≡ false → forcedOut 1 row 0 pairs ≡ firstForcedOn atoms bonds n m row pairs
   unfolding firstForcedOn
   first-short e = simp e
 
@@ -65,7 +63,7 @@ module _ (atoms bonds : List ℤ) (n m : ℕ) (row pairs : List ℕ) where
     list-roomy = leb-true maxBonds (length pairs) (and-right (roomy atoms bonds (length row)) (leb maxBonds (length pairs)) e)
 
     pub first-invalid : valid atoms bonds n m ≡ false → {row′ pairs′ : List ℕ} → row′ ≡ take 0 row ++ replicate (length row - 0) 0 → pairs′ ≡ take 0 pairs ++ replicate (length pairs - 0) 0
-        → forcedOut (Refused Invalid) row′ 0 pairs′ ≡ firstForcedOn atoms bonds n m row pairs
+        → forcedOut 13 row′ 0 pairs′ ≡ firstForcedOn atoms bonds n m row pairs
     unfolding firstForcedOn
     first-invalid f h k = simp (e, f) (rw (h ∙ cleared row, k ∙ cleared pairs))
 
@@ -78,5 +76,5 @@ pub listed-test : {atoms bonds : List ℤ} {len listed : ℕ} {r : Bool} → r �
 listed-test {listed = listed} e = ap (λ (b : Bool). b && leb maxBonds listed) e
 
 -- the answer of the engine as an answer of the call
-pub told-as : {a : Answer} {f : Found} {row pairs : List ℕ} {k : ℕ} {o : ForcedOut} → f ≡ foundOf a → forcedOut (foundOf a) row k pairs ≡ o → forcedOut f row k pairs ≡ o
+pub told-as : {a : Answer} {f : Found} {row pairs : List ℕ} {k : ℕ} {o : ForcedOut} → f ≡ foundOf a → forcedOut (foundCode (foundOf a)) row k pairs ≡ o → forcedOut (foundCode f) row k pairs ≡ o
 told-as e h = rw e h

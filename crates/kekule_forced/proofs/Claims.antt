@@ -9,7 +9,6 @@ use lib.IntN.{ℤ}
 use lib.Dec.{leb}
 use Rattle.loops.specs.Loop.{pick}
 use Rattle.loops.proofs.Loops.{length-upTo, upTo-at}
-use Rattle.refusal.specs.declared.Refusal.the-variants.{Short, NoMatching, Invalid}
 use Rattle.table.specs.Limits.{maxBonds}
 use Rattle.table.specs.Cells.{end1, end2}
 use Rattle.table.specs.Valid.{Valid, valid}
@@ -22,12 +21,10 @@ use Rattle.matching.specs.declared.Call.the-variants.{First, Next}
 use Rattle.table_graph.specs.Graph.{delocalizedFlags, bondOf, graphOf, matchingOf}
 use Rattle.matching_forced.specs.Forced.{forcedFrom, forcedList, unpairedCount}
 use Rattle.matching_forced.proofs.Turns.{Proper, listed-one, list-half, list-absent}
-use Rattle.kekule_answers.specs.declared.Found.the-variants.{Refused}
-use Rattle.kekule_answers.specs.Answers.{foundOf}
-use Rattle.kekule.specs.Kekule.{Out, out, outOf, roomy, callOn}
-use Rattle.kekule.specs.Calls.{repliesOf}
-use Rattle.kekule.proofs.Calls.{turns, calls-enumerated}
-use Rattle.kekule_forced.specs.Forced.{forcedOf, ForcedOut, forcedOut, withList, roomyList, firstForcedOn, outPart, forcedOn}
+use Rattle.kekule.specs.Kekule.{Out, rowOut, outOf, roomy, callOn}
+use Rattle.kekule.specs.Calls.{repliesOf, turns}
+use Rattle.kekule.proofs.Calls.{calls-enumerated}
+use Rattle.kekule_forced.specs.Forced.{forcedOf, ForcedOut, forcedOut, withList, roomyList, firstForcedOn, forcedOn}
 
 -- P9: "Its answers and rows are equal to the plain engine's for every sound molecule and row handed in, where nothing lent is too short":
 -- both are `callOn`, the definition (01: the book), for any tables, any row and either call, where the list is long enough
@@ -35,9 +32,12 @@ pub engines-agree : (pairs : List ℕ) → leb maxBonds (length pairs) ≡ true 
 unfolding forcedOn callOn firstForcedOn
 engines-agree pairs e First atoms bonds n m row = rw e (go (roomy atoms bonds (length row)) (valid atoms bonds n m))
   where
+    out-of : ForcedOut → Out
+    out-of o = rowOut (o .code) (o .row)
+
     go : (x y : Bool)
-        → outPart (pick (x && true) (pick y (withList (rowCall (matchingOf atoms bonds n m) m First row) (forcedOf atoms bonds n m) (length pairs)) (forcedOut (Refused Invalid) (replicate (length row) 0) 0 (replicate (length pairs) 0))) (forcedOut (Refused Short) row 0 pairs))
-        ≡ pick x (pick y (outOf (rowCall (matchingOf atoms bonds n m) m First row)) (out (Refused Invalid) (replicate (length row) 0))) (out (Refused Short) row)
+        → out-of (pick (x && true) (pick y (withList (rowCall (matchingOf atoms bonds n m) m First row) (forcedOf atoms bonds n m) (length pairs)) (forcedOut 13 (replicate (length row) 0) 0 (replicate (length pairs) 0))) (forcedOut 1 row 0 pairs))
+        ≡ pick x (pick y (outOf (rowCall (matchingOf atoms bonds n m) m First row)) (rowOut 13 (replicate (length row) 0))) (rowOut 1 row)
     go true true = refl
     go true false = refl
     go false y = refl

@@ -6,7 +6,6 @@ use lib.ListN.{length, replicate}
 use lib.IntN.{ℤ}
 use lib.Dec.{leb}
 use Rattle.loops.specs.Loop.{pick}
-use Rattle.refusal.specs.declared.Refusal.the-variants.{Short, Invalid}
 use Rattle.table.specs.Limits.{maxBonds}
 use Rattle.table.specs.Valid.{valid}
 use Rattle.matching.specs.Enumeration.{Reply, rowCall}
@@ -14,30 +13,28 @@ use Rattle.matching.specs.declared.Call.{Call}
 use Rattle.matching.specs.declared.Call.the-variants.{First, Next}
 use Rattle.table_graph.specs.Graph.{delocalizedFlags, graphOf, matchingOf}
 use Rattle.matching_forced.specs.Forced.{forcedList}
-use Rattle.kekule_answers.specs.declared.Found.{Found}
-use Rattle.kekule_answers.specs.declared.Found.the-variants.{Refused}
-use Rattle.kekule_answers.specs.Answers.{foundOf}
-use Rattle.kekule.specs.Kekule.{Out, out, roomy, callOn}
+use Rattle.kekule_answers.specs.Answers.{foundOf, foundCode}
+use Rattle.kekule.specs.Kekule.{Out, rowOut, roomy, callOn}
 
 -- P9: "the list of pairs forced before any choice (bond numbers in turn)"; empty where there is no matching
 abbrev pub forcedOf : List ℤ → List ℤ → ℕ → ℕ → List ℕ
 forcedOf atoms bonds n m = forcedList (graphOf bonds m) (delocalizedFlags atoms bonds n m)
 
--- an answer with the row, the list and its number as they are then
+-- what the call for the first hands back: 01's number for its answer, the row, and the list with its number as they are then
 pub record ForcedOut : Type 0 where
-  pub found : Found
+  pub code : ℕ
   pub row : List ℕ
   pub count : ℕ
   pub pairs : List ℕ
 
-abbrev pub forcedOut : Found → List ℕ → ℕ → List ℕ → ForcedOut
-forcedOut a row k pairs = record { found = a; row = row; count = k; pairs = pairs }
+abbrev pub forcedOut : ℕ → List ℕ → ℕ → List ℕ → ForcedOut
+forcedOut c row k pairs = record { code = c; row = row; count = k; pairs = pairs }
 
 -- a reply, with the list F in a buffer of len cells: the rest of it is zeroed
 abbrev pub withList : Reply → List ℕ → ℕ → ForcedOut
-withList g F len = forcedOut (foundOf (g .answer)) (g .row) (length F) (F ++ replicate (len - length F) 0)
+withList g F len = forcedOut (foundCode (foundOf (g .answer))) (g .row) (length F) (F ++ replicate (len - length F) 0)
 
--- the list is "lent as long as a row": 1 is given exactly when this fails
+-- 1 is given exactly when this fails; the list is "lent as long as a row"
 abbrev pub roomyList : List ℤ → List ℤ → ℕ → ℕ → Bool
 roomyList atoms bonds len listed = roomy atoms bonds len && leb maxBonds listed
 
@@ -47,13 +44,10 @@ firstForcedOn atoms bonds n m row pairs =
     pick (roomyList atoms bonds (length row) (length pairs))
     (pick (valid atoms bonds n m)
     (withList (rowCall (matchingOf atoms bonds n m) m First row) (forcedOf atoms bonds n m) (length pairs))
-    (forcedOut (Refused Invalid) (replicate (length row) 0) 0 (replicate (length pairs) 0)))
-    (forcedOut (Refused Short) row 0 pairs)
+    (forcedOut 13 (replicate (length row) 0) 0 (replicate (length pairs) 0)))
+    (forcedOut 1 row 0 pairs)
 
--- The two calls of the second engine, as answers and rows. The next has no list: it is `callOn Next`.
-abbrev pub outPart : ForcedOut → Out
-outPart o = out (o .found) (o .row)
-
+-- the two calls of the second engine, by their answers and rows, whatever list is lent; the next has none, and is `callOn Next`
 unfoldable pub forcedOn : List ℕ → Call → List ℤ → List ℤ → ℕ → ℕ → List ℕ → Out
-forcedOn pairs First atoms bonds n m row = outPart (firstForcedOn atoms bonds n m row pairs)
+forcedOn pairs First atoms bonds n m row = let o = firstForcedOn atoms bonds n m row pairs in rowOut (o .code) (o .row)
 forcedOn pairs Next atoms bonds n m row = callOn Next atoms bonds n m row

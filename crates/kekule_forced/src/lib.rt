@@ -7,9 +7,10 @@ ghost use Rattle.table.specs.Valid.{Valid};
 ghost use Rattle.matching.specs.Enumeration.{rowCall};
 ghost use Rattle.matching.specs.Model.{reply};
 ghost use Rattle.table_graph.specs.Graph.{matchingOf};
-ghost use Rattle.kekule_answers.specs.Answers.{foundOf};
+ghost use Rattle.kekule_answers.specs.Answers.{foundOf, foundCode};
 ghost use Rattle.kekule.specs.Kekule.{out, callOn};
 ghost use Rattle.kekule_forced.specs.Forced.{forcedOf, forcedOut, withList, firstForcedOn};
+use ids::BondId;
 use kekule_answers::Found;
 use kekule_answers::found_of;
 use matching::Answer;
@@ -36,7 +37,7 @@ fn first_valid(
 ) -> FirstForced
     requires { ⌜ Valid (now atoms) (now bonds) n m ⌝ }
     requires { ⌜ (m ≤ length (now row)) × (maxBonds ≤ length (now pairs)) ⌝ }
-    ensures { λ r. ⌜ forcedOut (foundOf (r .answer)) (now (row .exit)) (r .count) (now (pairs .exit)) ≡ withList (rowCall (matchingOf (now (atoms .entry)) (now (bonds .entry)) n m) m Call.First (now (row .entry))) (forcedOf (now (atoms .entry)) (now (bonds .entry)) n m) (length (now (pairs .entry))) ⌝ }
+    ensures { λ r. ⌜ forcedOut (foundCode (foundOf (r .answer))) (now (row .exit)) (r .count) (now (pairs .exit)) ≡ withList (rowCall (matchingOf (now (atoms .entry)) (now (bonds .entry)) n m) m Call.First (now (row .entry))) (forcedOf (now (atoms .entry)) (now (bonds .entry)) n m) (length (now (pairs .entry))) ⌝ }
 {
     let mut flags = [0u8; MAX_ATOMS];
     let mut ea = [0u16; MAX_BONDS];
@@ -86,7 +87,7 @@ pub fn first_forced(
     row: &mut [u8],
     pairs: &mut [u16],
 ) -> ForcedFirst
-    ensures { λ r. ⌜ forcedOut (r .found) (now (row .exit)) (r .count) (now (pairs .exit)) ≡ firstForcedOn (now (atoms .entry)) (now (bonds .entry)) n m (now (row .entry)) (now (pairs .entry)) ⌝ }
+    ensures { λ r. ⌜ forcedOut (foundCode (r .found)) (now (row .exit)) (r .count) (now (pairs .exit)) ≡ firstForcedOn (now (atoms .entry)) (now (bonds .entry)) n m (now (row .entry)) (now (pairs .entry)) ⌝ }
 {
     if !(kekule::roomy(atoms, bonds, row.len()) & (MAX_BONDS <= pairs.len())) {
         return ForcedFirst {
@@ -95,7 +96,7 @@ pub fn first_forced(
         };
     }
     if !table_validity::valid(atoms, bonds, n, m) {
-        matching_search::clear(row, 0);
+        matching_search::clear(row, BondId(0));
         matching_forced::clear_pairs(pairs, 0);
         return ForcedFirst {
             found: Found::Refused(Refusal::Invalid),
@@ -120,7 +121,7 @@ pub fn next_forced(atoms: &[i32], bonds: &[i32], n: usize, m: usize, row: &mut [
         return Found::Refused(Refusal::Short);
     }
     if !table_validity::valid(atoms, bonds, n, m) {
-        matching_search::clear(row, 0);
+        matching_search::clear(row, BondId(0));
         return Found::Refused(Refusal::Invalid);
     }
     found_of(next_valid(atoms, bonds, n, m, row))

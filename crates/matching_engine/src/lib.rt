@@ -12,8 +12,8 @@ ghost use Prim.Native.Nat.{ℕ, _+_, _<_};
 ghost use lib.ListN.{length, take, set};
 ghost use Rattle.matching.specs.Enumeration.{rowFirst, rowNext};
 ghost use Rattle.matching.specs.Graph.{isMatching};
-ghost use Rattle.matching.specs.Model.{Shape, Tables, Searched, Ends, allFrom, laterFrom, matchingFrom, part, bondsOf, reply};
-ghost use Rattle.matching_engine.specs.Tried.{Tried, withBond, Lasts, noted, Stranded, Taken};
+ghost use Rattle.matching.specs.Model.{Shape, BondTables, Searched, Ends, allFrom, laterFrom, matchingFrom, part, bondsOf, reply};
+ghost use Rattle.matching_engine.specs.Tried.{Tried, pairedBond, Lasts, noted, Stranded, Taken};
 
 // How many bonds the plain search may choose before it gives up.
 const BUDGET: usize = 400;
@@ -25,32 +25,32 @@ pub enum Sought {
     GaveUp,
 }
 
-// The atom v gets the number x.
-fn note(last: &mut [usize], v: AtomId, x: usize)
-    ensures { λ _. ⌜ now (last .exit) ≡ set (now (last .entry)) (v .0) x ⌝ }
+// The atom v gets the number of the bond k.
+fn note(last: &mut [usize], v: AtomId, k: BondId)
+    ensures { λ _. ⌜ now (last .exit) ≡ set (now (last .entry)) (v .0) (k .0) ⌝ }
 {
     let at = v.0;
     if at < last.len() {
-        last[at] = x;
+        last[at] = k.0;
     }
 }
 
-// Both ends of the bond k get its number and 1, if it can be chosen.
+// Both ends of the bond k get the number of the bond after it, if it can be chosen.
 fn note_bond(ea: &[u16], eb: &[u16], el: &[u8], need: &[u8], last: &mut [usize], k: BondId)
     requires { ⌜ Ends (now ea) (now eb) (now need) (k .0) ⌝ }
     requires { ⌜ k .0 < length (now el) ⌝ }
     ensures { λ _. ⌜ now (last .exit) ≡ noted (now (ea .entry)) (now (eb .entry)) (now (el .entry)) (now (need .entry)) (k .0) (now (last .entry)) ⌝ }
 {
     if matching_search::choosable(ea, eb, el, need, k) {
-        let after = k.0 + 1;
-        note(last, matching_search::end_of(ea, k), after);
-        note(last, matching_search::end_of(eb, k), after);
+        let next = k.0 + 1;
+        note(last, matching_search::end_of(ea, k), BondId(next));
+        note(last, matching_search::end_of(eb, k), BondId(next));
     }
 }
 
-// One more than the number of the last bond that can be chosen at each atom.
+// At each atom, the number of the bond after the last one that can be chosen there.
 fn fill_lasts(ea: &[u16], eb: &[u16], el: &[u8], need: &[u8], last: &mut [usize])
-    requires { ⌜ Tables (now ea) (now eb) (now el) (now need) 0 ⌝ }
+    requires { ⌜ BondTables (now ea) (now eb) (now el) (now need) 0 ⌝ }
     ensures { λ _. ⌜ Lasts (now (ea .entry)) (now (eb .entry)) (now (el .entry)) (now (need .entry)) (now (last .exit)) ⌝ }
 {
     let mut j: usize = 0;
@@ -61,28 +61,29 @@ fn fill_lasts(ea: &[u16], eb: &[u16], el: &[u8], need: &[u8], last: &mut [usize]
 }
 
 // The atom v has no partner, and no bond from `from` on that can be chosen.
-fn stranded(need: &[u8], last: &[usize], v: AtomId, from: usize) -> bool
+fn stranded(need: &[u8], last: &[usize], v: AtomId, from: BondId) -> bool
     requires { ⌜ v .0 < length (now need) ⌝ }
-    ensures { λ r. ⌜ (r ≡ true → Stranded (now (need .entry)) (now (last .entry)) (v .0) from) ⌝ }
+    ensures { λ r. ⌜ (r ≡ true → Stranded (now (need .entry)) (now (last .entry)) (v .0) (from .0)) ⌝ }
 {
     let at = v.0;
+    let k = from.0;
     if at < last.len() {
-        return matching_search::unpaired(need, v) & (last[at] <= from);
+        return matching_search::unpaired(need, v) & (last[at] <= k);
     }
     false
 }
 
 // An end of the bond k is stranded behind it.
 fn dead_end(ea: &[u16], eb: &[u16], el: &[u8], need: &[u8], last: &[usize], k: BondId) -> bool
-    requires { ⌜ Tables (now ea) (now eb) (now el) (now need) (k .0 + 1) ⌝ }
+    requires { ⌜ BondTables (now ea) (now eb) (now el) (now need) (k .0 + 1) ⌝ }
     requires { ⌜ Lasts (now ea) (now eb) (now el) (now need) (now last) ⌝ }
     ensures { λ r. ⌜ (r ≡ true → allFrom (now (ea .entry)) (now (eb .entry)) (now (el .entry)) (now (need .entry)) (k .0 + 1) ≡ []) ⌝ }
 {
-    let after = k.0 + 1;
-    if stranded(need, last, matching_search::end_of(ea, k), after) {
+    let next = k.0 + 1;
+    if stranded(need, last, matching_search::end_of(ea, k), BondId(next)) {
         return true;
     }
-    stranded(need, last, matching_search::end_of(eb, k), after)
+    stranded(need, last, matching_search::end_of(eb, k), BondId(next))
 }
 
 // Takes 1 from the budget; false if it is spent.
@@ -108,7 +109,7 @@ fn choose(
 ) -> Sought
     requires { ⌜ Shape (now ea) (now eb) (now el) (now need) (now row) (k .0) ⌝ }
     requires { ⌜ (k .0 < length (now ea)) × Lasts (now ea) (now eb) (now el) (now need) (now last) ⌝ }
-    ensures { λ r. ⌜ Tried (now (need .entry)) (now (row .entry)) (k .0) (length (now (ea .entry))) (withBond (now (ea .entry)) (now (eb .entry)) (now (el .entry)) (now (need .entry)) (k .0)) r (now (need .exit)) (now (row .exit)) ⌝ }
+    ensures { λ r. ⌜ Tried (now (need .entry)) (now (row .entry)) (k .0) (length (now (ea .entry))) (pairedBond (now (ea .entry)) (now (eb .entry)) (now (el .entry)) (now (need .entry)) (k .0)) r (now (need .exit)) (now (row .exit)) ⌝ }
 {
     if !matching_search::choosable(ea, eb, el, need, k) {
         return Sought::Absent;
@@ -178,7 +179,7 @@ fn seek_any(
     match got {
         Sought::Found => true,
         Sought::Absent => {
-            matching_search::blank(row, k.0, ea.len());
+            matching_search::blank(row, k, BondId(ea.len()));
             false
         }
         Sought::GaveUp => matching_certified::seek(ea, eb, el, need, row, k),
@@ -277,13 +278,13 @@ pub fn first(ea: &[u16], eb: &[u16], el: &[u8], need: &mut [u8], row: &mut [u8])
     ensures { λ r. ⌜ reply r (now (row .exit)) ≡ rowFirst (isMatching (now (need .entry)) (bondsOf (now (ea .entry)) (now (eb .entry)) (now (el .entry)))) (length (now (ea .entry))) (length (now (row .entry))) ⌝ }
 {
     if try_greedy(ea, eb, el, need, row) {
-        matching_search::clear(row, ea.len());
+        matching_search::clear(row, BondId(ea.len()));
         return Answer::Given;
     }
     let mut last = [0usize; MAX_ATOMS];
     fill_lasts(ea, eb, el, need, &mut last);
     let found = seek_any(ea, eb, el, need, row, &last, BondId(0));
-    matching_search::clear(row, ea.len());
+    matching_search::clear(row, BondId(ea.len()));
     if found { Answer::Given } else { Answer::Absent }
 }
 
@@ -294,12 +295,12 @@ pub fn next(ea: &[u16], eb: &[u16], el: &[u8], need: &mut [u8], row: &mut [u8]) 
     ensures { λ r. ⌜ reply r (now (row .exit)) ≡ rowNext (isMatching (now (need .entry)) (bondsOf (now (ea .entry)) (now (eb .entry)) (now (el .entry)))) (length (now (ea .entry))) (length (now (row .entry))) (take (length (now (ea .entry))) (now (row .entry))) ⌝ }
 {
     if !matching_search::is_matching(ea, eb, el, need, row, BondId(0)) {
-        matching_search::clear(row, 0);
+        matching_search::clear(row, BondId(0));
         return Answer::Refused;
     }
     let mut last = [0usize; MAX_ATOMS];
     fill_lasts(ea, eb, el, need, &mut last);
     let found = later(ea, eb, el, need, row, &last, BondId(0));
-    matching_search::clear(row, ea.len());
+    matching_search::clear(row, BondId(ea.len()));
     if found { Answer::Given } else { Answer::Ended }
 }

@@ -5,13 +5,13 @@ use mathlib.Core.List.{List}
 use Prim.Native.Nat.{ℕ, _<_, _≤_}
 use lib.ListN.{length}
 use Rattle.matching.specs.Graph.{Bond, nthBond}
-use Rattle.matching.specs.Model.{free, freeAt, bondsOf, Tables}
+use Rattle.matching.specs.Model.{free, freeAt, bondsOf, BondTables}
 use Rattle.matching_forced.specs.Forced.{freeOf, freeBond, lowest}
 use Rattle.matching_forced.specs.Steps.{lowestFree}
 use Rattle.matching_forced.proofs.Counts.{Sought, sought-here, sought-end}
 use Rattle.matching_forced.proofs.Tables.{nth-bonds, bonds-long}
 
-module _ {ea eb el need : List ℕ} (t : Tables ea eb el need 0) where
+module _ {ea eb el need : List ℕ} (t : BondTables ea eb el need 0) where
   abbrev bs : List Bond
   bs = bondsOf ea eb el
 

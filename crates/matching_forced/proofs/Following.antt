@@ -12,7 +12,7 @@ use Rattle.loops.specs.Loop.{pick}
 use Rattle.loops.proofs.Loops.{and-left, and-right}
 use Rattle.matching.specs.Enumeration.{Row, isRow, matchings, before, consIf}
 use Rattle.matching.specs.Graph.{Bond, isMatching, nthBond, setOf}
-use Rattle.matching.specs.Model.{Shape, Tables, Searched, free, markAt, bondsOf, some?, headOr, written}
+use Rattle.matching.specs.Model.{Shape, BondTables, Searched, free, markAt, bondsOf, some?, headOr, written}
 use Rattle.matching.proofs.Enumeration.{row-length, first-matching, before-self}
 use Rattle.matching.proofs.Graph.{and-intro, not-true, never}
 use Rattle.matching.proofs.Claims.{row-is-set}

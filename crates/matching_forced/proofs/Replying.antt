@@ -10,7 +10,7 @@ use Rattle.matching.specs.Enumeration.{Row, Reply, matchings, isRow, orZeroed, 
 use Rattle.matching.specs.declared.Answer.{Answer}
 use Rattle.matching.specs.declared.Answer.the-variants.{Given, Absent, Ended}
 use Rattle.matching.specs.Graph.{Bond, isMatching}
-use Rattle.matching.specs.Model.{reply, Shape, Tables, Searched, allFrom, laterFrom, matchingFrom, part, bondsOf}
+use Rattle.matching.specs.Model.{reply, Shape, BondTables, Searched, allFrom, laterFrom, matchingFrom, part, bondsOf}
 use Rattle.matching.proofs.Enumeration.{first-matching, row-length}
 use Rattle.matching_search.proofs.Reply.{told-as, first-reply, next-reply, later-all, matching-all}
 use Rattle.matching_forced.specs.Forced.{forcedFrom, forcedList}

@@ -17,7 +17,7 @@ use Rattle.loops.proofs.Loops.{and-left}
 use Rattle.matching.specs.Enumeration.{Row, isRow, matchings, consIf}
 use Rattle.matching.specs.Graph.{Bond, isMatching, noneFlagged, nthBond, flagged}
 use Rattle.matching.specs.Limits.{maxBonds}
-use Rattle.matching.specs.Model.{Shape, Tables, Ends, Searched, allFrom, free, freeAt, markAt, bondsOf, some?, headOr, written}
+use Rattle.matching.specs.Model.{Shape, BondTables, Ends, Searched, allFrom, free, freeAt, markAt, bondsOf, some?, headOr, written}
 use Rattle.matching.proofs.Enumeration.{first-matching, row-length}
 use Rattle.matching.proofs.Claims.{empty-iff}
 use Rattle.matching_search.proofs.Flags.{never, restore}
@@ -36,7 +36,7 @@ use Rattle.matching_forced.proofs.Choosing.{fewer-off, off-long, lowest
 use Rattle.matching_forced.proofs.Tables.{nth-bonds, many-bonds, bonds-long, mark-at, ends-at, ends-long}
 use Rattle.matching_forced.proofs.Listed.{Below, ones-left, drop-ones, length-ones}
 
-pub tables-of : {ea eb el need row : List ℕ} → Shape ea eb el need row 0 → Tables ea eb el need 0
+pub tables-of : {ea eb el need row : List ℕ} → Shape ea eb el need row 0 → BondTables ea eb el need 0
 tables-of s = record { second = s .second; third = s .third; upto = s .upto; ends1 = s .ends1; ends2 = s .ends2 }
 
 -- the flags or the row changed, with their lengths kept
@@ -226,20 +226,20 @@ module _ (ea eb el : List ℕ) where
   abbrev bs : List Bond
   bs = bondsOf ea eb el
 
-  pub undone-all : (need : List ℕ) → Tables ea eb el need 0 → undone ea eb (forcedFrom bs need) (left bs need) ≡ need
+  pub undone-all : (need : List ℕ) → BondTables ea eb el need 0 → undone ea eb (forcedFrom bs need) (left bs need) ≡ need
   unfolding backward pairAll
-  undone-all = by-turns bs (λ need. Tables ea eb el need 0 → undone ea eb (forcedFrom bs need) (left bs need) ≡ need) none some
+  undone-all = by-turns bs (λ need. BondTables ea eb el need 0 → undone ea eb (forcedFrom bs need) (left bs need) ≡ need) none some
     where
-      none : (need : List ℕ) → forces bs need ≡ false → Tables ea eb el need 0 → undone ea eb (forcedFrom bs need) (left bs need) ≡ need
+      none : (need : List ℕ) → forces bs need ≡ false → BondTables ea eb el need 0 → undone ea eb (forcedFrom bs need) (left bs need) ≡ need
       none need h t = rw (forced-none bs need h)
 
-      some : (need : List ℕ) → forces bs need ≡ true → (Tables ea eb el (turn bs need) 0 → undone ea eb (forcedFrom bs (turn bs need)) (left bs (turn bs need)) ≡ turn bs need)
-          → Tables ea eb el need 0 → undone ea eb (forcedFrom bs need) (left bs need) ≡ need
+      some : (need : List ℕ) → forces bs need ≡ true → (BondTables ea eb el (turn bs need) 0 → undone ea eb (forcedFrom bs (turn bs need)) (left bs (turn bs need)) ≡ turn bs need)
+          → BondTables ea eb el need 0 → undone ea eb (forcedFrom bs need) (left bs need) ≡ need
       some need h ih t =
           let b = forcedBond bs need in
           let l : b < length ea = omega (arith, forced-below bs need h, bonds-long t) in
           let same : length (turn bs need) ≡ length need = simp length-set in
-          let t′ : Tables ea eb el (turn bs need) 0 = record { second = t .second; third = t .third; upto = t .upto; ends1 = λ j q. rw same (t .ends1 j q); ends2 = λ j q. rw same (t .ends2 j q) } in
+          let t′ : BondTables ea eb el (turn bs need) 0 = record { second = t .second; third = t .third; upto = t .upto; ends1 = λ j q. rw same (t .ends1 j q); ends2 = λ j q. rw same (t .ends2 j q) } in
           let fr : freeAt ea eb el need b ≡ true = ap (λ (x : Bond). free x need) (sym (nth-bonds ea eb el b (t .second) (t .third) l)) ∙ forced-free bs need h in
           rw (forced-pair bs need h) (ap (λ (x : List ℕ). markAt ea eb x b 1) (ih t′ ∙ sym (mark-at t b l)) ∙ restore ea eb el need b fr)
 
@@ -343,7 +343,7 @@ module _ {ea eb el need row : List ℕ} (s : Shape ea eb el need row 0) {el1 nee
   total-again = rw (e, n)
 
 -- ALL MATCHINGS, as the certified search names them, and what follows on the answer of the search under a budget
-pub all-is : {ea eb el need : List ℕ} → Tables ea eb el need 0 → allFrom ea eb el need 0 ≡ allOf (bondsOf ea eb el) need
+pub all-is : {ea eb el need : List ℕ} → BondTables ea eb el need 0 → allFrom ea eb el need 0 ≡ allOf (bondsOf ea eb el) need
 all-is {ea} {eb} {el} {need} t = all-zero ea eb el need ∙ ap (matchings (isMatching need (bondsOf ea eb el))) (sym (bonds-long t))
 
 module _ {ea eb el need row : List ℕ} (s : Shape ea eb el need row 0) {o : Sought} {need1 row1 : List ℕ} (t : Tried need row 0 (length ea) (allOf (bondsOf ea eb el) need) o need1 row1) where

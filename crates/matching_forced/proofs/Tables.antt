@@ -6,11 +6,11 @@ use Prim.Native.Nat.{ℕ, zero, suc, _<_}
 use native.Mathlib.Omega.{arith}
 use lib.ListN.{length}
 use Rattle.matching.specs.Graph.{Bond, touches, nthBond}
-use Rattle.matching.specs.Model.{bondsOf, bondAt, freeAt, markAt, Tables, Ends}
+use Rattle.matching.specs.Model.{bondsOf, tableBond, freeAt, markAt, BondTables, Ends}
 use Rattle.matching_forced.specs.Forced.{freeOf, pairAt}
 
 -- the bonds of the tables, by number
-pub nth-bonds : (ea eb el : List ℕ) (k : ℕ) → length eb ≡ length ea → length el ≡ length ea → k < length ea → nthBond (bondsOf ea eb el) k ≡ bondAt ea eb el k
+pub nth-bonds : (ea eb el : List ℕ) (k : ℕ) → length eb ≡ length ea → length el ≡ length ea → k < length ea → nthBond (bondsOf ea eb el) k ≡ tableBond ea eb el k
 unfolding bondsOf
 nth-bonds [] eb el k h i l = absurd (omega arith)
 nth-bonds (a ∷ ea) [] el k h i l = absurd (omega arith)
@@ -25,7 +25,7 @@ many-bonds (a ∷ ea) [] el h i = absurd (omega arith)
 many-bonds (a ∷ ea) (b ∷ eb) [] h i = absurd (omega arith)
 many-bonds (a ∷ ea) (b ∷ eb) (e ∷ el) h i = ap suc (many-bonds ea eb el (omega arith) (omega arith))
 
-module _ {ea eb el need : List ℕ} (t : Tables ea eb el need 0) where
+module _ {ea eb el need : List ℕ} (t : BondTables ea eb el need 0) where
   abbrev bs : List Bond
   bs = bondsOf ea eb el
 
@@ -39,7 +39,7 @@ module _ {ea eb el need : List ℕ} (t : Tables ea eb el need 0) where
     pub elided-at : k < length el
     elided-at = omega (arith, t .third)
 
-    pub free-at : (v : ℕ) → freeOf bs need v k ≡ (freeAt ea eb el need k && touches (bondAt ea eb el k) v)
+    pub free-at : (v : ℕ) → freeOf bs need v k ≡ (freeAt ea eb el need k && touches (tableBond ea eb el k) v)
     free-at v = rw (nth-bonds ea eb el k (t .second) (t .third) l)
 
     pub mark-at : markAt ea eb need k 0 ≡ pairAt bs need k

@@ -13,7 +13,7 @@ use borrow.Author.Tests.{eq-eqb, ne-eqb, eqb-true, lt-ltb, le-ltb}
 use Rattle.loops.specs.Loop.{pick}
 use Rattle.matching.specs.Graph.{Bond, flagged, countIf, touches}
 use Rattle.matching.specs.Limits.{maxBonds}
-use Rattle.matching.specs.Model.{bondsOf, bondAt, freeAt, Tables, Ends}
+use Rattle.matching.specs.Model.{bondsOf, tableBond, freeAt, BondTables, Ends}
 use Rattle.matching_forced.specs.Forced.{freeOf, freeCount, freeBond, lowest, unpairedWith, lowestWith, stuck, forces, forcedBond}
 use Rattle.matching_forced.specs.Steps.{bumped, raised, withCount, Counts}
 use Rattle.matching_forced.proofs.Counts.{Counted, counted-start, counted-step, counted-end, lowest-same}
@@ -67,12 +67,12 @@ pub record Tallied (ea eb el need counts₀ : List ℕ) (i : ℕ) (counts : List
 pub tallied-start : {ea eb el need counts : List ℕ} → ((v : ℕ) → getD counts v 0 ≡ 0) → Tallied ea eb el need counts 0 counts
 tallied-start z = record { within = omega arith; long = refl; fewer = λ v. omega (arith, z v); each = λ v. rw (z v) counted-start }
 
-module _ {ea eb el need counts₀ counts : List ℕ} {i : ℕ} (t : Tables ea eb el need 0) (w : Tallied ea eb el need counts₀ i counts) where
+module _ {ea eb el need counts₀ counts : List ℕ} {i : ℕ} (t : BondTables ea eb el need 0) (w : Tallied ea eb el need counts₀ i counts) where
   module _ (l : i < length ea) (wide : length need ≤ length counts₀) where
     pub tallied-ends : Ends ea eb counts i
     tallied-ends = record { first = l; second = omega (arith, t .second); end1 = omega (arith, t .ends1 i l, w .long); end2 = omega (arith, t .ends2 i l, w .long) }
 
-    free-by : (v : ℕ) {f : Bool} → f ≡ freeAt ea eb el need i → freeOf (bondsOf ea eb el) need v i ≡ (f && touches (bondAt ea eb el i) v)
+    free-by : (v : ℕ) {f : Bool} → f ≡ freeAt ea eb el need i → freeOf (bondsOf ea eb el) need v i ≡ (f && touches (tableBond ea eb el i) v)
     free-by v is = free-at t i l v ∙ rw (← is)
 
     module _ {f : Bool} (is : f ≡ freeAt ea eb el need i) where
@@ -80,7 +80,7 @@ module _ {ea eb el need counts₀ counts : List ℕ} {i : ℕ} (t : Tables ea eb
       tallied-yes y {counts′} e = rw e record {
         within = omega arith;
         long = length-raised (getD ea i 0) (getD eb i 0) counts ∙ w .long;
-        fewer = λ v. rw (raised-at (getD ea i 0) (getD eb i 0) v counts (tallied-ends .end1) (tallied-ends .end2)) (most (touches (bondAt ea eb el i) v) (w .fewer v));
+        fewer = λ v. rw (raised-at (getD ea i 0) (getD eb i 0) v counts (tallied-ends .end1) (tallied-ends .end2)) (most (touches (tableBond ea eb el i) v) (w .fewer v));
         each = λ v. counted-step (w .each v) l _ (raised-at (getD ea i 0) (getD eb i 0) v counts (tallied-ends .end1) (tallied-ends .end2)
             ∙ ap (λ (p : Bool). countIf p (getD counts v 0)) (sym (free-by v (sym y ∙ is))));
       }

@@ -14,7 +14,7 @@ ghost use lib.ListN.{length, take, replicate, getD};
 ghost use Rattle.matching.specs.Enumeration.{rowNext};
 ghost use Rattle.matching.specs.Graph.{isMatching};
 ghost use Rattle.matching.specs.Limits.{maxAtoms, maxBonds};
-ghost use Rattle.matching.specs.Model.{Tables, Ends, Shape, Searched, bondsOf, reply};
+ghost use Rattle.matching.specs.Model.{BondTables, Ends, Shape, Searched, bondsOf, reply};
 ghost use Rattle.matching_engine.specs.Tried.{Tried};
 ghost use Rattle.matching_forced.specs.Forced.{lowest, freeOf, freeBond};
 ghost use Rattle.matching_forced.specs.Steps.{bumped, raised, withCount, Counts, Turned, Roomy, Filled, ones, zeros, undone, Ones, lowestFree, Chosen, off, allOf, takenOf, leftOf, laterOf, laterWith, isOf, FirstReply};
@@ -71,7 +71,7 @@ fn raise_ends(ea: &[u16], eb: &[u16], counts: &mut [u16], k: BondId)
 
 // How many free bonds each atom has, counted into zeros.
 fn fill_counts(ea: &[u16], eb: &[u16], el: &[u8], need: &[u8], counts: &mut [u16])
-    requires { ⌜ Tables (now ea) (now eb) (now el) (now need) 0 ⌝ }
+    requires { ⌜ BondTables (now ea) (now eb) (now el) (now need) 0 ⌝ }
     requires { ⌜ (length (now need) ≤ length (now counts)) × (length (now ea) ≤ maxBonds) ⌝ }
     requires { ⌜ ((v : ℕ) → getD (now counts) v 0 ≡ 0) ⌝ }
     ensures { λ _. ⌜ Counts (bondsOf (now (ea .entry)) (now (eb .entry)) (now (el .entry))) (now (need .entry)) (now (counts .exit)) ⌝ }
@@ -103,7 +103,7 @@ fn lowest_with(need: &[u8], counts: &[u16], d: u16) -> AtomId
 
 // The bond k is free and has the atom v as an end.
 fn free_of(ea: &[u16], eb: &[u16], el: &[u8], need: &[u8], v: AtomId, k: BondId) -> bool
-    requires { ⌜ Tables (now ea) (now eb) (now el) (now need) 0 ⌝ }
+    requires { ⌜ BondTables (now ea) (now eb) (now el) (now need) 0 ⌝ }
     requires { ⌜ k .0 < length (now ea) ⌝ }
     ensures { λ r. ⌜ r ≡ freeOf (bondsOf (now (ea .entry)) (now (eb .entry)) (now (el .entry))) (now (need .entry)) (v .0) (k .0) ⌝ }
 {
@@ -117,7 +117,7 @@ fn free_of(ea: &[u16], eb: &[u16], el: &[u8], need: &[u8], v: AtomId, k: BondId)
 
 // The first free bond of the atom v; the number of bonds where it has none.
 fn free_bond(ea: &[u16], eb: &[u16], el: &[u8], need: &[u8], v: AtomId) -> BondId
-    requires { ⌜ Tables (now ea) (now eb) (now el) (now need) 0 ⌝ }
+    requires { ⌜ BondTables (now ea) (now eb) (now el) (now need) 0 ⌝ }
     ensures { λ r. ⌜ r .0 ≡ freeBond (bondsOf (now (ea .entry)) (now (eb .entry)) (now (el .entry))) (now (need .entry)) (v .0) ⌝ }
 {
     let mut i = 0;
@@ -132,7 +132,7 @@ fn free_bond(ea: &[u16], eb: &[u16], el: &[u8], need: &[u8], v: AtomId) -> BondI
 
 // One turn of the rule.
 fn take_turn(ea: &[u16], eb: &[u16], el: &[u8], need: &[u8]) -> Turn
-    requires { ⌜ Tables (now ea) (now eb) (now el) (now need) 0 ⌝ }
+    requires { ⌜ BondTables (now ea) (now eb) (now el) (now need) 0 ⌝ }
     requires { ⌜ (length (now need) ≤ maxAtoms) × (length (now ea) ≤ maxBonds) ⌝ }
     ensures { λ r. ⌜ Turned (bondsOf (now (ea .entry)) (now (eb .entry)) (now (el .entry))) (now (need .entry)) r ⌝ }
 {
@@ -153,7 +153,7 @@ fn take_turn(ea: &[u16], eb: &[u16], el: &[u8], need: &[u8]) -> Turn
 
 // internal: the forced list, filled into pairs from its start; need is left with the flags of the atoms that stay unpaired.
 pub fn force(ea: &[u16], eb: &[u16], el: &[u8], need: &mut [u8], pairs: &mut [u16]) -> Forcing
-    requires { ⌜ Tables (now ea) (now eb) (now el) (now need) 0 ⌝ }
+    requires { ⌜ BondTables (now ea) (now eb) (now el) (now need) 0 ⌝ }
     requires { ⌜ Roomy (now ea) (now eb) (now el) (now need) (now pairs) ⌝ }
     ensures { λ r. ⌜ Filled (bondsOf (now (ea .entry)) (now (eb .entry)) (now (el .entry))) (now (need .entry)) (now (pairs .entry)) (r .count) (r .stuck) (now (need .exit)) (now (pairs .exit)) ⌝ }
 {
@@ -220,7 +220,7 @@ fn undo(ea: &[u16], eb: &[u16], need: &mut [u8], pairs: &[u16], n: usize)
 
 // The lowest free bond; the number of bonds where there is none.
 fn lowest_free(ea: &[u16], eb: &[u16], el: &[u8], need: &[u8]) -> BondId
-    requires { ⌜ Tables (now ea) (now eb) (now el) (now need) 0 ⌝ }
+    requires { ⌜ BondTables (now ea) (now eb) (now el) (now need) 0 ⌝ }
     ensures { λ r. ⌜ r .0 ≡ lowestFree (bondsOf (now (ea .entry)) (now (eb .entry)) (now (el .entry))) (now (need .entry)) ⌝ }
 {
     let mut i = 0;
@@ -316,7 +316,7 @@ fn choose(
     let b = lowest_free(ea, eb, el, need);
     let at = b.0;
     if ea.len() <= at {
-        matching_search::blank(row, 0, ea.len());
+        matching_search::blank(row, BondId(0), BondId(ea.len()));
         return if matching_search::all_paired(need) {
             Sought::Found
         } else {
@@ -390,7 +390,7 @@ fn seek_any(
     match got {
         Sought::Found => true,
         Sought::Absent => {
-            matching_search::blank(row, 0, ea.len());
+            matching_search::blank(row, BondId(0), BondId(ea.len()));
             false
         }
         Sought::GaveUp => matching_certified::seek(ea, eb, el, need, row, BondId(0)),
@@ -426,7 +426,7 @@ pub fn first_forced(
     let forcing = force(ea, eb, el, need, pairs);
     let n = forcing.count;
     let found = seek_any(ea, eb, el, need, row, &mut pairs[n..]);
-    matching_search::clear(row, m);
+    matching_search::clear(row, BondId(m));
     if found {
         set_ones(row, pairs, n);
         clear_pairs(pairs, n);
@@ -583,10 +583,10 @@ pub fn next_forced(
     ensures { λ r. ⌜ reply r (now (row .exit)) ≡ rowNext (isMatching (now (need .entry)) (bondsOf (now (ea .entry)) (now (eb .entry)) (now (el .entry)))) (length (now (ea .entry))) (length (now (row .entry))) (take (length (now (ea .entry))) (now (row .entry))) ⌝ }
 {
     if !matching_search::is_matching(ea, eb, el, need, row, BondId(0)) {
-        matching_search::clear(row, 0);
+        matching_search::clear(row, BondId(0));
         return Answer::Refused;
     }
     let found = later(ea, eb, el, need, row, pairs);
-    matching_search::clear(row, ea.len());
+    matching_search::clear(row, BondId(ea.len()));
     if found { Answer::Given } else { Answer::Ended }
 }

@@ -17,39 +17,6 @@ use Rattle.matching.specs.Model.{part, matchingFrom, bondsOf, some?, headOr, Sh
 use Rattle.matching.proofs.Enumeration.{first-matching, row-length}
 use Rattle.matching.proofs.Graph.{matching-pairs}
 
--- a loop that blanks the row r stands at i between from and to
-pub record Blanking (r : Row) (from to i : ℕ) (row : Row) : Type 0 where
-  pub begun : from ≤ i
-  pub upto : i ≤ to
-  pub long : length row ≡ length r
-  pub so-far : row ≡ take from r ++ (replicate (i - from) 0 ++ drop i r)
-
-pub blank-start : {r : Row} {from to : ℕ} → from ≤ to → Blanking r from to from r
-blank-start {r} {from} h = record {
-  begun = omega arith;
-  upto = h;
-  long = refl;
-  so-far = let z : from - from ≡ 0 = omega arith in rw z (sym (take-append-drop from r));
-}
-
-blank-more : {r row : Row} {from to i : ℕ} → Blanking r from to i row → i < length r → set row i 0 ≡ take from r ++ (replicate ((i + 1) - from) 0 ++ drop (i + 1) r)
-blank-more {r} {row} {from} {to} {i} b l =
-    let n : length (take from r ++ replicate (i - from) 0) ≡ i = length-append (take from r) (replicate (i - from) 0) ∙ rw (length-take-le from r (omega arith), length-replicate) (omega arith) in
-    let q : (i + 1) - from ≡ (i - from) + 1 = omega arith in
-    ap (λ (x : Row). set x i 0) (b .so-far ∙ sym (append-assoc (take from r) (replicate (i - from) 0) (drop i r)) ∙ ap (λ (x : Row). (take from r ++ replicate (i - from) 0) ++ x) (drop-cons r i 0 l))
-    ∙ set-at (take from r ++ replicate (i - from) 0) (getD r i 0) (drop (suc i) r) 0 i n
-    ∙ rw (q, ← replicate-append-replicate {A = ℕ} (i - from) 1 0, add-one i) (append-assoc (take from r) (replicate (i - from) 0) (0 ∷ drop (suc i) r)
-    ∙ ap (λ (x : Row). take from r ++ x) (sym (append-assoc (replicate (i - from) 0) (0 ∷ []) (drop (suc i) r))))
-
-pub blank-step : {r row : Row} {from to i : ℕ} → Blanking r from to i row → i < to → to ≤ length r → Blanking r from to (i + 1) (set row i 0)
-blank-step {r} {row} {i = i} b h l = record { begun = omega arith; upto = omega arith; long = length-set row i 0 ∙ b .long; so-far = blank-more b (omega arith) }
-
-pub blank-end : {r row : Row} {from to i : ℕ} → Blanking r from to i row → to ≤ i → row ≡ take from r ++ (replicate (to - from) 0 ++ drop to r)
-blank-end {to = to} {i = i} b h = let q : i ≡ to = omega arith in rw q at (b .so-far)
-
-pub cleared : (r : Row) (from : ℕ) {row : Row} → row ≡ take from r ++ (replicate (length r - from) 0 ++ drop (length r) r) → row ≡ take from r ++ replicate (length r - from) 0
-cleared r from e = let h : length r ≤ length r = omega arith in e ∙ rw (drop-of-length-le r h, append-nil {A = ℕ} (replicate (length r - from) 0))
-
 -- the whole row after a search from 0, cleared behind the last bond
 replicates : (a b : ℕ) → replicate a 0 ++ replicate b 0 ≡ replicate {A = ℕ} (a + b) 0
 replicates a b = replicate-append-replicate {A = ℕ} a b 0

@@ -172,25 +172,26 @@ pub fn later(ea: &[u16], eb: &[u16], el: &[u8], need: &mut [u8], row: &mut [u8],
     later(ea, eb, el, need, row, BondId(next))
 }
 
-// internal: zeros from the cell `from` up to `to`.
-pub fn blank(row: &mut [u8], from: usize, to: usize)
-    requires { ⌜ (from ≤ to) × (to ≤ length (now row)) ⌝ }
-    ensures { λ _. ⌜ now (row .exit) ≡ take from (now (row .entry)) ++ (replicate (to - from) 0 ++ drop to (now (row .entry))) ⌝ }
+// internal: zeros from the cell of the bond `from` up to that of the bond `to`.
+pub fn blank(row: &mut [u8], from: BondId, to: BondId)
+    requires { ⌜ (from .0 ≤ to .0) × (to .0 ≤ length (now row)) ⌝ }
+    ensures { λ _. ⌜ now (row .exit) ≡ take (from .0) (now (row .entry)) ++ (replicate (to .0 - from .0) 0 ++ drop (to .0) (now (row .entry))) ⌝ }
 {
-    let mut i = from;
-    while i < to {
+    let end = to.0;
+    let mut i = from.0;
+    while i < end {
         row[i] = 0;
         i += 1;
     }
 }
 
-// internal: zeros from the cell `from` on.
-pub fn clear(row: &mut [u8], from: usize)
-    requires { ⌜ from ≤ length (now row) ⌝ }
-    ensures { λ _. ⌜ now (row .exit) ≡ take from (now (row .entry)) ++ replicate (length (now (row .entry)) - from) 0 ⌝ }
+// internal: zeros from the cell of the bond `from` on.
+pub fn clear(row: &mut [u8], from: BondId)
+    requires { ⌜ from .0 ≤ length (now row) ⌝ }
+    ensures { λ _. ⌜ now (row .exit) ≡ take (from .0) (now (row .entry)) ++ replicate (length (now (row .entry)) - from .0) 0 ⌝ }
 {
     let to = row.len();
-    blank(row, from, to);
+    blank(row, from, BondId(to));
 }
 
 // internal: the first matching.
@@ -200,7 +201,7 @@ pub fn first(ea: &[u16], eb: &[u16], el: &[u8], need: &mut [u8], row: &mut [u8])
     ensures { λ r. ⌜ reply r (now (row .exit)) ≡ rowFirst (isMatching (now (need .entry)) (bondsOf (now (ea .entry)) (now (eb .entry)) (now (el .entry)))) (length (now (ea .entry))) (length (now (row .entry))) ⌝ }
 {
     let found = seek(ea, eb, el, need, row, BondId(0));
-    clear(row, ea.len());
+    clear(row, BondId(ea.len()));
     if found { Answer::Given } else { Answer::Absent }
 }
 
@@ -211,10 +212,10 @@ pub fn next(ea: &[u16], eb: &[u16], el: &[u8], need: &mut [u8], row: &mut [u8]) 
     ensures { λ r. ⌜ reply r (now (row .exit)) ≡ rowNext (isMatching (now (need .entry)) (bondsOf (now (ea .entry)) (now (eb .entry)) (now (el .entry)))) (length (now (ea .entry))) (length (now (row .entry))) (take (length (now (ea .entry))) (now (row .entry))) ⌝ }
 {
     if !is_matching(ea, eb, el, need, row, BondId(0)) {
-        clear(row, 0);
+        clear(row, BondId(0));
         return Answer::Refused;
     }
     let found = later(ea, eb, el, need, row, BondId(0));
-    clear(row, ea.len());
+    clear(row, BondId(ea.len()));
     if found { Answer::Given } else { Answer::Ended }
 }

@@ -1,42 +1,33 @@
 -- An accepted text: valid tables, every row as it was read, and the hydrogens of 01. Assumes nothing.
-use Prim.Native.Nat.{ℕ, _+_, _*_, _≤_, _<_}
+use Prim.Native.Nat.{ℕ, _+_, _≤_, _<_}
 use native.Mathlib.Omega.{arith}
 use mathlib.Core.Path.{_≡_, refl, sym, ap, subst, _∙_}
-use mathlib.Core.Bool.{true}
 use mathlib.Core.List.{List}
 use lib.ListN.{length, getD}
 use lib.IntN.{ℤ, pos}
 use Rattle.valence.specs.Valence.{implied}
 use Rattle.reading_grammar.specs.declared.State.{State}
 use Rattle.reading_grammar.specs.declared.State.the-variants.{Start as start}
-use Rattle.reading_grammar.specs.Machine.{accepting}
 use Rattle.reading_grammar.specs.Fold.{going, halted}
 use Rattle.reading_grammar.proofs.Fold.{Halts, read-halts}
-use Rattle.table.specs.Limits.{atomCells, bondCells, ELEMENT, SELECTED, HYDROGENS}
+use Rattle.table.specs.Limits.{atomCells, ELEMENT, SELECTED, HYDROGENS}
 use Rattle.table.specs.Cells.{atomPlace, element, selected}
 use Rattle.table.specs.Rows.{atomRow}
 use Rattle.table.specs.Valid.{Valid}
-use Rattle.table_graph.specs.Graph.{bondSum, matchable}
-use Rattle.reading_state.specs.Limits.{maxText}
+use Rattle.table_graph.specs.Graph.{bondSum}
+use Rattle.ids.specs.Limits.{maxText}
 use Rattle.reading.specs.Memory.{Memory}
 use Rattle.reading.specs.Act.{act}
-use Rattle.reading.specs.Read.{Told, zeros, short, beginning, readOf}
+use Rattle.reading.specs.Read.{ReadResult, zeros, short, beginning, readOf}
+use Rattle.reading.specs.Conditions.{bytesRead, atomsOf, Fits}
+use Rattle.reading.specs.Claims.{withHydrogens, Given, Accepted}
 use Rattle.reading.proofs.Sane.{Sane, SaneReading}
 use Rattle.reading.proofs.Step.{sane-text}
-use Rattle.reading.proofs.Hydrogens.{withHydrogens, hydrogenated-length, hydrogenated-other, row-given, row-kept}
+use Rattle.reading.proofs.Hydrogens.{hydrogenated-length, hydrogenated-other, row-given, row-kept}
 use Rattle.reading.proofs.Valid.{sane-valid}
 use Rattle.reading.proofs.Refusals.{act-code}
 use Rattle.reading.proofs.Leftmost.{none-open}
-use Rattle.reading.proofs.Outcome.{bytesRead, Fits, atomsOf, accepted, Outcome, outcome}
-
--- the hydrogens that an atom outside brackets gets: by its element, its selection and its bonds
-abbrev pub impliedAt : Told → ℕ → ℤ
-impliedAt t a = pos (implied (element (t .atoms) a) (selected (t .atoms) a) (bondSum (t .bonds) (t .bondCount) a))
-
--- the row of the atom a of an accepted text, given what stood in the table after its last byte
-pub record Given (μ : Memory) (t : Told) (a : ℕ) : Type 0 where
-  pub outside : getD (μ .st .outside) a 0 ≡ 1 → atomRow (t .atoms) a ≡ withHydrogens (atomRow (μ .atoms) a) (impliedAt t a)
-  pub bracket : (getD (μ .st .outside) a 0 ≡ 1 → ⊥) → atomRow (t .atoms) a ≡ atomRow (μ .atoms) a
+use Rattle.reading.proofs.Outcome.{accepted, Outcome, outcome}
 
 module _ (s : List ℕ) (atoms bonds : List ℤ) where
   -- the memory of every reading that goes on is sane
@@ -57,7 +48,7 @@ module _ (s : List ℕ) (atoms bonds : List ℤ) where
   pub read-valid : readOf s atoms bonds .code ≡ 0 → Valid (readOf s atoms bonds .atoms) (readOf s atoms bonds .bonds) (readOf s atoms bonds .atomCount) (readOf s atoms bonds .bondCount)
   read-valid = go (readOf s atoms bonds) (outcome s atoms bonds)
     where
-      go : (t : Told) → Outcome s atoms bonds t → t .code ≡ 0 → Valid (t .atoms) (t .bonds) (t .atomCount) (t .bondCount)
+      go : (t : ReadResult) → Outcome s atoms bonds t → t .code ≡ 0 → Valid (t .atoms) (t .bonds) (t .atomCount) (t .bondCount)
       go t (Outcome.too-short e) z = absurd (omega arith)
       go t (Outcome.too-long e l) z = absurd (omega arith)
       go t (Outcome.halts f e) z = let h = halt-code e in absurd (omega arith)
@@ -67,21 +58,6 @@ module _ (s : List ℕ) (atoms bonds : List ℤ) where
       go t (Outcome.accepts f e a l m) z = sane-valid (read-sane f e)
 
   -- ---- hydrogens
-
-  -- an accepted text, the memory after its last byte, and the rows
-  pub record Accepted (t : Told) : Type 0 where
-    pub fits : Fits s atoms bonds
-    pub state : State
-    pub memory : Memory
-    pub reached : bytesRead s atoms bonds ≡ going state memory
-    pub ends : accepting state ≡ true
-    pub counts : (t .atomCount ≡ memory .st .atoms) × (t .bondCount ≡ memory .st .bonds) × (t .bonds ≡ memory .bonds)
-    pub rows : (a : ℕ) → a < t .atomCount → Given memory t a
-    pub lengths : (length (t .atoms) ≡ length atoms) × (length (t .bonds) ≡ length bonds)
-    pub unused-atoms : (k : ℕ) → atomCells * t .atomCount ≤ k → getD (t .atoms) k (pos 0) ≡ pos 0
-    pub unused-bonds : (k : ℕ) → bondCells * t .bondCount ≤ k → getD (t .bonds) k (pos 0) ≡ pos 0
-    pub no-open-bridge : (r : ℕ) → getD (memory .st .opener) r 0 ≡ 0
-    pub matched : matchable (t .atoms) (t .bonds) (t .atomCount) (t .bondCount) ≡ true
 
   given : {σ : State} {μ : Memory} → Sane (length atoms) (length bonds) σ (length s) μ → (a : ℕ) → a < μ .st .atoms → Given μ (accepted μ) a
   given {σ} {μ} w a l = record { outside = outside; bracket = row-kept (μ .st .outside) (μ .bonds) (μ .st .bonds) (μ .st .atoms) (μ .atoms) a }
@@ -102,10 +78,10 @@ module _ (s : List ℕ) (atoms bonds : List ℤ) where
   early f w r o = omega (arith, w .steering .offset r o, f .short)
 
   -- code 0: every row is what was read, with the hydrogens that 01 gives to an atom outside brackets
-  pub read-accepted : readOf s atoms bonds .code ≡ 0 → Accepted (readOf s atoms bonds)
+  pub read-accepted : readOf s atoms bonds .code ≡ 0 → Accepted s atoms bonds (readOf s atoms bonds)
   read-accepted = go (readOf s atoms bonds) (outcome s atoms bonds)
     where
-      go : (t : Told) → Outcome s atoms bonds t → t .code ≡ 0 → Accepted t
+      go : (t : ReadResult) → Outcome s atoms bonds t → t .code ≡ 0 → Accepted s atoms bonds t
       go t (Outcome.too-short e) z = absurd (omega arith)
       go t (Outcome.too-long e l) z = absurd (omega arith)
       go t (Outcome.halts f e) z = let h = halt-code e in absurd (omega arith)

@@ -1,42 +1,24 @@
 -- What is told after the last byte: 10 at the leftmost opening, and 11 exactly where there is no matching. Assumes nothing.
-use Prim.Native.Nat.{ℕ}
+use Prim.Native.Nat.{ℕ, _<_}
 use native.Mathlib.Omega.{arith}
-use mathlib.Core.Path.{_≡_}
-use mathlib.Core.Bool.{true, false}
+use mathlib.Core.Path.{_≡_, ap}
 use mathlib.Core.Logic.{_↔_}
 use mathlib.Core.List.{List}
-use lib.ListN.{length, getD}
+use lib.ListN.{length}
 use lib.IntN.{ℤ}
-use borrow.Author.Tests.{le-leb, le-ltb}
-use Rattle.reading_grammar.specs.declared.State.{State}
-use Rattle.reading_grammar.specs.Machine.{accepting}
-use Rattle.reading_grammar.specs.Fold.{going}
-use Rattle.table_graph.specs.Graph.{matchable}
-use Rattle.reading_state.specs.Limits.{maxText}
-use Rattle.reading.specs.Memory.{Memory}
-use Rattle.reading.specs.Read.{Told, short, leftmost, ended, readFrom, readOf}
-use Rattle.reading.proofs.Leftmost.{LeftmostOpening, closed-none, leftmost-open, none-open}
-use Rattle.reading.proofs.Outcome.{bytesRead, Fits, atomsOf, Outcome, outcome}
+use borrow.Author.Tests.{le-leb, le-ltb, lt-ltb}
+use Rattle.ids.specs.Limits.{maxText}
+use Rattle.reading.specs.Read.{ReadResult, refused, short, leftmost, ended, readFrom, readOf}
+use Rattle.reading.specs.Conditions.{atomsOf, Unclosed, Unmatched}
+use Rattle.reading.proofs.Leftmost.{closed-none, leftmost-open, none-open, opening-leftmost}
+use Rattle.reading.proofs.Outcome.{Outcome, outcome}
 use Rattle.reading.proofs.Accepted.{halt-code, read-sane, early}
 
 module _ (s : List ℕ) (atoms bonds : List ℤ) where
-  -- the text was read to its end
-  pub record Read (σ : State) (μ : Memory) : Type 0 where
-    pub fits : Fits s atoms bonds
-    pub reached : bytesRead s atoms bonds ≡ going σ μ
-    pub ends : accepting σ ≡ true
-
-  -- 10: the offset is the leftmost opening of a bridge that is still open
-  pub record Unclosed (p : ℕ) : Type 0 where
-    pub state : State
-    pub memory : Memory
-    pub reads : Read state memory
-    pub leftmost : LeftmostOpening (memory .st .opener) (memory .st .offset) p
-
-  pub read-unclosed : readOf s atoms bonds .code ≡ 10 → Unclosed (readOf s atoms bonds .offset)
+  pub read-unclosed : readOf s atoms bonds .code ≡ 10 → Unclosed s atoms bonds (readOf s atoms bonds .offset)
   read-unclosed = go (readOf s atoms bonds) (outcome s atoms bonds)
     where
-      go : (t : Told) → Outcome s atoms bonds t → t .code ≡ 10 → Unclosed (t .offset)
+      go : (t : ReadResult) → Outcome s atoms bonds t → t .code ≡ 10 → Unclosed s atoms bonds (t .offset)
       go t (Outcome.too-short e) z = absurd (omega arith)
       go t (Outcome.too-long e l) z = absurd (omega arith)
       go t (Outcome.halts f e) z = let h = halt-code s atoms bonds e in absurd (omega arith)
@@ -46,18 +28,10 @@ module _ (s : List ℕ) (atoms bonds : List ℤ) where
       go t (Outcome.unmatched f e a l m) z = absurd (omega arith)
       go t (Outcome.accepts f e a l m) z = absurd (omega arith)
 
-  -- 11: no bridge is open, and the molecule read has no matching
-  pub record Unmatched : Type 0 where
-    pub state : State
-    pub memory : Memory
-    pub reads : Read state memory
-    pub no-open-bridge : (r : ℕ) → getD (memory .st .opener) r 0 ≡ 0
-    pub none : matchable (atomsOf memory) (memory .bonds) (memory .st .atoms) (memory .st .bonds) ≡ false
-
-  read-unmatched : readOf s atoms bonds .code ≡ 11 → Unmatched
+  read-unmatched : readOf s atoms bonds .code ≡ 11 → Unmatched s atoms bonds
   read-unmatched = go (readOf s atoms bonds) (outcome s atoms bonds)
     where
-      go : (t : Told) → Outcome s atoms bonds t → t .code ≡ 11 → Unmatched
+      go : (t : ReadResult) → Outcome s atoms bonds t → t .code ≡ 11 → Unmatched s atoms bonds
       go t (Outcome.too-short e) z = absurd (omega arith)
       go t (Outcome.too-long e l) z = absurd (omega arith)
       go t (Outcome.halts f e) z = let h = halt-code s atoms bonds e in absurd (omega arith)
@@ -74,7 +48,7 @@ module _ (s : List ℕ) (atoms bonds : List ℤ) where
           }
       go t (Outcome.accepts f e a l m) z = absurd (omega arith)
 
-  unmatched-read : Unmatched → readOf s atoms bonds .code ≡ 11
+  pub unmatched-read : (u : Unmatched s atoms bonds) → readOf s atoms bonds ≡ refused 11 0 (atomsOf (u .memory)) (u .memory .bonds)
   unfolding readOf readFrom ended
   unmatched-read u =
       let μ = u .memory in
@@ -85,5 +59,19 @@ module _ (s : List ℕ) (atoms bonds : List ℤ) where
       let none = le-ltb (leftmost (μ .st .opener) (μ .st .offset)) maxText (closed-none (μ .st .opener) (μ .st .offset) (u .no-open-bridge)) in
       rw (room, size, last, ends, none, u .none)
 
-  pub unmatched-iff : (readOf s atoms bonds .code ≡ 11) ↔ Unmatched
-  unmatched-iff = (read-unmatched, unmatched-read)
+  pub unmatched-iff : (readOf s atoms bonds .code ≡ 11) ↔ Unmatched s atoms bonds
+  unmatched-iff = (read-unmatched, λ u. ap (λ (t : ReadResult). t .code) (unmatched-read u))
+
+  pub unclosed-read : {p : ℕ} (u : Unclosed s atoms bonds p) → readOf s atoms bonds ≡ refused 10 p (u .memory .atoms) (u .memory .bonds)
+  unfolding readOf readFrom ended
+  unclosed-read {p} u =
+      let μ = u .memory in
+      let f = u .reads .fits in
+      let w = read-sane s atoms bonds f (u .reads .reached) in
+      let low : p < maxText = omega (arith, u .leftmost .opening, early s atoms bonds f w (u .leftmost .number) (u .leftmost .still-open)) in
+      let e : leftmost (μ .st .opener) (μ .st .offset) ≡ p = opening-leftmost (μ .st .opener) (μ .st .offset) (w .steering .opener-length) (u .leftmost) low in
+      let room = f .room in
+      let size = le-leb (length s) maxText (f .short) in
+      let last = u .reads .reached in
+      let ends = u .reads .ends in
+      rw (room, size, last, ends, e, lt-ltb p maxText low)

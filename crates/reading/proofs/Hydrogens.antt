@@ -21,6 +21,7 @@ use Rattle.table.specs.Rows.{atomRow}
 use Rattle.table.specs.Valid.{atomOk, selectable}
 use Rattle.table_graph.specs.Graph.{bondSum}
 use Rattle.reading.specs.Read.{hydrogenate, hydrogenated}
+use Rattle.reading.specs.Claims.{withHydrogens}
 use Rattle.reading.proofs.Cases.{by-test}
 use Rattle.reading.proofs.Rows.{same-atom-row, within, rowOk, atom-ok-row}
 
@@ -130,10 +131,6 @@ swap true true true false c d e p q = never q
 swap true true false k c d e p q = never p
 swap true false h k c d e p q = never p
 swap false b h k c d e p q = never p
-
--- the row with another count of hydrogens
-abbrev pub withHydrogens : Atom → ℤ → Atom
-withHydrogens x h = record { element = x .element; selected = x .selected; isotope = x .isotope; hydrogens = h; charge = x .charge; extension = x .extension }
 
 with-hydrogens : (x : Atom) (h : ℕ) → rowOk x ≡ true → h ≤ 9 → rowOk (withHydrogens x (pos h)) ≡ true
 unfolding rowOk

@@ -12,7 +12,7 @@ use Rattle.loops.proofs.Loops.{each-at}
 use Rattle.reading_grammar.specs.declared.Last.the-variants.{Plain as plain}
 use Rattle.reading_grammar.specs.declared.Mode.the-variants.{Seq as seq, Inside as inside}
 use Rattle.reading_grammar.specs.declared.State.the-variants.{At as at}
-use Rattle.reading_grammar.specs.Fold.{keeps, refuses}
+use Rattle.reading_grammar.specs.Fold.{keeps}
 use Rattle.reading_grammar.proofs.Ends.{never}
 use Rattle.table.specs.Limits.{maxBonds}
 use Rattle.table.specs.Cells.{end1, end2}
@@ -22,7 +22,7 @@ use Rattle.reading.proofs.Cases.{by-test}
 use Rattle.reading.proofs.Sane.{Tables, Sane, SaneAct}
 use lib.ListN.{getD}
 use Rattle.table.specs.Rows.{withBond}
-use Rattle.reading_state.specs.Limits.{maxDepth, bridges}
+use Rattle.ids.specs.Limits.{maxDepth, bridges}
 use Rattle.reading_state.specs.State.{opened, closed, bridged, joined}
 use Rattle.reading.proofs.Tables.{bond-added}
 use Rattle.reading.proofs.Steering.{later, opened-steering, closed-steering, closed-hub, bridged-steering}
@@ -117,17 +117,14 @@ module _ {p q d i : ℕ} {μ : Memory} (h : Held p q d i μ) where
   -- ---- a branch
   pub branch-act : SaneAct p q (at inside (suc d)) (suc i) (branchAct i μ)
   unfolding branchAct opened
-  branch-act = split (leb maxDepth (μ .st .depth)) refl
-    where
-      split : (t : Bool) → leb maxDepth (μ .st .depth) ≡ t → SaneAct p q (at inside (suc d)) (suc i) (pick t (refuses 6 i) (keeps (moved (opened (μ .st)) μ)))
-      split true e = tt
-      split false e =
-          record {
-            tables = h .tables;
-            steering = opened-steering (h .steering) (leb-false maxDepth (μ .st .depth) e) (h .hub);
-            kind = omega arith;
-            stands = record { hub = h .hub; depth = omega (arith, h .depth); half = tt };
-          }
+  branch-act =
+      by-test (SaneAct p q (at inside (suc d)) (suc i)) (leb maxDepth (μ .st .depth)) _ _ (λ e. tt) (λ e.
+      record {
+        tables = h .tables;
+        steering = opened-steering (h .steering) (leb-false maxDepth (μ .st .depth) e) (h .hub);
+        kind = omega arith;
+        stands = record { hub = h .hub; depth = omega (arith, h .depth); half = tt };
+      })
 
   pub unbranch-act : (e : ℕ) → d ≡ suc e → Sane p q (at (seq plain) e) (suc i) (moved (closed (μ .st)) μ)
   unfolding closed

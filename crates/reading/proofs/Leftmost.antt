@@ -8,13 +8,10 @@ use mathlib.Core.List.{List}
 use lib.ListN.{length, getD, List·getD-eq-default}
 use borrow.Author.Tests.{eqb-true, eqb-false, ltb-true, ltb-false}
 use Rattle.loops.specs.Loop.{run}
-use Rattle.reading_state.specs.Limits.{bridges, maxText}
+use Rattle.ids.specs.Limits.{bridges, maxText}
 use Rattle.reading.proofs.Cases.{by-test}
 use Rattle.reading.specs.Read.{earlier, leftmost}
-
--- the bridge number r is open
-abbrev pub Open : List ℕ → ℕ → Type 0
-Open opener r = 0 < getD opener r 0
+use Rattle.reading.specs.Conditions.{Open, LeftmostOpening}
 
 module _ (opener offset : List ℕ) where
   -- the lowest of p and the offsets of the open ones among c numbers from k on
@@ -59,13 +56,6 @@ module _ (opener offset : List ℕ) where
           told (inr o) (inl f) = inr (k, o .0, o .1 ∙ sym f)
           told t (inr w) = inr w
 
-  -- the smallest offset of an open bridge
-  pub record LeftmostOpening (p : ℕ) : Type 0 where
-    pub number : ℕ
-    pub still-open : Open opener number
-    pub opening : getD offset number 0 ≡ p
-    pub least : (r : ℕ) → Open opener r → p ≤ getD offset r 0
-
   -- where every bridge is closed there is none
   pub closed-none : ((r : ℕ) → getD opener r 0 ≡ 0) → maxText ≤ leftmost opener offset
   unfolding leftmost
@@ -83,11 +73,11 @@ module _ (opener offset : List ℕ) where
         split (yes l) = l
         split (no n) = let z : getD opener r 0 ≡ 0 = List·getD-eq-default opener 0 (omega arith) in absurd (omega arith)
 
-    pub leftmost-open : leftmost opener offset < maxText → LeftmostOpening (leftmost opener offset)
+    pub leftmost-open : leftmost opener offset < maxText → LeftmostOpening opener offset (leftmost opener offset)
     unfolding leftmost
     leftmost-open l = split (lowest bridges 0 maxText .told)
       where
-        split : (leftmost opener offset ≡ maxText) ⊎ ((r : ℕ) × (Open opener r) × (getD offset r 0 ≡ leftmost opener offset)) → LeftmostOpening (leftmost opener offset)
+        split : (leftmost opener offset ≡ maxText) ⊎ ((r : ℕ) × (Open opener r) × (getD offset r 0 ≡ leftmost opener offset)) → LeftmostOpening opener offset (leftmost opener offset)
         split (inl e) = absurd (omega arith)
         split (inr w) = record { number = w .0; still-open = w .1; opening = w .2; least = λ r o. lowest bridges 0 maxText .least r (omega arith) (omega (arith, in-range r o)) o }
 
@@ -99,3 +89,14 @@ module _ (opener offset : List ℕ) where
         split : Dec (getD opener r 0 ≡ 0) → getD opener r 0 ≡ 0
         split (yes e) = e
         split (no n) = let o : Open opener r = omega arith in absurd (omega (arith, early r o, lowest bridges 0 maxText .least r (omega arith) (omega (arith, in-range r o)) o))
+
+    -- the leftmost opening is the one that is computed
+    pub opening-leftmost : {p : ℕ} → LeftmostOpening opener offset p → p < maxText → leftmost opener offset ≡ p
+    unfolding leftmost
+    opening-leftmost {p} w l =
+        let q = lowest bridges 0 maxText .least (w .number) (omega arith) (omega (arith, in-range (w .number) (w .still-open))) (w .still-open) in
+        let o = w .opening in
+        let v = leftmost-open (omega arith) in
+        let r = w .least (v .number) (v .still-open) in
+        let e = v .opening in
+        omega arith

@@ -1,13 +1,13 @@
--- Why a byte is refused with 4 to 9: each check of 01, with those that are asked before it. Assumes nothing.
+-- Why a byte is refused with 4 to 9: at each the check of 01 that failed. Assumes nothing.
 use Prim.Native.Nat.{ℕ, _+_, _-_, _*_, _≤_, _<_}
 use native.Mathlib.Omega.{arith}
-use mathlib.Core.Path.{_≡_, subst}
-use mathlib.Core.Bool.{true, false}
-use mathlib.Core.Logic.{⊎-elim}
+use mathlib.Core.Path.{_≡_, refl, subst}
+use mathlib.Core.Bool.{true}
+use mathlib.Core.Logic.{⊎-elim, _≢_}
 use mathlib.Core.List.{[], _∷_}
 use lib.ListN.{getD}
 use lib.Dec.{eqb, leb}
-use borrow.Author.Tests.{eqb-true, eqb-false, leb-true, leb-false}
+use borrow.Author.Tests.{eqb-true, eqb-false, leb-true}
 use Rattle.loops.proofs.Loops.{and-left, and-right}
 use Rattle.element.specs.declared.Letter.{Letter}
 use Rattle.element.specs.declared.Letter.the-variants.{Plain, Selected, Half, Bracket, Nothing}
@@ -17,7 +17,7 @@ use Rattle.reading_grammar.specs.Grammar.{nonzero, digits, several, bondSymbols
 use Rattle.reading_grammar.specs.declared.Last.{Last}
 use Rattle.reading_grammar.specs.declared.Last.the-variants.{Plain as plain, AfterC as afterC, AfterB as afterB}
 use Rattle.reading_grammar.specs.declared.Mode.{Mode}
-use Rattle.reading_grammar.specs.declared.Mode.the-variants.{Seq as seq, Bond as bond, Dot as dot, Inside as inside, Percent as percent, Percent1 as percent1, LetterA as letterA, LetterT as letterT, Bracket as bracket, Isotope as isotope, Symbol1 as symbol1, Symbolled as symbolled, Hydrogen as hydrogen, Hydrogens as hydrogens, Sign as sign, Charged as charged, Colon as colon, Extension as extension}
+use Rattle.reading_grammar.specs.declared.Mode.the-variants.{Seq as seq, Bond as bond, AtomNext as atomNext, Inside as inside, Percent as percent, Percent1 as percent1, LetterA as letterA, LetterT as letterT, Bracket as bracket, Isotope as isotope, Symbol1 as symbol1, Symbolled as symbolled, Hydrogen as hydrogen, Hydrogens as hydrogens, Sign as sign, Charged as charged, Colon as colon, Extension as extension}
 use Rattle.reading_grammar.specs.declared.Out.{Out}
 use Rattle.reading_grammar.specs.declared.Out.the-variants.{Stop as stop}
 use Rattle.reading_grammar.specs.declared.State.{State}
@@ -26,76 +26,73 @@ use Rattle.reading_grammar.specs.Machine.{alive, turn, step, next, atomOr}
 use Rattle.reading_grammar.specs.Fold.{keeps, refuses}
 use Rattle.reading_grammar.proofs.Ends.{never}
 use Rattle.table.specs.Limits.{maxAtoms, maxBonds}
-use Rattle.reading_state.specs.Limits.{maxDepth}
+use Rattle.ids.specs.Limits.{maxDepth}
 use Rattle.reading_state.specs.State.{opened, joined}
 use Rattle.reading.specs.Memory.{Memory, kindOf, bonded, moved, clash, joinedAlready, closeRefusal}
 use Rattle.reading.specs.Bracket.{digit}
-use Rattle.reading.specs.Act.{Acts, bridgeBond, charging, hydrating, jointAct, orAtom, atomAct, orRefuse, bridgeAct, branchAct, goesOn, modeAct, act}
+use Rattle.reading.specs.Act.{Acts, bridgeBond, chargeAct, hydrogenAct, jointAct, orAtom, atomAct, orRefuse, bridgeAct, branchAct, letterAct, modeAct, act}
+use Rattle.reading.specs.Conditions.{AtomMayBegin, BridgeMayStand, Open, openerOf}
 use Rattle.reading.proofs.Cases.{by-test}
 use Rattle.reading.proofs.Letters.{Begins, begins}
 
 -- the byte b completes the bridge number r, whose digit or `%` stands at p
 pub data Completes : State → ℕ → ℕ → Memory → ℕ → ℕ → Type 0 where
-  by-digit : {σ : State} {b i : ℕ} {μ : Memory} → among b nonzero ≡ true → Completes σ b i μ (digit b) i
+  by-digit : {σ : State} {b i : ℕ} {μ : Memory} → BridgeMayStand σ → among b nonzero ≡ true → Completes σ b i μ (digit b) i
   by-percent : {b d i : ℕ} {μ : Memory} → Completes (at percent1 d) b i μ (10 * μ .tens + digit b) (i - 2)
 
--- the bridge number r is open, and the byte closes it: the opening atom, and the opening's and the closing's symbols
+-- the bridge number r is open, and the byte closes it
 pub record Closes (σ : State) (b i : ℕ) (μ : Memory) (r p : ℕ) : Type 0 where
   pub complete : Completes σ b i μ r p
-  pub opened : getD (μ .st .opener) r 0 ≡ 0 → ⊥
+  pub opened : Open (μ .st .opener) r
 
-abbrev pub openerOf : Memory → ℕ → ℕ
-openerOf μ r = getD (μ .st .opener) r 0 - 1
+-- the byte b begins an atom, if the grammar goes on
+pub record Starts (σ : State) (b : ℕ) : Type 0 where
+  pub place : AtomMayBegin σ
+  pub first-byte : alive (step σ b) ≡ true → letterOf b ≢ Nothing
 
 -- the byte b at the place i, in the state σ, is refused with a code and an offset
 pub data Why (σ : State) (b i : ℕ) (μ : Memory) : ℕ → ℕ → Type 0 where
-  -- 4: a 201st atom begins
-  many-atoms : (alive (step σ b) ≡ true → letterOf b ≡ Nothing → ⊥) → maxAtoms ≤ μ .st .atoms → Why σ b i μ 4 i
-  -- 5: 250 bonds stand and another atom is to be bonded (and not 4)
-  many-bonds : (alive (step σ b) ≡ true → letterOf b ≡ Nothing → ⊥) → μ .st .atoms < maxAtoms → bonded μ ≡ true → maxBonds ≤ μ .st .bonds → Why σ b i μ 5 i
-  -- 5: 250 bonds stand and a bridge closes
+  many-atoms : Starts σ b → maxAtoms ≤ μ .st .atoms → Why σ b i μ 4 i
+  many-bonds : Starts σ b → bonded μ ≡ true → maxBonds ≤ μ .st .bonds → Why σ b i μ 5 i
   many-bridges : {r p : ℕ} → Closes σ b i μ r p → maxBonds ≤ μ .st .bonds → Why σ b i μ 5 p
-  -- 6: a 65th branch opens inside 64
-  many-branches : b ≡ 40 → maxDepth ≤ μ .st .depth → Why σ b i μ 6 i
-  -- 7: a bridge joins an atom to itself (and not 5)
-  to-itself : {r p : ℕ} → Closes σ b i μ r p → μ .st .bonds < maxBonds → openerOf μ r ≡ μ .st .hub .0 → Why σ b i μ 7 p
-  -- 8: a bridge joins two atoms that have a bond (and neither 5 nor 7)
-  joined-twice : {r p : ℕ} → Closes σ b i μ r p → μ .st .bonds < maxBonds → (openerOf μ r ≡ μ .st .hub .0 → ⊥) → joinedAlready (μ .bonds) (μ .st .bonds) (openerOf μ r) (μ .st .hub .0) ≡ true → Why σ b i μ 8 p
-  -- 9: the symbols at a bridge's ends differ (and none of 5, 7, 8)
-  symbols-differ : {r p : ℕ} → Closes σ b i μ r p → μ .st .bonds < maxBonds → (openerOf μ r ≡ μ .st .hub .0 → ⊥) → joinedAlready (μ .bonds) (μ .st .bonds) (openerOf μ r) (μ .st .hub .0) ≡ false → clash (getD (μ .st .symbol) r 0) (kindOf (μ .pending)) ≡ true → Why σ b i μ 9 p
+  many-branches : {x : Last} {d : ℕ} → σ ≡ at (seq x) d → b ≡ 40 → maxDepth ≤ μ .st .depth → Why σ b i μ 6 i
+  to-itself : {r p : ℕ} → Closes σ b i μ r p → openerOf μ r ≡ μ .st .hub .0 → Why σ b i μ 7 p
+  joined-twice : {r p : ℕ} → Closes σ b i μ r p → joinedAlready (μ .bonds) (μ .st .bonds) (openerOf μ r) (μ .st .hub .0) ≡ true → Why σ b i μ 8 p
+  symbols-differ : {r p : ℕ} → Closes σ b i μ r p → clash (getD (μ .st .symbol) r 0) (kindOf (μ .pending)) ≡ true → Why σ b i μ 9 p
 
 -- what a byte does, if it is a refusal, has a reason
 abbrev Explained : State → ℕ → ℕ → Memory → Acts → Type 0
 Explained σ b i μ (keeps ν) = Unit {0}
 Explained σ b i μ (refuses c p) = Why σ b i μ c p
 
+positive : (n : ℕ) → n ≢ 0 → 0 < n
+positive n h = omega arith
+
 module _ (σ : State) (b i : ℕ) (μ : Memory) where
-  atom-why : (alive (step σ b) ≡ true → letterOf b ≡ Nothing → ⊥) → Explained σ b i μ (atomAct b i μ)
+  atom-why : Starts σ b → Explained σ b i μ (atomAct b i μ)
   unfolding atomAct
   atom-why n =
       by-test (Explained σ b i μ) _ _ _ (λ e. Why.many-atoms n (leb-true maxAtoms (μ .st .atoms) e)) (λ e.
       by-test (Explained σ b i μ) _ _ _
-      (λ f. Why.many-bonds n (leb-false maxAtoms (μ .st .atoms) e) (and-left (bonded μ) (leb maxBonds (μ .st .bonds)) f) (leb-true maxBonds (μ .st .bonds) (and-right (bonded μ) (leb maxBonds (μ .st .bonds)) f)))
+      (λ f. Why.many-bonds n (and-left (bonded μ) (leb maxBonds (μ .st .bonds)) f) (leb-true maxBonds (μ .st .bonds) (and-right (bonded μ) (leb maxBonds (μ .st .bonds)) f)))
       (λ f. tt))
 
   bridge-why : (r p : ℕ) → Completes σ b i μ r p → Explained σ b i μ (bridgeAct r p μ)
   unfolding bridgeAct closeRefusal
   bridge-why r p k =
       by-test (Explained σ b i μ) _ _ _ (λ e. tt) (λ e.
-      let closes : Closes σ b i μ r p = record { complete = k; opened = eqb-false (getD (μ .st .opener) r 0) 0 e } in
+      let closes : Closes σ b i μ r p = record { complete = k; opened = positive (getD (μ .st .opener) r 0) (eqb-false (getD (μ .st .opener) r 0) 0 e) } in
       by-test refusal _ _ _ (λ e1. Why.many-bridges closes (leb-true maxBonds (μ .st .bonds) e1)) (λ e1.
-      let few = leb-false maxBonds (μ .st .bonds) e1 in
-      by-test refusal _ _ _ (λ e2. Why.to-itself closes few (eqb-true (openerOf μ r) (μ .st .hub .0) e2)) (λ e2.
-      let apart = eqb-false (openerOf μ r) (μ .st .hub .0) e2 in
-      by-test refusal _ _ _ (λ e3. Why.joined-twice closes few apart e3) (λ e3.
-      by-test refusal _ _ _ (λ e4. Why.symbols-differ closes few apart e3 e4) (λ e4. tt)))))
+      by-test refusal _ _ _ (λ e2. Why.to-itself closes (eqb-true (openerOf μ r) (μ .st .hub .0) e2)) (λ e2.
+      by-test refusal _ _ _ (λ e3. Why.joined-twice closes e3) (λ e3.
+      by-test refusal _ _ _ (λ e4. Why.symbols-differ closes e4) (λ e4. tt)))))
     where
       refusal : ℕ → Type 0
       refusal c = Explained σ b i μ (orRefuse c p (moved (joined (μ .st) r (kindOf (μ .pending)) p) (bridgeBond r μ)))
 
-  branch-why : b ≡ 40 → Explained σ b i μ (branchAct i μ)
+  branch-why : {x : Last} {d : ℕ} → σ ≡ at (seq x) d → b ≡ 40 → Explained σ b i μ (branchAct i μ)
   unfolding branchAct
-  branch-why e = by-test (Explained σ b i μ) _ _ _ (λ f. Why.many-branches e (leb-true maxDepth (μ .st .depth) f)) (λ f. tt)
+  branch-why q e = by-test (Explained σ b i μ) _ _ _ (λ f. Why.many-branches q e (leb-true maxDepth (μ .st .depth) f)) (λ f. tt)
 
   or-why : (l : Letter) (a k : Acts) → ((l ≡ Nothing → ⊥) → Explained σ b i μ a) → Explained σ b i μ k → Explained σ b i μ (orAtom l a k)
   or-why (Plain e) a k f g = f (λ q. let z : _≡_ {A = ℕ} 0 1 = cc in omega arith)
@@ -104,16 +101,16 @@ module _ (σ : State) (b i : ℕ) (μ : Memory) where
   or-why Bracket a k f g = f (λ q. let z : _≡_ {A = ℕ} 0 1 = cc in omega arith)
   or-why Nothing a k f g = g
 
-  first-why : (k : Acts) → Explained σ b i μ k → Explained σ b i μ (orAtom (letterOf b) (atomAct b i μ) k)
-  first-why k g = or-why (letterOf b) (atomAct b i μ) k (λ n. atom-why (λ v. n)) g
+  first-why : AtomMayBegin σ → (k : Acts) → Explained σ b i μ k → Explained σ b i μ (orAtom (letterOf b) (atomAct b i μ) k)
+  first-why w k g = or-why (letterOf b) (atomAct b i μ) k (λ n. atom-why (record { place = w; first-byte = λ v. n })) g
 
-  goes-why : (x : Last) → Explained σ b i μ (goesOn x μ)
+  goes-why : (x : Last) → Explained σ b i μ (letterAct x μ)
   goes-why plain = tt
   goes-why afterC = tt
   goes-why afterB = tt
 
 -- where only an atom may stand and the grammar goes on, one begins
-no-letter : {l : Letter} {o : Out} → Begins l o → l ≡ Nothing → ⊥
+pub no-letter : {l : Letter} {o : Out} → Begins l o → l ≡ Nothing → ⊥
 no-letter (Begins.plain s) e = let z : _≡_ {A = ℕ} 0 1 = cc in omega arith
 no-letter (Begins.selected s t) e = let z : _≡_ {A = ℕ} 0 1 = cc in omega arith
 no-letter Begins.letter-a e = let z : _≡_ {A = ℕ} 0 1 = cc in omega arith
@@ -125,28 +122,28 @@ atom-only b d v e = ⊎-elim (λ w. no-letter w e) (λ f. never (rw (f .1) at v)
 
 -- ---- by mode
 module _ (d b i : ℕ) (μ : Memory) where
-  charge-why : (m : Mode) → Explained (at m d) b i μ (charging b μ)
+  charge-why : (m : Mode) → Explained (at m d) b i μ (chargeAct b μ)
   charge-why m = by-test (Explained (at m d) b i μ) (among b signs) _ _ (λ e. tt) (λ e. tt)
 
-  hydrate-why : (m : Mode) → Explained (at m d) b i μ (hydrating b μ)
+  hydrate-why : (m : Mode) → Explained (at m d) b i μ (hydrogenAct b μ)
   hydrate-why m = by-test (Explained (at m d) b i μ) (eqb b 72) _ _ (λ e. tt) (λ e. charge-why m)
 
-  digit-why : (σ : State) → among b nonzero ≡ true → Explained σ b i μ (bridgeAct (digit b) i μ)
-  digit-why σ e = bridge-why σ b i μ (digit b) i (Completes.by-digit e)
+  digit-why : (σ : State) → BridgeMayStand σ → among b nonzero ≡ true → Explained σ b i μ (bridgeAct (digit b) i μ)
+  digit-why σ w e = bridge-why σ b i μ (digit b) i (Completes.by-digit w e)
 
   mode-why : (m : Mode) → Explained (at m d) b i μ (modeAct m b i μ)
   unfolding modeAct step next
   mode-why (seq x) =
-      first-why (at (seq x) d) b i μ _
-      (by-test (Explained (at (seq x) d) b i μ) (among b nonzero) (bridgeAct (digit b) i μ) _ (digit-why (at (seq x) d)) (λ e1.
+      first-why (at (seq x) d) b i μ AtomMayBegin.in-sequence _
+      (by-test (Explained (at (seq x) d) b i μ) (among b nonzero) (bridgeAct (digit b) i μ) _ (digit-why (at (seq x) d) BridgeMayStand.in-sequence) (λ e1.
       by-test (Explained (at (seq x) d) b i μ) (eqb b 37) _ _ (λ e. tt) (λ e2.
       by-test (Explained (at (seq x) d) b i μ) (among b bondSymbols) (jointAct b μ) _ (λ e. tt) (λ e3.
       by-test (Explained (at (seq x) d) b i μ) (eqb b 46) (jointAct b μ) _ (λ e. tt) (λ e4.
-      by-test (Explained (at (seq x) d) b i μ) (eqb b 40) (branchAct i μ) _ (λ e. branch-why (at (seq x) d) b i μ (eqb-true b 40 e)) (λ e5.
-      by-test (Explained (at (seq x) d) b i μ) (eqb b 41) _ (goesOn x μ) (λ e. tt) (λ e6. goes-why (at (seq x) d) b i μ x)))))))
-  mode-why bond = first-why (at bond d) b i μ _ (by-test (Explained (at bond d) b i μ) (among b nonzero) (bridgeAct (digit b) i μ) _ (digit-why (at bond d)) (λ e. tt))
-  mode-why dot = atom-why (at dot d) b i μ (atom-only b d)
-  mode-why inside = first-why (at inside d) b i μ (jointAct b μ) tt
+      by-test (Explained (at (seq x) d) b i μ) (eqb b 40) (branchAct i μ) _ (λ e. branch-why (at (seq x) d) b i μ refl (eqb-true b 40 e)) (λ e5.
+      by-test (Explained (at (seq x) d) b i μ) (eqb b 41) _ (letterAct x μ) (λ e. tt) (λ e6. goes-why (at (seq x) d) b i μ x)))))))
+  mode-why bond = first-why (at bond d) b i μ AtomMayBegin.after-symbol _ (by-test (Explained (at bond d) b i μ) (among b nonzero) (bridgeAct (digit b) i μ) _ (digit-why (at bond d) BridgeMayStand.after-symbol) (λ e. tt))
+  mode-why atomNext = atom-why (at atomNext d) b i μ (record { place = AtomMayBegin.after-dot; first-byte = atom-only b d })
+  mode-why inside = first-why (at inside d) b i μ AtomMayBegin.in-branch (jointAct b μ) tt
   mode-why percent = tt
   mode-why percent1 = bridge-why (at percent1 d) b i μ (10 * μ .tens + digit b) (i - 2) Completes.by-percent
   mode-why letterA = tt
@@ -165,7 +162,7 @@ module _ (d b i : ℕ) (μ : Memory) where
 explained : (σ : State) (b i : ℕ) (μ : Memory) → Explained σ b i μ (act σ b i μ)
 unfolding act step
 explained dead b i μ = tt
-explained start b i μ = atom-why start b i μ (atom-only b 0)
+explained start b i μ = atom-why start b i μ (record { place = AtomMayBegin.at-start; first-byte = atom-only b 0 })
 explained (at m d) b i μ = mode-why d b i μ m
 
 -- every refusal of a byte has its reason
@@ -179,17 +176,17 @@ pub record Code (i c p : ℕ) : Type 0 where
   pub early : p ≤ i
 
 completed : {σ : State} {b i : ℕ} {μ : Memory} {r p : ℕ} → Completes σ b i μ r p → p ≤ i
-completed (Completes.by-digit e) = omega arith
+completed (Completes.by-digit w e) = omega arith
 completed Completes.by-percent = omega arith
 
 pub code-of : {σ : State} {b i : ℕ} {μ : Memory} {c p : ℕ} → Why σ b i μ c p → Code i c p
 code-of (Why.many-atoms n a) = record { low = omega arith; high = omega arith; early = omega arith }
-code-of (Why.many-bonds n a k m) = record { low = omega arith; high = omega arith; early = omega arith }
+code-of (Why.many-bonds n k a) = record { low = omega arith; high = omega arith; early = omega arith }
 code-of (Why.many-bridges k a) = record { low = omega arith; high = omega arith; early = completed (k .complete) }
-code-of (Why.many-branches e a) = record { low = omega arith; high = omega arith; early = omega arith }
-code-of (Why.to-itself k a e) = record { low = omega arith; high = omega arith; early = completed (k .complete) }
-code-of (Why.joined-twice k a e j) = record { low = omega arith; high = omega arith; early = completed (k .complete) }
-code-of (Why.symbols-differ k a e j s) = record { low = omega arith; high = omega arith; early = completed (k .complete) }
+code-of (Why.many-branches q e a) = record { low = omega arith; high = omega arith; early = omega arith }
+code-of (Why.to-itself k e) = record { low = omega arith; high = omega arith; early = completed (k .complete) }
+code-of (Why.joined-twice k j) = record { low = omega arith; high = omega arith; early = completed (k .complete) }
+code-of (Why.symbols-differ k e) = record { low = omega arith; high = omega arith; early = completed (k .complete) }
 
 pub act-code : (σ : State) (b i : ℕ) (μ : Memory) (c p : ℕ) → act σ b i μ ≡ refuses c p → Code i c p
 act-code σ b i μ c p e = code-of (why σ b i μ c p e)

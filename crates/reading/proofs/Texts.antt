@@ -1,5 +1,5 @@
 -- Reading against the grammar: what passes is a text, and 3 stands at the place of the grammar. Assumes nothing.
-use Prim.Native.Nat.{ℕ, _≤_, _<_}
+use Prim.Native.Nat.{ℕ, _≤_}
 use native.Mathlib.Omega.{arith}
 use native.Mathlib.Decide.{ℕ-discrete}
 use mathlib.Core.Path.{_≡_, refl, sym, ap, subst, _∙_}
@@ -17,22 +17,14 @@ use Rattle.reading_grammar.proofs.Viable.{place-unique, text-no-place}
 use Rattle.reading_grammar.proofs.Fold.{good-text, bad-3, other-first}
 use Rattle.reading.specs.Memory.{Memory}
 use Rattle.reading.specs.Act.{act}
-use Rattle.reading.specs.Read.{Told, zeros, refused, short, beginning, readOf}
+use Rattle.reading.specs.Read.{ReadResult, zeros, refused, short, beginning, readOf}
+use Rattle.reading.specs.Conditions.{bytesRead, Fits}
+use Rattle.reading.specs.Claims.{ReadsTexts}
 use Rattle.reading.proofs.Refusals.{never-3, in-time}
-use Rattle.reading.proofs.Outcome.{bytesRead, Fits, Outcome, outcome}
+use Rattle.reading.proofs.Outcome.{Outcome, outcome}
 use Rattle.reading.proofs.Accepted.{halt-code}
 
 module _ (s : List ℕ) (atoms bonds : List ℤ) where
-  pub record ReadsTexts (t : Told) : Type 0 where
-    -- what passed 3 to 9 is a text
-    pub text : (t .code ≡ 0) ⊎ ((t .code ≡ 10) ⊎ (t .code ≡ 11)) → Text s
-    -- a text is not refused with 3
-    pub not-3 : Text s → t .code ≡ 3 → ⊥
-    -- 3 stands at the place of the grammar
-    pub place : t .code ≡ 3 → Place s (t .offset)
-    -- where no text can continue: 3 there, or one of 4 to 9 before
-    pub refused : (p : ℕ) → Place s p → ((t .code ≡ 3) × (t .offset ≡ p)) ⊎ ((4 ≤ t .code) × (t .code ≤ 9) × (t .offset < p))
-
   answered : (r : Reading Memory) → bytesRead s atoms bonds ≡ r → answer act (beginning (zeros atoms) (zeros bonds)) s ≡ finish (length s) r
   unfolding answer
   answered r e = ap (finish (length s)) e
@@ -41,10 +33,10 @@ module _ (s : List ℕ) (atoms bonds : List ℤ) where
   is-text {σ} {μ} e a = good-text act (beginning (zeros atoms) (zeros bonds)) μ s (answered (going σ μ) e ∙ rw a)
 
   -- a text's outcome, and that of bytes that are refused
-  of-text : (t : Told) → Text s → ((t .code ≡ 3) → ⊥) → ReadsTexts t
+  of-text : (t : ReadResult) → Text s → ((t .code ≡ 3) → ⊥) → ReadsTexts s atoms bonds t
   of-text t x n = record { text = λ c. x; not-3 = λ y. n; place = λ c. absurd (n c); refused = λ p q. absurd (text-no-place s p x q) }
 
-  of-place : (q : ℕ) (t : Told) → Place s q → t .code ≡ 3 → t .offset ≡ q → ReadsTexts t
+  of-place : (q : ℕ) (t : ReadResult) → Place s q → t .code ≡ 3 → t .offset ≡ q → ReadsTexts s atoms bonds t
   of-place q t x c o =
       record {
         text = absurd-code;
@@ -58,7 +50,7 @@ module _ (s : List ℕ) (atoms bonds : List ℤ) where
       absurd-code (inr (inl e)) = absurd (omega arith)
       absurd-code (inr (inr e)) = absurd (omega arith)
 
-  of-refusal : (c p : ℕ) → bytesRead s atoms bonds ≡ halted c p → ReadsTexts (refused c p atoms bonds)
+  of-refusal : (c p : ℕ) → bytesRead s atoms bonds ≡ halted c p → ReadsTexts s atoms bonds (refused c p atoms bonds)
   of-refusal c p e = split (ℕ-discrete c 3)
     where
       said : answer act (beginning (zeros atoms) (zeros bonds)) s ≡ bad c p
@@ -67,7 +59,7 @@ module _ (s : List ℕ) (atoms bonds : List ℤ) where
       within : (3 ≤ c) × (c ≤ 9)
       within = halt-code s atoms bonds e
 
-      split : Dec (c ≡ 3) → ReadsTexts (refused c p atoms bonds)
+      split : Dec (c ≡ 3) → ReadsTexts s atoms bonds (refused c p atoms bonds)
       split (yes q) = of-place p (refused c p atoms bonds) (bad-3 act never-3 (beginning (zeros atoms) (zeros bonds)) s p (said ∙ ap (λ (x : ℕ). bad x p) q)) q refl
       split (no n) =
           record {
@@ -83,10 +75,10 @@ module _ (s : List ℕ) (atoms bonds : List ℤ) where
           absurd-code (inr (inr e)) = absurd (omega (arith, within .1))
 
   -- with long enough tables and a text that is not too long, reading refuses by the grammar exactly where 01 says
-  pub reads-texts : Fits s atoms bonds → ReadsTexts (readOf s atoms bonds)
+  pub reads-texts : Fits s atoms bonds → ReadsTexts s atoms bonds (readOf s atoms bonds)
   reads-texts = go (readOf s atoms bonds) (outcome s atoms bonds)
     where
-      go : (t : Told) → Outcome s atoms bonds t → Fits s atoms bonds → ReadsTexts t
+      go : (t : ReadResult) → Outcome s atoms bonds t → Fits s atoms bonds → ReadsTexts s atoms bonds t
       go t (Outcome.too-short e) f = absurd (let r : true ≡ false = sym (f .room) ∙ e in let z : _≡_ {A = ℕ} 0 1 = cc in omega arith)
       go t (Outcome.too-long e l) f = absurd (omega (arith, f .short))
       go t (Outcome.halts {c} {p} g e) f = of-refusal c p e

@@ -1,4 +1,4 @@
--- What a reading remembers beside the grammar, and how atoms, bonds and branches change it
+-- 01, The text: what a reading remembers beside the grammar, and how atoms, bonds and branches change it
 use Prim.Native.Nat.{ℕ, zero, suc, _+_, _-_, _*_}
 use mathlib.Core.Bool.{Bool, true, false, _&&_, _||_, not}
 use mathlib.Core.List.{List, [], _∷_}
@@ -12,6 +12,7 @@ use Rattle.table.specs.Limits.{maxAtoms, maxBonds}
 use Rattle.table.specs.Cells.{end1, end2}
 use Rattle.table.specs.Rows.{withAtom, withBond}
 use Rattle.reading_state.specs.State.{Steering}
+pub use Rattle.reading_state.specs.State.{withNextAtom}
 use Rattle.reading_state.specs.declared.Fields.{Fields}
 
 -- what stands before the next atom or bridge: nothing, a dot, or a bond symbol of a kind
@@ -63,29 +64,14 @@ rowOf f =
 abbrev pub bareRow : ℕ → ℕ → Atom
 bareRow e selected = record { element = pos e; selected = pos selected; isotope = pos 0; hydrogens = pos 0; charge = pos 0; extension = pos 0 }
 
-abbrev pub bondRow : ℕ → ℕ → ℕ → Bond
-bondRow a b k = record { first = pos a; second = pos b; kind = pos k }
+abbrev pub newBond : ℕ → ℕ → ℕ → Bond
+newBond a b k = record { first = pos a; second = pos b; kind = pos k }
 
 -- the first end is "the lower atom number, wherever a bridge opened"
 abbrev pub between : ℕ → ℕ → ℕ → Bond
-between a b k = pick (ltb a b) (bondRow a b k) (bondRow b a k)
+between a b k = pick (ltb a b) (newBond a b k) (newBond b a k)
 
 -- ---- a new atom
-
--- one atom more, which is the hub; x: 1 if it stands outside brackets
-abbrev pub extended : Steering → ℕ → ℕ → Steering
-extended s x m =
-    record {
-      hub = record { 0 = s .atoms };
-      atoms = s .atoms + 1;
-      bonds = m;
-      depth = s .depth;
-      stack = s .stack;
-      opener = s .opener;
-      symbol = s .symbol;
-      offset = s .offset;
-      outside = set (s .outside) (s .atoms) x;
-    }
 
 -- the next atom is bonded to the hub: it is not the first, and no dot stands before it
 abbrev pub bonded : Memory → Bool
@@ -95,9 +81,9 @@ bonded μ = not (eqb (μ .st .atoms) 0) && not (afterDot (μ .pending))
 unfoldable pub begun : ℕ → Memory → Memory
 begun x μ =
     record {
-      st = extended (μ .st) x (pick (bonded μ) (μ .st .bonds + 1) (μ .st .bonds));
+      st = withNextAtom (μ .st) x (pick (bonded μ) (μ .st .bonds + 1) (μ .st .bonds));
       atoms = μ .atoms;
-      bonds = pick (bonded μ) (withBond (μ .bonds) (μ .st .bonds) (bondRow (μ .st .hub .0) (μ .st .atoms) (kindOf (μ .pending)))) (μ .bonds);
+      bonds = pick (bonded μ) (withBond (μ .bonds) (μ .st .bonds) (newBond (μ .st .hub .0) (μ .st .atoms) (kindOf (μ .pending)))) (μ .bonds);
       pending = nothing;
       tens = μ .tens;
       draft = blank;

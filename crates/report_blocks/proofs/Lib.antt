@@ -1,6 +1,6 @@
-pub mod Laws
+pub mod Lines
 pub mod Turn
 pub mod Run
 pub mod Totals
-pub mod Cuts
+pub mod Laying
 pub mod Sample

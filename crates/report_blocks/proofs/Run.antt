@@ -5,9 +5,10 @@ use mathlib.Core.List.{List, [], _++_, append-assoc}
 use native.Mathlib.Omega.{arith}
 use lib.ListN.{take, drop, drop-of-length-le}
 use Rattle.buffer.proofs.Laws.{laid}
-use Rattle.report_format.specs.Text.{header}
+use Rattle.report_lines.specs.Format.{header}
 use Rattle.report_blocks.specs.declared.Progress.{Progress}
-use Rattle.report_blocks.specs.Report.{remaining, reportOf}
+use Rattle.report_blocks.specs.Report.{reportOf}
+use Rattle.report_blocks.specs.Blocks.{remaining}
 use Rattle.report_blocks.specs.Run.{whole, Turns, over, turn, Blocks, none, block, Run, ran}
 
 turns-law : {g h : Progress} {s w : List ℕ} {from : ℕ} → Turns g s from w h → (more : List ℕ) → remaining g (drop from s ++ more) ≡ w ++ remaining h more

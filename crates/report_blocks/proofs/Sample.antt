@@ -5,7 +5,7 @@ use Prim.Native.Nat.{ℕ}
 use Rattle.loops.specs.Loop.{each, run, upTo}
 use Rattle.element.specs.Symbols.{among, listed, starts, sameBytes, symbols, letters, marks}
 use Rattle.element.specs.Lookup.{indexFrom, numberOf, selectedOf, letterOf, bare, bytesOf, selectedBytes}
-use Rattle.valence.specs.Valence.{order, targets, firstTarget, firstRoom, implied, delocalized}
+use Rattle.valence.specs.Valence.{order, targets, firstTarget, firstRoom, implied, shiftedTarget, delocalized}
 use Rattle.reading_grammar.specs.Grammar.{nonzero, digits, several, bondSymbols, signs}
 use Rattle.reading_grammar.specs.Machine.{step, next, accepting, resting, atomOr, bridgeOr, closing, extending, charging, hydrating, symbolOr}
 use Rattle.reading_grammar.specs.Fold.{feed, read}
@@ -23,11 +23,11 @@ use Rattle.reading.specs.Act.{atomAct, bridgeAct, branchAct, modeAct, act}
 use Rattle.reading.specs.Read.{hydrogenated, leftmost, ended, readFrom, readOf}
 use Rattle.kekule.specs.Kekule.{callOn, kekulizedOf}
 use Rattle.writing_walk.specs.Walk.{forestOf, renumbered, unused, write}
-use Rattle.writing.specs.Spell.{decimal, hydrogenBytes, sizeBytes, bracketBytes, unbracketed, atomBytes, kindBytes, bridgeBytes, restBytes, tokensBytes}
+use Rattle.writing.specs.Spell.{decimal, hydrogenBytes, sizeBytes, bracketBytes, withoutBrackets, spelledAtom, kindBytes, bridgeBytes, restBytes, tokensBytes}
 use Rattle.writing.specs.Write.{tokens, textOf, renumbering, fewBridges, writeValid, writeOf}
-use Rattle.report_lines.specs.Cut.{linesAfter}
-use Rattle.report_format.specs.Text.{decBy, decOf, acceptedLine, refusedLine, totalsLine}
-use Rattle.report_entry.specs.Outcome.{firstRow, kekuleOf, writtenOf, ofMolecule, outcomeOf, lineOf, acceptedOf}
+use Rattle.report_lines.specs.Lines.{linesAfter}
+use Rattle.report_lines.specs.Format.{decBy, decOf, acceptedLine, refusedLine, totalsLine}
+use Rattle.report_entry.specs.Entry.{firstRow, kekuleOf, writtenOf, ofMolecule, entryOf, lineOf, acceptedOf}
 use Rattle.report_blocks.specs.Report.{reportFrom, reportOf}
 
 pub input : List ℕ
@@ -47,5 +47,5 @@ output =
     []
 
 pub sample : reportOf input ≡ output
-unfolding input output each run upTo among listed starts sameBytes symbols letters marks indexFrom numberOf selectedOf letterOf bare bytesOf selectedBytes order targets firstTarget firstRoom implied delocalized nonzero digits several bondSymbols signs step next accepting resting atomOr bridgeOr closing extending charging hydrating symbolOr feed read rows passing isRow rowCall isMatching eachOnce degree chosenInduced number inRange withAtom withBond doubled doubledBonds unselectedAtoms selectedOk sameEnds fresh distinct atomOk bondOk valid enough touches share bondSum started opened closed joined symbolKind begun joins joinedAlready closeRefusal symbolled atomAct bridgeAct branchAct modeAct act hydrogenated leftmost matchable ended readFrom readOf callOn kekulizedOf forestOf renumbered unused write decimal hydrogenBytes sizeBytes bracketBytes unbracketed atomBytes kindBytes bridgeBytes restBytes tokensBytes tokens textOf renumbering fewBridges writeValid writeOf firstRow kekuleOf writtenOf ofMolecule outcomeOf linesAfter decBy decOf acceptedLine refusedLine totalsLine lineOf acceptedOf reportFrom reportOf
+unfolding input output each run upTo among listed starts sameBytes symbols letters marks indexFrom numberOf selectedOf letterOf bare bytesOf selectedBytes order targets firstTarget firstRoom implied shiftedTarget delocalized nonzero digits several bondSymbols signs step next accepting resting atomOr bridgeOr closing extending charging hydrating symbolOr feed read rows passing isRow rowCall isMatching eachOnce degree chosenInduced number inRange withAtom withBond doubled doubledBonds unselectedAtoms selectedOk sameEnds fresh distinct atomOk bondOk valid enough touches share bondSum started opened closed joined symbolKind begun joins joinedAlready closeRefusal symbolled atomAct bridgeAct branchAct modeAct act hydrogenated leftmost matchable ended readFrom readOf callOn kekulizedOf forestOf renumbered unused write decimal hydrogenBytes sizeBytes bracketBytes withoutBrackets spelledAtom kindBytes bridgeBytes restBytes tokensBytes tokens textOf renumbering fewBridges writeValid writeOf firstRow kekuleOf writtenOf ofMolecule entryOf linesAfter decBy decOf acceptedLine refusedLine totalsLine lineOf acceptedOf reportFrom reportOf
 sample = refl

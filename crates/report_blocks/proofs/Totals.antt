@@ -5,20 +5,18 @@ use mathlib.Core.List.{List, [], _∷_, _++_, append-assoc}
 use mathlib.Core.Bool.{Bool, true, false}
 use native.Mathlib.Omega.{arith}
 use lib.ListN.{length}
-use borrow.Author.Tests.{lt-ltb}
 use Rattle.loops.specs.Loop.{pick}
-use Rattle.report_lines.specs.Cut.{linesAfter}
-use Rattle.report_format.specs.Text.{following, header, totalsLine}
-use Rattle.report_entry.specs.Outcome.{lineOf, acceptedOf}
+use Rattle.buffer.specs.Pen.{mostCount, following}
+use Rattle.buffer.proofs.Laws.{follows}
+use Rattle.report_lines.specs.Lines.{linesAfter}
+use Rattle.report_lines.specs.Format.{header, totalsLine}
+use Rattle.report_entry.specs.Entry.{lineOf, acceptedOf}
 use Rattle.report_blocks.specs.declared.Tally.{Tally}
 use Rattle.report_blocks.specs.Report.{counted, reportFrom, reportOf}
-use Rattle.report_blocks.specs.Totals.{acceptedIn, refusedIn, numbered, mostCount}
+use Rattle.report_blocks.specs.Totals.{acceptedIn, refusedIn, numbered}
 
 abbrev tally : ℕ → ℕ → ℕ → Tally
 tally k a r = record { number = k; accepted = a; refused = r }
-
-follows : (n : ℕ) → n < mostCount → following n ≡ suc n
-follows n h = ap (λ t. pick t (suc n) n) (lt-ltb n mostCount h)
 
 -- the report from counts that leave room for every line
 unfoldable Counts : ℕ → ℕ → ℕ → List (List ℕ) → Type 0

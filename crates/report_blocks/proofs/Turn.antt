@@ -8,17 +8,20 @@ use native.Mathlib.Omega.{arith}
 use lib.ListN.{length, take, drop, drop-of-length-le}
 use Rattle.buffer.specs.Pen.{pen}
 use Rattle.buffer.proofs.Laws.{Laid, laid}
-use Rattle.report_lines.specs.declared.Line.{Line}
-use Rattle.report_lines.specs.declared.Filled.{Filled}
-use Rattle.report_lines.specs.Cut.{linesAfter, gathered, Bounded, Fills}
-use Rattle.report_lines.proofs.Laws.{at-close, line-ended, line-went, block-went, block-ended}
-use Rattle.report_entry.specs.Outcome.{lineOf, acceptedOf, lineRoom, Reports}
+use Rattle.report_lines.specs.declared.input.Line.{Line}
+use Rattle.report_lines.specs.declared.input.Filled.{Filled}
+use Rattle.report_lines.specs.Lines.{linesAfter}
+use Rattle.report_lines.specs.Cut.{gathered, Bounded, Fills}
+use Rattle.report_lines.proofs.Cut.{at-close, line-ended, line-reached, block-reached, block-ended}
+use Rattle.report_entry.specs.Entry.{lineOf, acceptedOf}
+use Rattle.report_entry.specs.Laid.{lineRoom, Reports}
 use Rattle.report_entry.specs.declared.Reported.{Reported}
 use Rattle.report_entry.proofs.Laws.{line-within}
 use Rattle.report_blocks.specs.declared.Tally.{Tally}
 use Rattle.report_blocks.specs.declared.Progress.{Progress}
-use Rattle.report_blocks.specs.Report.{counted, reportFrom, remaining, Advances}
-use Rattle.report_blocks.proofs.Laws.{next-line, no-line, gathered-short}
+use Rattle.report_blocks.specs.Report.{counted, reportFrom}
+use Rattle.report_blocks.specs.Blocks.{remaining, Advances}
+use Rattle.report_blocks.proofs.Lines.{next-line, no-line, gathered-short}
 
 abbrev pub progress : Line → Tally → Progress
 progress l t = record { line = l; tally = t }
@@ -40,7 +43,7 @@ module _ {g : Progress} {s : List ℕ} {from : ℕ} {out : List ℕ} {l : Line} 
   pub going-line : {f : Filled} {r : Reported} {u : Tally} {after : List ℕ} → Fills l s at f → f .done ≡ true → used + lineRoom ≤ length out → Reports (t .number) (gathered (f .line)) r (pen out used) after → u ≡ counted (r .accepted) t → Going g s from after (record { bytes = f .line .bytes; len = 0 }) u (f .at) (r .at)
   going-line {f} {r} {u} {after} v e h q n =
       let d : Laid (lineOf (t .number) (gathered (f .line))) out used after (r .at) = laid (q .text) (omega (arith, line-within (t .number) (gathered (f .line)))) in
-      let went : (at < f .at) × (f .at ≤ length s) = line-went l s at f v e in
+      let reached : (at < f .at) × (f .at ≤ length s) = line-reached l s at f v e in
       record {
         text =
             λ more. w .text more
@@ -51,8 +54,8 @@ module _ {g : Progress} {s : List ℕ} {from : ℕ} {out : List ℕ} {l : Line} 
             ∙ ap (λ c. take (r .at) after ++ reportFrom c (linesAfter [] (drop (f .at) s ++ more))) (sym n);
         within = omega (arith, d .place, d .size, line-within (t .number) (gathered (f .line)));
         bounded = record { short = omega arith; whole = v .bounded .whole };
-        forth = omega (arith, w .forth, went .0);
-        first = inr (omega (arith, w .forth, went .0));
+        forth = omega (arith, w .forth, reached .0);
+        first = inr (omega (arith, w .forth, reached .0));
       }
 
   -- no line ended in what is left of the block
@@ -62,9 +65,9 @@ module _ {g : Progress} {s : List ℕ} {from : ℕ} {out : List ℕ} {l : Line} 
         text =
             λ more. w .text more
             ∙ ap (λ x. take used out ++ x)
-            (no-line t (gathered l) (gathered (f .line)) (drop at s) more (gathered-short l (w .bounded)) (gathered-short (f .line) (v .bounded)) (block-ended l s at f v e ∙ at-close (gathered (f .line)) s (f .at) (block-went l s at f v e))
-            ∙ ap (λ d. reportFrom t (linesAfter (gathered (f .line)) (d ++ more))) (sym (drop-of-length-le s (block-went l s at f v e))));
-        forth = λ room h. omega (arith, h, block-went l s at f v e);
+            (no-line t (gathered l) (gathered (f .line)) (drop at s) more (gathered-short l (w .bounded)) (gathered-short (f .line) (v .bounded)) (block-ended l s at f v e ∙ at-close (gathered (f .line)) s (f .at) (block-reached l s at f v e))
+            ∙ ap (λ d. reportFrom t (linesAfter (gathered (f .line)) (d ++ more))) (sym (drop-of-length-le s (block-reached l s at f v e))));
+        forth = λ room h. omega (arith, h, block-reached l s at f v e);
         within = w .within;
         bounded = v .bounded;
       }

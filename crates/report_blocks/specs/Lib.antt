@@ -1,4 +1,5 @@
 pub mod Report
-pub mod Run
 pub mod Totals
-pub mod Cuts
+pub mod Reply
+pub mod Blocks
+pub mod Run

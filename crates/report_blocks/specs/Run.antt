@@ -1,12 +1,12 @@
--- A run of the program: the calls that it makes on the blocks of its input, by their contracts, and the bytes that it writes.
+-- Run of the program: the calls that it makes on the blocks of its input, by their contracts, and the bytes that it writes
 use Prim.Native.Nat.{ℕ, _≤_}
 use mathlib.Core.List.{List, [], _∷_, _++_}
 use lib.ListN.{length, take}
 use Rattle.buffer.specs.Pen.{pen, Wrote}
-use Rattle.report_format.specs.Text.{header}
+use Rattle.report_lines.specs.Format.{header}
 use Rattle.report_blocks.specs.declared.Progress.{Progress}
 use Rattle.report_blocks.specs.declared.Report.{Report}
-use Rattle.report_blocks.specs.Report.{remaining, Begins, Advances}
+use Rattle.report_blocks.specs.Blocks.{remaining, Begins, Advances}
 
 -- the blocks one after the other
 unfoldable pub whole : List (List ℕ) → List ℕ

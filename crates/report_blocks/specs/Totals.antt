@@ -1,8 +1,8 @@
--- 01, the report's totals, said of the lines alone
+-- Totals of the report (01, the program), said of the lines alone
 use Prim.Native.Nat.{ℕ, suc}
 use mathlib.Core.List.{List, [], _∷_, _++_}
 use Rattle.loops.specs.Loop.{pick}
-use Rattle.report_entry.specs.Outcome.{lineOf, acceptedOf}
+use Rattle.report_entry.specs.Entry.{lineOf, acceptedOf}
 
 -- how many of the lines are accepted, and refused
 unfoldable pub acceptedIn : List (List ℕ) → ℕ
@@ -17,7 +17,3 @@ refusedIn (l ∷ ls) = pick (acceptedOf l) (refusedIn ls) (suc (refusedIn ls))
 unfoldable pub numbered : ℕ → List (List ℕ) → List ℕ
 numbered k [] = []
 numbered k (l ∷ ls) = lineOf k l ++ numbered (suc k) ls
-
--- the most that a count can tell
-abbrev pub mostCount : ℕ
-mostCount = 18446744073709551615

@@ -1,21 +1,23 @@
-// The report of an input that comes in blocks.
+// The report of an input: whole in memory (`whole`), or as it comes in blocks.
 ghost use mathlib.Core.Path.{_≡_};
 ghost use mathlib.Core.List.{[]};
 ghost use Rattle.buffer.specs.Pen.{pen, Wrote};
 ghost use Rattle.report_lines.specs.Cut.{gathered, Bounded};
-ghost use Rattle.report_entry.specs.Outcome.{Reports};
-ghost use Rattle.report_blocks.specs.Report.{counted, remaining, Begins, Advances};
+ghost use Rattle.report_entry.specs.Laid.{Reports};
+ghost use Rattle.report_blocks.specs.Report.{counted};
+ghost use Rattle.report_blocks.specs.Blocks.{remaining, Begins, Advances};
 use report_entry::LINE_ROOM;
 use report_entry::Reported;
-use report_lines::Line;
+use report_lines::input::Line;
+use report_lines::output;
 
 pub mod whole;
 
 // The number of the next line, and how many texts were accepted and refused before it.
 pub struct Tally {
-    pub number: u64,
-    pub accepted: u64,
-    pub refused: u64,
+    pub number: usize,
+    pub accepted: usize,
+    pub refused: usize,
 }
 
 // How far a report is: the line so far, and the counts.
@@ -48,23 +50,23 @@ pub fn begin() -> Progress
 fn count(t: Tally, accepted: bool) -> Tally
     ensures { λ r. ⌜ r ≡ counted accepted t ⌝ }
 {
-    let number = report_format::next_count(t.number);
+    let number = buffer::next_count(t.number);
     if accepted {
         return Tally {
             number,
-            accepted: report_format::next_count(t.accepted),
+            accepted: buffer::next_count(t.accepted),
             refused: t.refused,
         };
     }
     Tally {
         number,
         accepted: t.accepted,
-        refused: report_format::next_count(t.refused),
+        refused: buffer::next_count(t.refused),
     }
 }
 
 // The report of a line that was gathered.
-fn tell(line: Line, k: u64, out: &mut [u8], at: usize) -> Reported
+fn tell(line: Line, k: usize, out: &mut [u8], at: usize) -> Reported
     requires { ⌜ Bounded line ⌝ }
     ensures { λ r. ⌜ Reports k (gathered line) r (pen (now (out .entry)) at) (now (out .exit)) ⌝ }
 {
@@ -108,9 +110,9 @@ pub fn finish(g: Progress, out: &mut [u8], at: usize) -> usize
     let tally = g.tally;
     let line = g.line;
     if line.len == 0 {
-        return report_format::totals(out, at, tally.accepted, tally.refused);
+        return output::totals(out, at, tally.accepted, tally.refused);
     }
     let r = tell(line, tally.number, out, at);
     let t = count(tally, r.accepted);
-    report_format::totals(out, r.at, t.accepted, t.refused)
+    output::totals(out, r.at, t.accepted, t.refused)
 }

@@ -1,4 +1,4 @@
--- From what the calls hand back to the outcome. Assumes nothing.
+-- From what the calls hand back to the entry. Assumes nothing.
 use Prim.Native.Nat.{ℕ, _*_, _≤_}
 use mathlib.Core.Path.{_≡_, refl, sym, ap, subst, _∙_}
 use mathlib.Core.List.{List}
@@ -10,10 +10,10 @@ use lib.Dec.{eqb}
 use Rattle.loops.specs.Loop.{pick}
 use Rattle.refusal.specs.Code.{codeOf}
 use Rattle.refusal.specs.declared.Refusal.{Refusal}
-use Rattle.refusal.specs.declared.Refusal.the-variants.{Short, LongText, Grammar, ManyAtoms, ManyBonds, DeepBranch, SelfBridge, RepeatedBond, SymbolClash, OpenBridge, NoMatching, NotMatching, Invalid, ManyBridges, DeepWriting, LongWriting}
+use Rattle.refusal.specs.declared.Refusal.the-variants.{Short, LongText, Grammar, ManyAtoms, ManyBonds, DeepBranch, SelfBridge, RepeatedBond, SymbolClash, OpenBridge, Unmatchable, NotMatching, Invalid, ManyBridges, DeepWriting, LongWriting}
 use Rattle.table.specs.Limits.{maxAtoms, maxBonds, atomCells, bondCells}
 use Rattle.table.specs.declared.Check.{Check}
-use Rattle.reading_state.specs.Limits.{maxText}
+use Rattle.ids.specs.Limits.{maxText}
 use Rattle.matching.specs.declared.Call.the-variants.{First}
 use Rattle.reading.specs.Read as read
 use Rattle.reading.proofs.Accepted.{read-valid}
@@ -27,7 +27,8 @@ use Rattle.writer.specs.declared.Written.{Written}
 use Rattle.writer.specs.declared.Written.the-variants.{Text, Refused}
 use Rattle.buffer.specs.Pen.{Pen}
 use Rattle.report_entry.specs.declared.Reported.{Reported}
-use Rattle.report_entry.specs.Outcome.{Outcome, refused, accepted, firstRow, kekuleOf, writtenOf, ofWritten, ofMolecule, ofRead, outcomeOf, lineOf, acceptedOf, Says, Reports}
+use Rattle.report_entry.specs.Entry.{Entry, refusedAs, acceptedAs, firstRow, kekuleOf, writtenOf, ofWritten, ofMolecule, ofRead, entryOf, lineOf, acceptedOf}
+use Rattle.report_entry.specs.Laid.{Says, Reports}
 use Rattle.report_entry.proofs.Laws.{size-within}
 
 -- a refusal's code is not 0
@@ -42,44 +43,44 @@ code-not-zero SelfBridge = refl
 code-not-zero RepeatedBond = refl
 code-not-zero SymbolClash = refl
 code-not-zero OpenBridge = refl
-code-not-zero NoMatching = refl
+code-not-zero Unmatchable = refl
 code-not-zero NotMatching = refl
 code-not-zero Invalid = refl
 code-not-zero ManyBridges = refl
 code-not-zero DeepWriting = refl
 code-not-zero LongWriting = refl
 
-abbrev readBlank : List ℕ → read.Told
+abbrev readBlank : List ℕ → read.ReadResult
 readBlank s = read.readOf s (replicate (atomCells * maxAtoms) (pos 0)) (replicate (bondCells * maxBonds) (pos 0))
 
--- the line of an outcome under another name
-pub said-as : {k : ℕ} {x y : Outcome} {r : Reported} {p : Pen} {after : List ℕ} → x ≡ y → Says k y r p after → Says k x r p after
+-- the line of an entry under another name
+pub said-as : {k : ℕ} {x y : Entry} {r : Reported} {p : Pen} {after : List ℕ} → x ≡ y → Says k y r p after → Says k x r p after
 said-as {k} {r = r} {p = p} {after = after} e w = subst (λ o. Says k o r p after) (sym e) w
 
-pub reported : {k : ℕ} {s : List ℕ} {r : Reported} {p : Pen} {after : List ℕ} → Says k (outcomeOf s) r p after → Reports k s r p after
+pub reported : {k : ℕ} {s : List ℕ} {r : Reported} {p : Pen} {after : List ℕ} → Says k (entryOf s) r p after → Reports k s r p after
 unfolding lineOf acceptedOf
 reported w = record { text = w .text; flag = w .flag }
 
 -- ---- reading
 
 module _ (s : List ℕ) (a b : List ℤ) (x : reply.Answer) (told : reader.told x a b ≡ readBlank s) where
-  pub read-refused : {r : Refusal} {p : ℕ} → x ≡ reply.Answer.Refused r p → outcomeOf s ≡ refused (codeOf r) p
-  unfolding outcomeOf
+  pub read-refused : {r : Refusal} {p : ℕ} → x ≡ reply.Answer.Refused r p → entryOf s ≡ refusedAs (codeOf r) p
+  unfolding entryOf
   read-refused {r} {p} e =
-      ap ofRead (sym told) ∙ ap (λ y. ofRead (reader.told y a b)) e ∙ ap (λ t. pick t (ofMolecule a b 0 0) (refused (codeOf r) p)) (code-not-zero r)
+      ap ofRead (sym told) ∙ ap (λ y. ofRead (reader.told y a b)) e ∙ ap (λ t. pick t (ofMolecule a b 0 0) (refusedAs (codeOf r) p)) (code-not-zero r)
 
-  pub read-molecule : {n m : ℕ} → x ≡ reply.Answer.Molecule n m → outcomeOf s ≡ ofMolecule a b n m
-  unfolding outcomeOf
+  pub read-molecule : {n m : ℕ} → x ≡ reply.Answer.Molecule n m → entryOf s ≡ ofMolecule a b n m
+  unfolding entryOf
   read-molecule e = ap ofRead (sym told) ∙ ap (λ y. ofRead (reader.told y a b)) e
 
   pub few-bonds : {n m : ℕ} → x ≡ reply.Answer.Molecule n m → m ≤ maxBonds
   few-bonds {n} {m} e =
       let same : reader.told (reply.Answer.Molecule n m) a b ≡ readBlank s = ap (λ y. reader.told y a b) (sym e) ∙ told in
-      subst (λ (t : read.Told). t .bondCount ≤ maxBonds) (sym same) (read-valid s _ _ (ap (λ (t : read.Told). t .code) (sym same)) .few-bonds)
+      subst (λ (t : read.ReadResult). t .bondCount ≤ maxBonds) (sym same) (read-valid s _ _ (ap (λ (t : read.ReadResult). t .code) (sym same)) .few-bonds)
 
 -- ---- writing the molecule
 
-abbrev writeBlank : List ℤ → List ℤ → ℕ → ℕ → write.Told
+abbrev writeBlank : List ℤ → List ℤ → ℕ → ℕ → write.WriteResult
 writeBlank a b n m = write.writeOf a b n m (replicate maxText 0) (replicate maxAtoms 0)
 
 module _ (atoms bonds : List ℤ) (n m : ℕ) (row : List ℕ) (a b : List ℤ) (text numbers : List ℕ) (f : Found) (c : Check) (w : Written) (first : out f row ≡ callOn First atoms bonds n m (replicate maxBonds 0)) (kekule : tables c a b ≡ kekulizedOf atoms bonds n m row) (write : told w text numbers ≡ writeBlank a b n m) where
@@ -95,22 +96,22 @@ module _ (atoms bonds : List ℤ) (n m : ℕ) (row : List ℕ) (a b : List ℤ) 
   unfolding writtenOf
   the-text = write ∙ ap (λ (k : Tables). writeBlank (k .atoms) (k .bonds) n m) the-tables
 
-  the-outcome : ofMolecule atoms bonds n m ≡ ofWritten n m row (told w text numbers)
+  the-entry : ofMolecule atoms bonds n m ≡ ofWritten n m row (told w text numbers)
   unfolding ofMolecule
-  the-outcome = ap (λ r. ofWritten n m r (writtenOf atoms bonds n m)) (sym the-row) ∙ ap (ofWritten n m row) (sym the-text)
+  the-entry = ap (λ r. ofWritten n m r (writtenOf atoms bonds n m)) (sym the-row) ∙ ap (ofWritten n m row) (sym the-text)
 
-  pub molecule-accepted : {size : ℕ} → w ≡ Text size → ofMolecule atoms bonds n m ≡ accepted n m (take m row) (take size text)
-  molecule-accepted e = the-outcome ∙ ap (λ y. ofWritten n m row (told y text numbers)) e
+  pub molecule-accepted : {size : ℕ} → w ≡ Text size → ofMolecule atoms bonds n m ≡ acceptedAs n m (take m row) (take size text)
+  molecule-accepted e = the-entry ∙ ap (λ y. ofWritten n m row (told y text numbers)) e
 
-  pub molecule-refused : {r : Refusal} → w ≡ Refused r → ofMolecule atoms bonds n m ≡ refused (codeOf r) 0
+  pub molecule-refused : {r : Refusal} → w ≡ Refused r → ofMolecule atoms bonds n m ≡ refusedAs (codeOf r) 0
   molecule-refused {r} e =
-      the-outcome ∙ ap (λ y. ofWritten n m row (told y text numbers)) e
-      ∙ ap (λ t. pick t (accepted n m (take m row) (take 0 text)) (refused (codeOf r) 0)) (code-not-zero r)
+      the-entry ∙ ap (λ y. ofWritten n m row (told y text numbers)) e
+      ∙ ap (λ t. pick t (acceptedAs n m (take m row) (take 0 text)) (refusedAs (codeOf r) 0)) (code-not-zero r)
 
 -- the text is within its buffer
 pub text-within : (a b : List ℤ) (n m : ℕ) (text numbers : List ℕ) (w : Written) {size : ℕ} → told w text numbers ≡ writeBlank a b n m → w ≡ Text size → size ≤ maxText
 text-within a b n m text numbers w e q =
-    subst (λ (t : write.Told). t .size ≤ maxText) (sym (ap (λ y. told y text numbers) (sym q) ∙ e)) (size-within a b n m _ _)
+    subst (λ (t : write.WriteResult). t .size ≤ maxText) (sym (ap (λ y. told y text numbers) (sym q) ∙ e)) (size-within a b n m _ _)
 
 -- a number of cells that a buffer has
 pub buffer-fits : (l : List ℕ) (n k : ℕ) → length l ≡ length {A = ℕ} (replicate k 0) → n ≤ k → n ≤ length l

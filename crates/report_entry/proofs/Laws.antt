@@ -14,12 +14,13 @@ use Rattle.loops.specs.Loop.{pick}
 use Rattle.report_lines.specs.Cut.{maxLine}
 use Rattle.table.specs.Limits.{maxAtoms, maxBonds, atomCells, bondCells}
 use Rattle.table.specs.Valid.{valid, enough}
-use Rattle.reading_state.specs.Limits.{maxText}
+use Rattle.ids.specs.Limits.{maxText}
 use Rattle.reading.specs.Read as read
 use Rattle.reading.proofs.Accepted.{read-valid}
 use Rattle.writing.specs.Write as write
-use Rattle.report_format.proofs.Lines.{accepted-within, refused-within}
-use Rattle.report_entry.specs.Outcome.{refused, accepted, firstRow, writtenOf, ofMolecule, ofRead, outcomeOf, lineFor, isAccepted, lineOf, acceptedOf, lineRoom}
+use Rattle.report_lines.proofs.Format.{accepted-within, refused-within}
+use Rattle.report_entry.specs.Entry.{refusedAs, acceptedAs, firstRow, writtenOf, ofMolecule, ofRead, entryOf, lineFor, isAccepted, lineOf, acceptedOf}
+use Rattle.report_entry.specs.Laid.{lineRoom}
 
 -- ---- the first bytes
 
@@ -39,27 +40,27 @@ le-or-lt zero b = inl (omega arith)
 le-or-lt (suc a) zero = inr (omega arith)
 le-or-lt (suc a) (suc b) = ⊎-elim (λ h. inl (omega (arith, h))) (λ h. inr (omega (arith, h))) (le-or-lt a b)
 
-outcome-clipped : (s : List ℕ) → outcomeOf (take maxLine s) ≡ outcomeOf s
-unfolding outcomeOf
-outcome-clipped s = ap ofRead (read-clipped s _ _ (le-or-lt (length s) maxLine))
+entry-clipped : (s : List ℕ) → entryOf (take maxLine s) ≡ entryOf s
+unfolding entryOf
+entry-clipped s = ap ofRead (read-clipped s _ _ (le-or-lt (length s) maxLine))
 
 -- THE LAW: of a line no more than its gathered bytes count
 pub line-clipped : (k : ℕ) (s : List ℕ) → lineOf k (take maxLine s) ≡ lineOf k s
 unfolding lineOf
-line-clipped k s = ap (lineFor k) (outcome-clipped s)
+line-clipped k s = ap (lineFor k) (entry-clipped s)
 
 pub accepted-clipped : (s : List ℕ) → acceptedOf (take maxLine s) ≡ acceptedOf s
 unfolding acceptedOf
-accepted-clipped s = ap isAccepted (outcome-clipped s)
+accepted-clipped s = ap isAccepted (entry-clipped s)
 
 -- ---- the length
 
 -- the size of a written text
-accepted-size : (t : Bool) (text order out ren : List ℕ) → leb (length text) maxText ≡ t → pick t (write.accepted text order out ren) (write.refused 16 out ren) .size ≤ maxText
+accepted-size : (t : Bool) (text order out ren : List ℕ) → leb (length text) maxText ≡ t → pick t (write.writeAccepted text order out ren) (write.writeRefused 16 out ren) .size ≤ maxText
 accepted-size true text order out ren e = leb-true _ _ e
 accepted-size false text order out ren e = omega arith
 
-pick-size : (t : Bool) (a b : write.Told) → a .size ≤ maxText → b .size ≤ maxText → pick t a b .size ≤ maxText
+pick-size : (t : Bool) (a b : write.WriteResult) → a .size ≤ maxText → b .size ≤ maxText → pick t a b .size ≤ maxText
 pick-size true a b h g = h
 pick-size false a b h g = g
 
@@ -77,7 +78,7 @@ size-within atoms bonds n m out ren =
 take-short : (n : ℕ) (l : List ℕ) → length (take n l) ≤ n
 take-short n l = simp length-take (omega arith)
 
-written-within : (k n m : ℕ) (row : List ℕ) (w : write.Told) (t : Bool) → m ≤ maxBonds → w .size ≤ maxText → length (lineFor k (pick t (accepted n m (take m row) (take (w .size) (w .output))) (refused (w .code) 0))) ≤ lineRoom
+written-within : (k n m : ℕ) (row : List ℕ) (w : write.WriteResult) (t : Bool) → m ≤ maxBonds → w .size ≤ maxText → length (lineFor k (pick t (acceptedAs n m (take m row) (take (w .size) (w .output))) (refusedAs (w .code) 0))) ≤ lineRoom
 written-within k n m row w true h g =
     omega (arith, accepted-within k n m (take m row) (take (w .size) (w .output)), take-short m row, take-short (w .size) (w .output))
 written-within k n m row w false h g = omega (arith, refused-within k (w .code) 0)
@@ -86,13 +87,13 @@ molecule-within : (k : ℕ) (atoms bonds : List ℤ) (n m : ℕ) → m ≤ maxBo
 unfolding ofMolecule writtenOf
 molecule-within k atoms bonds n m h = written-within k n m (firstRow atoms bonds n m) (writtenOf atoms bonds n m) (eqb (writtenOf atoms bonds n m .code) 0) h (size-within _ _ n m _ _)
 
-read-within : (k : ℕ) (t : read.Told) (b : Bool) → (b ≡ true → t .bondCount ≤ maxBonds) → length (lineFor k (pick b (ofMolecule (t .atoms) (t .bonds) (t .atomCount) (t .bondCount)) (refused (t .code) (t .offset)))) ≤ lineRoom
+read-within : (k : ℕ) (t : read.ReadResult) (b : Bool) → (b ≡ true → t .bondCount ≤ maxBonds) → length (lineFor k (pick b (ofMolecule (t .atoms) (t .bonds) (t .atomCount) (t .bondCount)) (refusedAs (t .code) (t .offset)))) ≤ lineRoom
 read-within k t true h = molecule-within k (t .atoms) (t .bonds) (t .atomCount) (t .bondCount) (h refl)
 read-within k t false h = omega (arith, refused-within k (t .code) (t .offset))
 
 -- room that is enough for a line
 pub line-within : (k : ℕ) (s : List ℕ) → length (lineOf k s) ≤ lineRoom
-unfolding lineOf outcomeOf
+unfolding lineOf entryOf
 line-within k s =
-    let t : read.Told = read.readOf s (replicate (atomCells * maxAtoms) (pos 0)) (replicate (bondCells * maxBonds) (pos 0)) in
+    let t : read.ReadResult = read.readOf s (replicate (atomCells * maxAtoms) (pos 0)) (replicate (bondCells * maxBonds) (pos 0)) in
     read-within k t (eqb (t .code) 0) (λ e. read-valid s _ _ (eqb-true (t .code) 0 e) .few-bonds)

@@ -3,10 +3,12 @@ ghost use Prim.Native.Nat.{_≤_};
 ghost use Rattle.refusal.specs.Code.{codeOf};
 ghost use Rattle.table.specs.Limits.{maxBonds};
 ghost use Rattle.buffer.specs.Pen.{pen};
-ghost use Rattle.report_entry.specs.Outcome.{refused, ofMolecule, Says, Reports};
+ghost use Rattle.report_entry.specs.Entry.{refusedAs, ofMolecule};
+ghost use Rattle.report_entry.specs.Laid.{Says, Reports};
+use ids::MAX_TEXT;
 use reader::ending::Answer;
-use reading_state::MAX_TEXT;
 use refusal::Refusal;
+use report_lines::output;
 use table::ATOM_CELLS;
 use table::BOND_CELLS;
 use table::MAX_ATOMS;
@@ -23,10 +25,10 @@ pub struct Reported {
 }
 
 // The line of a refused text.
-fn refuse(k: u64, r: Refusal, p: usize, out: &mut [u8], at: usize) -> Reported
-    ensures { λ s. ⌜ Says k (refused (codeOf r) p) s (pen (now (out .entry)) at) (now (out .exit)) ⌝ }
+fn refuse(k: usize, r: Refusal, p: usize, out: &mut [u8], at: usize) -> Reported
+    ensures { λ s. ⌜ Says k (refusedAs (codeOf r) p) s (pen (now (out .entry)) at) (now (out .exit)) ⌝ }
 {
-    let at = report_format::refused(out, at, k, refusal::code(r), p);
+    let at = output::refused(out, at, k, refusal::code(r), p);
     Reported {
         accepted: false,
         at,
@@ -35,7 +37,7 @@ fn refuse(k: u64, r: Refusal, p: usize, out: &mut [u8], at: usize) -> Reported
 
 // The line of a molecule that was read: its first matching and the text kekulized by it.
 fn report_molecule(
-    k: u64,
+    k: usize,
     atoms: &mut [i32],
     bonds: &mut [i32],
     n: usize,
@@ -54,15 +56,15 @@ fn report_molecule(
     let w = writer::write(atoms, bonds, n, m, &mut text, &mut numbers);
     match w {
         Written::Text(size) => {
-            let at = report_format::accepted(out, at, k, n, m, &row[..m], &text[..size]);
+            let at = output::accepted(out, at, k, n, m, &row[..m], &text[..size]);
             Reported { accepted: true, at }
         }
         Written::Refused(r) => refuse(k, r, 0, out, at),
     }
 }
 
-// The line of the report for a text, whatever its bytes: laid into the buffer from a place on, as far as there is room.
-pub fn report_line(k: u64, s: &[u8], out: &mut [u8], at: usize) -> Reported
+// internal: the line of the report for a text, whatever its bytes: laid into the buffer from a place on, as far as there is room.
+pub fn report_line(k: usize, s: &[u8], out: &mut [u8], at: usize) -> Reported
     ensures { λ r. ⌜ Reports k (now (s .entry)) r (pen (now (out .entry)) at) (now (out .exit)) ⌝ }
 {
     let mut atoms = [0i32; ATOM_CELLS * MAX_ATOMS];

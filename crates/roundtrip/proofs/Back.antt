@@ -12,14 +12,15 @@ use Rattle.loops.specs.Loop.{pick}
 use Rattle.loops.proofs.Loops.{and-left, and-right}
 use Rattle.valence.specs.Valence.{order, implied}
 use Rattle.table_graph.specs.Graph.{bondSum, matchable}
-use Rattle.table.specs.Limits.{maxAtoms, maxBonds, atomCells, bondCells, ELEMENT, SELECTED, ISOTOPE, HYDROGENS, EXTENSION}
+use Rattle.table.specs.Limits.{maxAtoms, maxBonds, atomCells, bondCells, ELEMENT, SELECTED, ISOTOPE, HYDROGENS, CHARGE, EXTENSION}
 use Rattle.table.specs.Cells.{number, atomCell, bondCell, element, selected, hydrogens}
 use Rattle.table.specs.Valid.{Valid, selectedOk}
 use Rattle.table.proofs.Valid.{AtomFine, atom-row, range-pos, Enough}
-use Rattle.reading_state.specs.Limits.{maxText, maxDepth, bridges}
+use Rattle.ids.specs.Limits.{maxText, maxDepth, bridges}
 use Rattle.reading.specs.Memory.{Memory}
 use Rattle.reading.specs.Read.{hydrogenated, leftmost, refused, placed, ended, finished, readFrom}
-use Rattle.writing_walk.specs.Token.{Bond, Tok, apart, along, ring, branch, back, St, st, start}
+use Rattle.writing_walk.specs.Token.{Bond, Tok, apart, along, ring, branch, back}
+use Rattle.writing_walk.specs.Reading.{St, st, startTokens}
 use Rattle.writing_walk.specs.Emit.{pre}
 use Rattle.writing_walk.specs.Walk.{forestOf, place, renumber, renumbered}
 use Rattle.writing_walk.specs.Check.{fine, reading}
@@ -36,13 +37,14 @@ use Rattle.writing_walk.proofs.Made.{Made, written-made}
 use Rattle.writing_walk.proofs.Order.{place-below, atom-place}
 use Rattle.writing.specs.Spell.{unbracketed}
 use Rattle.writing.specs.Write.{bondList, tokens, textOf, fewBridges, shallow}
+use Rattle.writing.proofs.Bonds.{inside}
 use Rattle.roundtrip.proofs.Cells.{atomCellsOf, bondCellsOf}
 use Rattle.roundtrip.proofs.Atoms.{rowBy, draftRow, outsideFlag, bare-of}
 use Rattle.roundtrip.proofs.Held.{nobond, rowOfBond}
 use Rattle.roundtrip.proofs.Simulation.{Sim}
 use Rattle.roundtrip.proofs.Tokens.{Good}
 use Rattle.roundtrip.proofs.Written.{Held, text-read}
-use Rattle.roundtrip.proofs.Bonds.{inside, small-kinds, distinct, many, listed}
+use Rattle.roundtrip.proofs.Bonds.{small-kinds, distinct, many, listed}
 use Rattle.roundtrip.proofs.Ending.{none-left, hydrogens-cell, other-cell, rest-cell, hydrogenated-length}
 
 -- ---- tokens of valid tables with few bridges
@@ -163,7 +165,7 @@ module _ (atoms bonds : List ℤ) (n m : ℕ) (v : Valid atoms bonds n m) where
     end-state : St
     end-state = st (map (λ a. a) walked) (completed n bs) (trip .hub) n (trip .bridges) []
 
-    tokens-read : reading maxAtoms maxBonds maxDepth (tokens bonds n m) start ≡ fine end-state
+    tokens-read : reading maxAtoms maxBonds maxDepth (tokens bonds n m) startTokens ≡ fine end-state
     unfolding tokens end-state
     tokens-read = read-written maxAtoms maxBonds maxDepth n (λ a. a) bs (inside v) (distinct v) (v .few-atoms) (let e = many v in let l = v .few-bonds in omega arith) flat ∙ ap fine (trip .reads)
 
@@ -248,5 +250,6 @@ module _ (atoms bonds : List ℤ) (n m : ℕ) (v : Valid atoms bonds n m) where
       permuted = subst (λ (l : List Bond). Perm l (map (renumber walked) bs)) (sym (M .listed)) permuted;
       elements = λ w l. ap number (M .cells w ELEMENT l (omega arith));
       selections = λ w l. ap number (M .cells w SELECTED l (omega arith));
+      charges = λ w l. M .cells w CHARGE l (omega arith);
       hydrogen-counts = λ w l. ap number (M .cells w HYDROGENS l (omega arith));
     })

@@ -1,4 +1,4 @@
--- The bonds of valid tables, as the walk's list of bonds: inside, distinct, of kinds 0 to 3. Assumes nothing.
+-- The bonds of valid tables, as the walk's list of bonds: distinct, of kinds 0 to 3. Assumes nothing.
 use mathlib.Core.Path.{_≡_, refl, sym, ap, _∙_}
 use mathlib.Core.Bool.{Bool, true, false}
 use mathlib.Core.List.{List, [], _∷_}
@@ -10,26 +10,20 @@ use lib.IntN.{ℤ, pos}
 use borrow.Author.Tests.{eqb-true, eq-eqb}
 use Rattle.loops.specs.Loop.{upTo}
 use Rattle.loops.proofs.Loops.{and-left, and-right, length-upTo}
-use Rattle.valence.specs.Valence.{order}
 use Rattle.table.specs.Cells.{number, end1, end2, kind, bondCell}
 use Rattle.table.specs.Limits.{FIRST, SECOND, KIND}
 use Rattle.table.specs.Valid.{Valid, sameEnds}
-use Rattle.table.proofs.Valid.{bond-row, kind-small, apart-at}
+use Rattle.table.proofs.Valid.{kind-small, apart-at}
 use Rattle.writing_walk.specs.Token.{Bond}
 use Rattle.writing_walk.specs.Check.{ends}
-use Rattle.writing_walk.proofs.Count.{bit, count, All, none, more}
-use Rattle.writing_walk.proofs.Walk.{Inside}
+use Rattle.writing_walk.proofs.Count.{bit, count, All}
 use Rattle.writing_walk.proofs.Twice.{Distinct}
-use Rattle.writing.specs.Write.{bondAt, bondList}
+use Rattle.writing.specs.Write.{walkBond, bondList}
+use Rattle.writing.proofs.Bonds.{all-upTo}
 use Rattle.roundtrip.proofs.Held.{nobond, BondTable}
 
 -- ---- lists by index
 module _ {A : Type 0} where
-  pub all-upTo : (P : A → Type 0) (f : ℕ → A) (k m : ℕ) → ((j : ℕ) → k ≤ j → j < k + m → P (f j)) → All P (upTo f k m)
-  unfolding upTo
-  all-upTo P f k zero h = none
-  all-upTo P f k (suc m) h = more (h k (omega arith) (omega arith)) (all-upTo P f (suc k) m (λ j a b. h j (omega arith) (omega arith)))
-
   count-none : (p : A → Bool) (f : ℕ → A) (k m : ℕ) → ((j : ℕ) → k ≤ j → j < k + m → p (f j) ≡ false) → count p (upTo f k m) ≡ 0
   unfolding upTo
   count-none p f k zero h = refl
@@ -66,15 +60,12 @@ module _ {A : Type 0} where
   upTo-list d f l h = upTo-from d f l 0 (λ i g. let e : 0 + i ≡ i = omega arith in rw e (h i g))
 
 module _ {atoms bonds : List ℤ} {n m : ℕ} (v : Valid atoms bonds n m) where
-  pub inside : Inside n (bondList bonds m)
-  inside = all-upTo (λ b. (b .lo < b .hi) × (b .hi < n)) (bondAt bonds) 0 m (λ j a b. (let r = bond-row v j (omega arith) in (r .order, r .second)))
-
   pub small-kinds : All (λ b. b .kind ≤ 3) (bondList bonds m)
-  small-kinds = all-upTo (λ b. b .kind ≤ 3) (bondAt bonds) 0 m (λ j a b. kind-small v j (omega arith))
+  small-kinds = all-upTo (λ b. b .kind ≤ 3) (walkBond bonds) 0 m (λ j a b. kind-small v j (omega arith))
 
   pub distinct : Distinct (bondList bonds m)
   unfolding sameEnds
-  distinct a c = count-once (ends a c) (bondAt bonds) 0 m (λ i j g l p q.
+  distinct a c = count-once (ends a c) (walkBond bonds) 0 m (λ i j g l p q.
       (let e1 : end1 bonds j ≡ end1 bonds i = eqb-true (end1 bonds j) a (and-left (eqb (end1 bonds j) a) (eqb (end2 bonds j) c) q) ∙ sym (eqb-true (end1 bonds i) a (and-left (eqb (end1 bonds i) a) (eqb (end2 bonds i) c) p)) in
       let e2 : end2 bonds j ≡ end2 bonds i = eqb-true (end2 bonds j) c (and-right (eqb (end1 bonds j) a) (eqb (end2 bonds j) c) q) ∙ sym (eqb-true (end2 bonds i) c (and-right (eqb (end1 bonds i) a) (eqb (end2 bonds i) c) p)) in
       let f : sameEnds bonds j i ≡ false = apart-at v j i (omega arith) g in
@@ -82,17 +73,17 @@ module _ {atoms bonds : List ℤ} {n m : ℕ} (v : Valid atoms bonds n m) where
       (let z : _≡_ {A = ℕ} 0 1 = cc in omega arith)))
 
   pub many : length (bondList bonds m) ≡ m
-  many = length-upTo (bondAt bonds) 0 m
+  many = length-upTo (walkBond bonds) 0 m
 
 -- ---- the list that a table of bonds holds
 pub listed : (q : ℕ) (t : List ℤ) (bs : List Bond) → BondTable q t bs → bondList t (length bs) ≡ bs
 unfolding number
-listed q t bs h = upTo-list nobond (bondAt t) bs at-place
+listed q t bs h = upTo-list nobond (walkBond t) bs at-place
   where
-    at-place : (i : ℕ) → i < length bs → bondAt t i ≡ getD bs i nobond
+    at-place : (i : ℕ) → i < length bs → walkBond t i ≡ getD bs i nobond
     at-place i g = cells-same (h .cells i FIRST g (omega arith)) (h .cells i SECOND g (omega arith)) (h .cells i KIND g (omega arith))
       where
-        cells-same : bondCell t i FIRST ≡ pos (getD bs i nobond .lo) → bondCell t i SECOND ≡ pos (getD bs i nobond .hi) → bondCell t i KIND ≡ pos (getD bs i nobond .kind) → bondAt t i ≡ getD bs i nobond
+        cells-same : bondCell t i FIRST ≡ pos (getD bs i nobond .lo) → bondCell t i SECOND ≡ pos (getD bs i nobond .hi) → bondCell t i KIND ≡ pos (getD bs i nobond .kind) → walkBond t i ≡ getD bs i nobond
         cells-same a b c = λ j. record { lo = named a j; hi = named b j; kind = named c j }
           where
             named : {z : ℤ} {k : ℕ} → z ≡ pos k → number z ≡ k

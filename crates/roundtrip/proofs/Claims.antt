@@ -1,4 +1,4 @@
--- The round trip (demand 2): reading what was written, and writing what was read, for all valid tables that writing does not refuse. Assumes nothing.
+-- The round trip (demand 2): reading what was written, and writing what was read, for all valid tables. Assumes nothing.
 use mathlib.Core.Path.{_≡_, refl, sym, ap, _∙_, subst}
 use mathlib.Core.Bool.{Bool, true, false}
 use mathlib.Core.List.{List, [], _∷_, map}
@@ -16,9 +16,9 @@ use Rattle.valence.specs.Valence.{delocalized}
 use Rattle.table.specs.Cells.{atomCell, selected}
 use Rattle.table.specs.Valid.{valid, Valid, enough}
 use Rattle.table.proofs.Valid.{facts, facts-back, enough-facts}
-use Rattle.reading_state.specs.Limits.{maxText}
-use Rattle.reading.specs.Read.{Told, refused, placed, readOf}
-use Rattle.writing_walk.specs.Token.{Bond, joined}
+use Rattle.ids.specs.Limits.{maxText}
+use Rattle.reading.specs.Read.{ReadResult, refused, placed, readOf}
+use Rattle.writing_walk.specs.Token.{Bond, bondBetween}
 use Rattle.writing_walk.specs.Emit.{pre}
 use Rattle.writing_walk.specs.Walk.{forestOf, place, renumber, renumbered}
 use Rattle.writing_walk.proofs.Count.{none, more}
@@ -28,33 +28,24 @@ use Rattle.writing_walk.proofs.Perm.{Perm, bonds-permuted}
 use Rattle.writing_walk.proofs.Order.{place-below, atom-below, atom-place, place-atom}
 use Rattle.writing.specs.Write.{bondList, tokens, textOf, renumbering, fewBridges, shallow, lent, writeValid, writeOf}
 use Rattle.writing.specs.Write as write
-use Rattle.roundtrip.specs.Claims.{Writable, numbered, renamed, accepted, Same, RoundTrip, Permutes, Demand2}
-use Rattle.roundtrip.proofs.Bonds.{inside}
+use Rattle.writing.specs.Conditions.{Writes}
+use Rattle.writing.proofs.Bonds.{inside}
+use Rattle.writing.proofs.Claims.{written-iff, one-answer}
+use Rattle.roundtrip.specs.Claims.{Writable, numbered, renamed, accepted, Same, RoundTrip, Permutes, WrittenAndRead, Demand2}
 use Rattle.roundtrip.proofs.Back.{Molecule, ReadBack, ren, read-back, matchable-same}
 use Rattle.roundtrip.proofs.Again.{text-again, identity-again}
 use Rattle.roundtrip.proofs.Rewritten.{valid-again, few-again, shallow-again}
 
+never : {X : Type 0} {t : Bool} → t ≡ true → t ≡ false → X
+never h k = absurd (let z : _≡_ {A = ℕ} 0 1 = cc in omega arith)
+
 -- ---- what writing answers
 -- what is not refused is written
-pub writes : {atoms bonds : List ℤ} {n m : ℕ} → Writable atoms bonds n m → (out ren : List ℕ) → lent atoms bonds out ren ≡ true → writeOf atoms bonds n m out ren ≡ write.accepted (textOf atoms bonds n m) (renumbering bonds n m) out ren
+pub writes : {atoms bonds : List ℤ} {n m : ℕ} → Writable atoms bonds n m → (out ren : List ℕ) → lent atoms bonds out ren ≡ true → writeOf atoms bonds n m out ren ≡ write.writeAccepted (textOf atoms bonds n m) (renumbering bonds n m) out ren
 unfolding writeOf writeValid
 writes w out ren l = rw (l, w .tables, w .bridges, w .branches, w .bytes)
 
--- 14, 15, 16: what else valid tables get, and exactly when
-module _ (atoms bonds : List ℤ) (n m : ℕ) (out ren : List ℕ) (l : lent atoms bonds out ren ≡ true) (t : valid atoms bonds n m ≡ true) where
-  pub says-14 : fewBridges (tokens bonds n m) ≡ false → writeOf atoms bonds n m out ren ≡ write.refused 14 out ren
-  unfolding writeOf writeValid
-  says-14 h = rw (l, t, h)
-
-  pub says-15 : fewBridges (tokens bonds n m) ≡ true → shallow (tokens bonds n m) ≡ false → writeOf atoms bonds n m out ren ≡ write.refused 15 out ren
-  unfolding writeOf writeValid
-  says-15 h k = rw (l, t, h, k)
-
-  pub says-16 : fewBridges (tokens bonds n m) ≡ true → shallow (tokens bonds n m) ≡ true → leb (length (textOf atoms bonds n m)) maxText ≡ false → writeOf atoms bonds n m out ren ≡ write.refused 16 out ren
-  unfolding writeOf writeValid
-  says-16 h k j = rw (l, t, h, k, j)
-
-all-pass : (t : write.Told) (out ren : List ℕ) (l a b c d : Bool) → pick l (pick a (pick b (pick c (pick d t (write.refused 16 out ren)) (write.refused 15 out ren)) (write.refused 14 out ren)) (write.refused 13 out ren)) (write.short out ren) .code ≡ 0
+all-pass : (t : write.WriteResult) (out ren : List ℕ) (l a b c d : Bool) → pick l (pick a (pick b (pick c (pick d t (write.writeRefused 16 out ren)) (write.writeRefused 15 out ren)) (write.writeRefused 14 out ren)) (write.writeRefused 13 out ren)) (write.writeShort out ren) .code ≡ 0
     → (l ≡ true) × ((a ≡ true) × ((b ≡ true) × ((c ≡ true) × (d ≡ true))))
 all-pass t out ren true true true true true h = (refl, (refl, (refl, (refl, refl))))
 all-pass t out ren true true true true false h = absurd (omega arith)
@@ -67,19 +58,19 @@ all-pass t out ren false a b c d h = absurd (omega arith)
 pub written : (atoms bonds : List ℤ) (n m : ℕ) (out ren : List ℕ) → writeOf atoms bonds n m out ren .code ≡ 0 → Writable atoms bonds n m × (lent atoms bonds out ren ≡ true)
 unfolding writeOf writeValid
 written atoms bonds n m out ren h =
-    let r = all-pass (write.accepted (textOf atoms bonds n m) (renumbering bonds n m) out ren) out ren (lent atoms bonds out ren) (valid atoms bonds n m) (fewBridges (tokens bonds n m)) (shallow (tokens bonds n m)) (leb (length (textOf atoms bonds n m)) maxText) h in
+    let r = all-pass (write.writeAccepted (textOf atoms bonds n m) (renumbering bonds n m) out ren) out ren (lent atoms bonds out ren) (valid atoms bonds n m) (fewBridges (tokens bonds n m)) (shallow (tokens bonds n m)) (leb (length (textOf atoms bonds n m)) maxText) h in
     (record { tables = r .1 .0; bridges = r .1 .1 .0; branches = r .1 .1 .1 .0; bytes = r .1 .1 .1 .1 }, r .0)
 
 -- the text stands at the front of the output, and the renumbering at the front of the numbers
 module _ {atoms bonds : List ℤ} {n m : ℕ} (w : Writable atoms bonds n m) (out ren : List ℕ) (l : lent atoms bonds out ren ≡ true) where
   written-output : take (writeOf atoms bonds n m out ren .size) (writeOf atoms bonds n m out ren .output) ≡ textOf atoms bonds n m
   written-output =
-      ap (λ (t : write.Told). take (t .size) (t .output)) (writes w out ren l) ∙ take-append-seam (textOf atoms bonds n m) (replicate (length out - length (textOf atoms bonds n m)) 0)
+      ap (λ (t : write.WriteResult). take (t .size) (t .output)) (writes w out ren l) ∙ take-append-seam (textOf atoms bonds n m) (replicate (length out - length (textOf atoms bonds n m)) 0)
 
   written-numbers : take n (writeOf atoms bonds n m out ren .numbers) ≡ renumbering bonds n m
   unfolding renumbering
   written-numbers =
-      ap (λ (t : write.Told). take n (t .numbers)) (writes w out ren l)
+      ap (λ (t : write.WriteResult). take n (t .numbers)) (writes w out ren l)
       ∙ take-at (renumbering bonds n m) (replicate (length ren - length (renumbering bonds n m)) 0) n (length-upTo (place (pre (forestOf n (bondList bonds m)))) 0 n)
 
 -- ---- the renumbering
@@ -107,7 +98,7 @@ renamed-list bonds n m [] none = refl
 renamed-list bonds n m (b ∷ bs) (more h a) =
     let e : place (pre (forestOf n (bondList bonds m))) (b .lo) ≡ numbered (renumbering bonds n m) (b .lo) = sym (number-place bonds n m (b .lo) (omega arith)) in
     let f : place (pre (forestOf n (bondList bonds m))) (b .hi) ≡ numbered (renumbering bonds n m) (b .hi) = sym (number-place bonds n m (b .hi) (h .1)) in
-    λ i. joined (e i) (f i) (b .kind) ∷ renamed-list bonds n m bs a i
+    λ i. bondBetween (e i) (f i) (b .kind) ∷ renamed-list bonds n m bs a i
 
 same-of : (atoms bonds : List ℤ) (n m : ℕ) (T U : List ℤ) (p q : ℕ) → Valid atoms bonds n m → Molecule atoms bonds n m T U p q → Same atoms bonds n m T U
 unfolding renumbered
@@ -153,7 +144,7 @@ module _ (atoms bonds : List ℤ) (n m : ℕ) (w : Writable atoms bonds n m) (A 
         atoms-long = M .atoms-long;
         bonds-long = M .bonds-long;
         still-valid = facts-back (valid-again atoms bonds n m v M);
-        again = λ out ren l. writes (again M) out ren l ∙ (λ i. write.accepted (text-again atoms bonds n m v M i) (identity-again atoms bonds n m v M i) out ren);
+        again = λ out ren l. writes (again M) out ren l ∙ (λ i. write.writeAccepted (text-again atoms bonds n m v M i) (identity-again atoms bonds n m v M i) out ren);
       }
 
   -- DEMAND 2: the text of one that has none is refused as 11
@@ -169,9 +160,9 @@ module _ (atoms bonds : List ℤ) (n m : ℕ) (w : Writable atoms bonds n m) (A 
   unfolding delocalized
   unselected-round-trip h = round-trip (localized-matchable atoms bonds n m (λ a l. rw (h a l)))
 
--- DEMAND 2, for every writing that is not refused and all buffers long enough to read into
-pub demand-2 : (atoms bonds : List ℤ) (n m : ℕ) (out ren : List ℕ) → writeOf atoms bonds n m out ren .code ≡ 0 → (A B : List ℤ) → enough A B ≡ true → Demand2 atoms bonds n m out ren A B
-demand-2 atoms bonds n m out ren h A B long =
+-- every writing that is not refused, and all buffers long enough to read into
+pub written-and-read : (atoms bonds : List ℤ) (n m : ℕ) (out ren : List ℕ) → writeOf atoms bonds n m out ren .code ≡ 0 → (A B : List ℤ) → enough A B ≡ true → WrittenAndRead atoms bonds n m out ren A B
+written-and-read atoms bonds n m out ren h A B long =
     let w = written atoms bonds n m out ren h in
     record {
       text = written-output (w .0) out ren (w .1);
@@ -180,3 +171,26 @@ demand-2 atoms bonds n m out ren h A B long =
       matching = round-trip atoms bonds n m (w .0) A B long;
       no-matching = no-matching-read atoms bonds n m (w .0) A B long;
     }
+
+module _ (atoms bonds : List ℤ) (n m : ℕ) (out ren : List ℕ) (l : lent atoms bonds out ren ≡ true) (v : valid atoms bonds n m ≡ true) (A B : List ℤ) (long : enough A B ≡ true) where
+  -- DEMAND 2, for all valid tables and all long enough buffers: written and read back, or 14, 15 or 16 with its reason
+  pub demand-2 : Demand2 atoms bonds n m out ren A B (writeOf atoms bonds n m out ren)
+  demand-2 = go refl (written-iff atoms bonds n m out ren (writeOf atoms bonds n m out ren) .0 refl)
+    where
+      go : {t : write.WriteResult} → writeOf atoms bonds n m out ren ≡ t → Writes atoms bonds n m out ren t → Demand2 atoms bonds n m out ren A B t
+      go e (Writes.too-short k) = never l k
+      go e (Writes.not-valid k u) = never v u
+      go e (Writes.many-bridges k u w) = Demand2.says-14 w
+      go e (Writes.deep-branch k u f w) = Demand2.says-15 f w
+      go e (Writes.long-text k u f s w) = Demand2.says-16 f s w
+      go e (Writes.writes k u w) = Demand2.written w (written-and-read atoms bonds n m out ren (ap (λ (t : write.WriteResult). t .code) e) A B long)
+
+  -- exactly one of the four holds
+  pub exactly-one : {t u : write.WriteResult} → Demand2 atoms bonds n m out ren A B t → Demand2 atoms bonds n m out ren A B u → t ≡ u
+  exactly-one x y = one-answer atoms bonds n m out ren (so x) (so y)
+    where
+      so : {t : write.WriteResult} → Demand2 atoms bonds n m out ren A B t → Writes atoms bonds n m out ren t
+      so (Demand2.written w r) = Writes.writes l v w
+      so (Demand2.says-14 w) = Writes.many-bridges l v w
+      so (Demand2.says-15 f w) = Writes.deep-branch l v f w
+      so (Demand2.says-16 f s w) = Writes.long-text l v f s w

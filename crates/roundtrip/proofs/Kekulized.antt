@@ -6,7 +6,6 @@ use Prim.Native.Nat.{ℕ}
 use lib.IntN.{ℤ}
 use Rattle.table.specs.Cells.{number}
 use Rattle.table.specs.Valid.{enough}
-use Rattle.table.specs.declared.Check.the-variants.{Fine}
 use Rattle.kekule.specs.Kekule.{kekulizedOf}
 use Rattle.kekule.proofs.Kekulized.{kekulize-settles}
 use Rattle.writing.specs.Write.{writeOf}
@@ -14,7 +13,7 @@ use Rattle.roundtrip.specs.Claims.{RoundTrip}
 use Rattle.roundtrip.proofs.Claims.{written, unselected-round-trip}
 
 -- 01, "the settled text": kekulizing by a matching that is not refused, and writing that is not refused, give a text that is read back and written again
-pub kekulized-round-trip : (atoms bonds : List ℤ) (n m : ℕ) (row : List ℕ) → kekulizedOf atoms bonds n m row .check ≡ Fine → (out ren : List ℕ)
+pub kekulized-round-trip : (atoms bonds : List ℤ) (n m : ℕ) (row : List ℕ) → kekulizedOf atoms bonds n m row .code ≡ 0 → (out ren : List ℕ)
     → writeOf (kekulizedOf atoms bonds n m row .atoms) (kekulizedOf atoms bonds n m row .bonds) n m out ren .code ≡ 0 → (A B : List ℤ) → enough A B ≡ true
     → RoundTrip (kekulizedOf atoms bonds n m row .atoms) (kekulizedOf atoms bonds n m row .bonds) n m A B
 unfolding number

@@ -15,6 +15,5 @@ pub mod Ending
 pub mod Back
 pub mod Again
 pub mod Rewritten
-pub mod Limits
 pub mod Claims
 pub mod Kekulized

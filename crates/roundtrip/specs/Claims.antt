@@ -1,8 +1,8 @@
--- What is claimed of writing and reading together: the round trip, the renumbering, and the points of a walk that refuse
+-- What is claimed of writing and reading together: the round trip, the renumbering, and demand 2 in one statement
 use mathlib.Core.Path.{_≡_}
 use mathlib.Core.Bool.{true, false}
-use mathlib.Core.List.{List, [], _∷_, map}
-use Prim.Native.Nat.{ℕ, suc, _-_, _*_, _<_, _≤_}
+use mathlib.Core.List.{List, map}
+use Prim.Native.Nat.{ℕ, _*_, _<_, _≤_}
 use lib.Dec.{leb}
 use lib.ListN.{length, getD, take}
 use lib.IntN.{ℤ, pos}
@@ -11,15 +11,13 @@ use Rattle.table_graph.specs.Graph.{matchable}
 use Rattle.table.specs.Limits.{atomCells, bondCells}
 use Rattle.table.specs.Cells.{atomCell}
 use Rattle.table.specs.Valid.{valid}
-use Rattle.reading_state.specs.Limits.{bridges, maxText}
-use Rattle.reading.specs.Read.{Told, refused, readOf}
-use Rattle.writing_walk.specs.Token.{Bond, joined, Tok, apart, along, ring, branch, back}
-use Rattle.writing_walk.specs.Walk.{unused}
-use Rattle.writing_walk.proofs.Count.{count}
-use Rattle.writing_walk.proofs.Read.{pending}
-use Rattle.writing_walk.proofs.Perm.{Perm}
+use Rattle.ids.specs.Limits.{bridges, maxText}
+use Rattle.reading.specs.Read.{ReadResult, refused, readOf}
+use Rattle.writing_walk.specs.Token.{Bond, bondBetween}
+use Rattle.writing_walk.specs.Same.{Perm}
 use Rattle.writing.specs.Write.{bondList, tokens, textOf, renumbering, fewBridges, shallow, lent, writeOf}
 use Rattle.writing.specs.Write as write
+use Rattle.writing.specs.Conditions.{ManyBridges, DeepBranch, LongText, WithinLimits}
 
 -- valid tables that writing does not refuse: neither 13, 14, 15 nor 16
 pub record Writable (atoms bonds : List ℤ) (n m : ℕ) : Type 0 where
@@ -33,10 +31,10 @@ abbrev pub numbered : List ℕ → ℕ → ℕ
 numbered r v = getD r v 0
 
 abbrev pub renamed : List ℕ → Bond → Bond
-renamed r b = joined (numbered r (b .lo)) (numbered r (b .hi)) (b .kind)
+renamed r b = bondBetween (numbered r (b .lo)) (numbered r (b .hi)) (b .kind)
 
 -- what an accepted reading hands back
-abbrev pub accepted : ℕ → ℕ → List ℤ → List ℤ → Told
+abbrev pub accepted : ℕ → ℕ → List ℤ → List ℤ → ReadResult
 accepted n m atoms bonds = record { code = 0; offset = 0; atomCount = n; bondCount = m; atoms = atoms; bonds = bonds }
 
 -- 01, Writing: "reading back keeps every atom cell, every bond and its kind under" the renumbering: the tables T and U hold the molecule of atoms and bonds so, with 0 in the cells after
@@ -55,7 +53,7 @@ pub record RoundTrip (atoms bonds : List ℤ) (n m : ℕ) (A B : List ℤ) : Typ
   pub atoms-long : length T ≡ length A
   pub bonds-long : length U ≡ length B
   pub still-valid : valid T U n m ≡ true
-  pub again : (out ren : List ℕ) → lent T U out ren ≡ true → writeOf T U n m out ren ≡ write.accepted (textOf atoms bonds n m) (upTo (λ v. v) 0 n) out ren
+  pub again : (out ren : List ℕ) → lent T U out ren ≡ true → writeOf T U n m out ren ≡ write.writeAccepted (textOf atoms bonds n m) (upTo (λ v. v) 0 n) out ren
 
 -- "The renumbering gives each atom's walk number": a permutation of the numbers below n
 pub record Permutes (n : ℕ) (r : List ℕ) : Type 0 where
@@ -64,8 +62,8 @@ pub record Permutes (n : ℕ) (r : List ℕ) : Type 0 where
   pub injective : (v w : ℕ) → v < n → w < n → numbered r v ≡ numbered r w → v ≡ w
   pub onto : (a : ℕ) → a < n → (v : ℕ) × ((v < n) × (numbered r v ≡ a))
 
--- DEMAND 2 as the calls show it: what writing left in out and ren, and what reading that text into buffers A and B hands back
-pub record Demand2 (atoms bonds : List ℤ) (n m : ℕ) (out ren : List ℕ) (A B : List ℤ) : Type 0 where
+-- what an accepted writing left in out and ren, and what reading that text into buffers A and B hands back
+pub record WrittenAndRead (atoms bonds : List ℤ) (n m : ℕ) (out ren : List ℕ) (A B : List ℤ) : Type 0 where
   pub text : take (writeOf atoms bonds n m out ren .size) (writeOf atoms bonds n m out ren .output) ≡ textOf atoms bonds n m
   pub numbers : take n (writeOf atoms bonds n m out ren .numbers) ≡ renumbering bonds n m
   pub permutes : Permutes n (renumbering bonds n m)
@@ -74,20 +72,9 @@ pub record Demand2 (atoms bonds : List ℤ) (n m : ℕ) (out ren : List ℕ) (A 
   -- "A sound molecule without a placement is written by the same rules; reading its text gives 11."
   pub no-matching : matchable atoms bonds n m ≡ false → readOf (textOf atoms bonds n m) A B ≡ refused 11 0 A B
 
--- ---- 14 and 15
--- 14, "over 99 bridges open at once": the numbers are 1 to 99
-abbrev pub mostBridges : ℕ
-mostBridges = bridges - 1
-
--- how many bridges are open where the walk comes to its x-th atom: unused bonds that begin before it and do not end before it
-abbrev pub openAt : List ℤ → ℕ → ℕ → ℕ → ℕ
-openAt bonds n m x = count (pending x) (unused n (bondList bonds m))
-
--- 15, "the written branches nest over 64 deep": how many branches are open after the tokens, d before them
-abbrev pub depthAfter : List Tok → ℕ → ℕ
-depthAfter [] d = d
-depthAfter (apart w ∷ ts) d = depthAfter ts d
-depthAfter (along k w ∷ ts) d = depthAfter ts d
-depthAfter (ring k r ∷ ts) d = depthAfter ts d
-depthAfter (branch ∷ ts) d = depthAfter ts (suc d)
-depthAfter (back ∷ ts) d = depthAfter ts (d - 1)
+-- DEMAND 2: what writing valid tables into long enough buffers hands back, and what reading its text gives: one of four
+pub data Demand2 (atoms bonds : List ℤ) (n m : ℕ) (out ren : List ℕ) (A B : List ℤ) : write.WriteResult → Type 0 where
+  written : WithinLimits atoms bonds n m → WrittenAndRead atoms bonds n m out ren A B → Demand2 atoms bonds n m out ren A B (write.writeAccepted (textOf atoms bonds n m) (renumbering bonds n m) out ren)
+  says-14 : ManyBridges bonds n m → Demand2 atoms bonds n m out ren A B (write.writeRefused 14 out ren)
+  says-15 : ¬ ManyBridges bonds n m → DeepBranch bonds n m → Demand2 atoms bonds n m out ren A B (write.writeRefused 15 out ren)
+  says-16 : ¬ ManyBridges bonds n m → ¬ DeepBranch bonds n m → LongText atoms bonds n m → Demand2 atoms bonds n m out ren A B (write.writeRefused 16 out ren)

@@ -9,7 +9,8 @@ use lib.Dec.{eqb}
 use lib.IntN.{ℤ}
 use Rattle.loops.specs.Loop.{pick, run, upTo}
 use Rattle.loops.proofs.Loops.{length-upTo, upTo-at}
-use Rattle.table.specs.Cells.{element, selected, hydrogens, end1, end2, kind}
+use Rattle.table.specs.Limits.{CHARGE}
+use Rattle.table.specs.Cells.{atomCell, element, selected, hydrogens, end1, end2, kind}
 use Rattle.valence.specs.Valence.{order, delocalized}
 use Rattle.table_graph.specs.Graph.{touches, share, addShare, bondSum, flag, delocalizedFlag, delocalizedFlags, graphOf}
 use Rattle.writing_walk.specs.Token.{bond}
@@ -18,7 +19,7 @@ use Rattle.writing_walk.proofs.Walk.{Inside}
 use Rattle.writing_walk.proofs.Trip.{Renumbering, place-lt}
 use Rattle.writing_walk.proofs.Perm.{Perm}
 use Rattle.writing_walk.proofs.Sums.{total, total-perm, weightAt, sum-place}
-use Rattle.writing.specs.Write.{bondAt, bondList}
+use Rattle.writing.specs.Write.{walkBond, bondList}
 use Rattle.roundtrip_matchings.proofs.Renamed.{edge, Followed}
 
 -- the bonds as matchings see them are the walk's bonds
@@ -28,10 +29,10 @@ upTo-map g f k zero = refl
 upTo-map {B = B} g f k (suc m) = ap {B = List B} (λ l. g (f k) ∷ l) (upTo-map g f (suc k) m)
 
 pub graph-edges : (bonds : List ℤ) (m : ℕ) → graphOf bonds m ≡ map edge (bondList bonds m)
-graph-edges bonds m = upTo-map edge (bondAt bonds) 0 m
+graph-edges bonds m = upTo-map edge (walkBond bonds) 0 m
 
 -- what a bond adds
-share-weight : (bonds : List ℤ) (a b : ℕ) → share bonds a b ≡ weightAt order a (bondAt bonds b)
+share-weight : (bonds : List ℤ) (a b : ℕ) → share bonds a b ≡ weightAt order a (walkBond bonds b)
 unfolding share touches
 share-weight bonds a b = go (eqb (end1 bonds b) a || eqb (end2 bonds b) a)
   where
@@ -39,7 +40,7 @@ share-weight bonds a b = go (eqb (end1 bonds b) a || eqb (end2 bonds b) a)
     go true = refl
     go false = refl
 
-sum-from : (bonds : List ℤ) (a k m s : ℕ) → run (addShare bonds a) k m s ≡ s + total (weightAt order a) (upTo (bondAt bonds) k m)
+sum-from : (bonds : List ℤ) (a k m s : ℕ) → run (addShare bonds a) k m s ≡ s + total (weightAt order a) (upTo (walkBond bonds) k m)
 unfolding run upTo
 sum-from bonds a k zero s = sym (add-zero s)
 sum-from bonds a k (suc m) s = omega (arith, sum-from bonds a (suc k) m (s + share bonds a k), share-weight bonds a k)
@@ -55,6 +56,7 @@ pub record Renumbered (n m : ℕ) (order : List ℕ) (atoms bonds atoms′ bonds
   pub permuted : Perm (bondList bonds′ m) (map (renumber order) (bondList bonds m))
   pub elements : (v : ℕ) → v < n → element atoms′ (place order v) ≡ element atoms v
   pub selections : (v : ℕ) → v < n → selected atoms′ (place order v) ≡ selected atoms v
+  pub charges : (v : ℕ) → v < n → atomCell atoms′ (place order v) CHARGE ≡ atomCell atoms v CHARGE
   pub hydrogen-counts : (v : ℕ) → v < n → hydrogens atoms′ (place order v) ≡ hydrogens atoms v
 
 module _ {n m : ℕ} {walk : List ℕ} {atoms bonds atoms′ bonds′ : List ℤ} (w : Renumbered n m walk atoms bonds atoms′ bonds′) where
@@ -69,7 +71,7 @@ module _ {n m : ℕ} {walk : List ℕ} {atoms bonds atoms′ bonds′ : List ℤ
   -- and stays delocalized, or not
   pub flag-renumbered : (v : ℕ) → v < n → delocalizedFlag atoms′ bonds′ m (place walk v) ≡ delocalizedFlag atoms bonds m v
   flag-renumbered v h =
-      λ i. flag (delocalized (w .elements v h i) (w .selections v h i) (sum-renumbered v h i) (w .hydrogen-counts v h i))
+      λ i. flag (delocalized (w .elements v h i) (w .selections v h i) (w .charges v h i) (sum-renumbered v h i) (w .hydrogen-counts v h i))
 
   pub flags-followed : Followed n walk (delocalizedFlags atoms bonds n m) (delocalizedFlags atoms′ bonds′ n m)
   flags-followed =

@@ -1,49 +1,79 @@
--- Two bonds have one key exactly if they join the same two atoms. Assumes nothing.
+-- How a repeat among the bonds shows in their cells, and that there is none where their keys ascend. Assumes nothing.
 use Prim.Native.Nat.{ℕ, _+_, _*_, _-_, _<_, _≤_}
 use native.Mathlib.Omega.{arith}
 use mathlib.Core.Path.{_≡_, refl, sym, ap, _∙_}
 use mathlib.Core.Bool.{Bool, true, false, _&&_, not}
-use mathlib.Core.List.{List, _++_}
-use lib.ListN.{getD}
-use lib.IntN.{ℤ, pos}
+use mathlib.Core.List.{List}
+use lib.ListN.{length, getD, List·getD-eq-default}
+use lib.IntN.{ℤ, pos, negsuc}
 use lib.Signed.{leZ}
 use lib.Dec.{eqb, ltb}
+use mir.Syntax.{w32}
+use mir.Val.{ofZ}
 use borrow.Author.Count.{below-more}
-use borrow.Author.Tests.{eq-eqb, ne-eqb, eqb-true, eqb-false, ltb-true, not-true, not-false}
-use Rattle.loops.specs.Loop.{each, upTo}
-use Rattle.loops.proofs.Loops.{and-left, and-right, each-all, each-same, filled-at}
-use Rattle.table.specs.Cells.{number, inRange, end1, end2}
+use borrow.Author.Tests.{eq-eqb, ne-eqb, eqb-true, ltb-true, ltb-false, not-true, not-false}
+use Rattle.loops.specs.Loop.{each}
+use Rattle.loops.proofs.Loops.{and-left, and-right, each-all}
+use Rattle.table.specs.Limits.{FIRST, SECOND}
+use Rattle.table.specs.Cells.{number, inRange, bondPlace, bondCell, end1, end2}
 use Rattle.table.specs.Valid.{sameEnds, fresh, distinct, bondOk, bondRowOk}
-use Rattle.table.specs.Keys.{ShortEnds, endsKey, freshKey}
+use Rattle.table.specs.Keys.{BondEnds, endsKey}
 use Rattle.table.proofs.Valid.{bond-fine}
 
-key-same : (a b c d : ℕ) → a < 65536 → c < 65536 → eqb (b * 65536 + (65535 - a)) (d * 65536 + (65535 - c)) ≡ (eqb c a && eqb d b)
-key-same a b c d ha hc = split (eqb c a) refl (eqb d b) refl
+-- what did not pass claims nothing
+pub never : {A : Type 0} → _≡_ {A = Bool} false true → A
+never e = absurd (let z : _≡_ {A = ℕ} 0 1 = cc in omega arith)
+
+-- a cell past the end is 0
+cell-inside : (t : List ℤ) (i : ℕ) → 0 < number (getD t i (pos 0)) → i < length t
+unfolding number
+cell-inside t i h = split (ltb i (length t)) refl
   where
-    x : ℕ
-    x = b * 65536 + (65535 - a)
+    split : (b : Bool) → ltb i (length t) ≡ b → i < length t
+    split true e = ltb-true i (length t) e
+    split false e =
+        let z : number (getD t i (pos 0)) ≡ 0 = ap number (List·getD-eq-default t (pos 0) (ltb-false i (length t) e)) in
+        absurd (omega arith)
 
-    y : ℕ
-    y = d * 65536 + (65535 - c)
+natural : (z : ℤ) → leZ (pos 0) z ≡ true → z ≡ pos (number z)
+unfolding number
+natural (pos n) e = refl
+natural (negsuc n) e = never e
 
-    split : (p : Bool) → eqb c a ≡ p → (q : Bool) → eqb d b ≡ q → eqb x y ≡ (p && q)
-    split true e true f = eq-eqb x y (omega (arith, eqb-true c a e, eqb-true d b f))
-    split true e false f = ne-eqb x y (λ (z : x ≡ y). eqb-false d b f (omega (arith, eqb-true c a e)))
-    split false e q f = ne-eqb x y (λ (z : x ≡ y). eqb-false c a e (omega arith))
+positive : (z : ℤ) → 0 < number z → z ≡ pos (number z)
+unfolding number
+positive (pos n) h = refl
+positive (negsuc n) h = absurd (omega arith)
 
-module _ (t : List ℤ) (m : ℕ) (keys rest : List ℕ) (e : keys ≡ upTo (endsKey t) 0 m ++ rest) (s : (b : ℕ) → b < m → ShortEnds t b) where
-  fresh-key : (i : ℕ) → i < m → freshKey keys i ≡ fresh t i
-  unfolding fresh sameEnds
-  fresh-key i h = each-same _ _ i λ j l.
-      let k : j < m = omega arith in
-      let q : eqb (getD keys j 0) (getD keys i 0) ≡ (eqb (end1 t i) (end1 t j) && eqb (end2 t i) (end2 t j)) =
-      rw (filled-at (endsKey t) m j 0 keys rest e k, filled-at (endsKey t) m i 0 keys rest e h)
-      (key-same (end1 t j) (end2 t j) (end1 t i) (end2 t i) (s j k .first) (s i h .first)) in
-      ap not q
+-- a valid bond's ends
+pub bond-ends : (t : List ℤ) (n b : ℕ) → bondOk t n b ≡ true → BondEnds t b
+bond-ends t n b e =
+    let f = bond-fine t n b e in
+    record {
+      inside = cell-inside t (bondPlace b SECOND) (omega (arith, f .order));
+      first = natural (bondCell t b FIRST) (f .natural);
+      second = positive (bondCell t b SECOND) (omega (arith, f .order));
+    }
 
-  pub keys-distinct : each (freshKey keys) 0 m ≡ distinct t m
-  unfolding distinct
-  keys-distinct = each-same (freshKey keys) (fresh t) m fresh-key
+-- such bonds join the same two atoms exactly if their cells have the same bits
+module _ {t : List ℤ} {i j : ℕ} (p : BondEnds t i) (q : BondEnds t j) where
+  same-cells : (eqb (ofZ w32 (bondCell t i FIRST)) (ofZ w32 (bondCell t j FIRST)) && eqb (ofZ w32 (bondCell t i SECOND)) (ofZ w32 (bondCell t j SECOND))) ≡ sameEnds t i j
+  unfolding sameEnds
+  same-cells =
+      let a = ap (ofZ w32) (p .first) in
+      let b = ap (ofZ w32) (p .second) in
+      let c = ap (ofZ w32) (q .first) in
+      let d = ap (ofZ w32) (q .second) in
+      cc
+
+  pub both-same : ofZ w32 (bondCell t i FIRST) ≡ ofZ w32 (bondCell t j FIRST) → eqb (ofZ w32 (bondCell t i SECOND)) (ofZ w32 (bondCell t j SECOND)) ≡ true → sameEnds t i j ≡ true
+  both-same e f = sym same-cells ∙ rw (eq-eqb _ _ e, f)
+
+  pub first-differs : (ofZ w32 (bondCell t i FIRST) ≡ ofZ w32 (bondCell t j FIRST) → ⊥) → sameEnds t i j ≡ false
+  first-differs h = sym same-cells ∙ rw (ne-eqb _ _ h)
+
+  pub second-differs : ofZ w32 (bondCell t i FIRST) ≡ ofZ w32 (bondCell t j FIRST) → eqb (ofZ w32 (bondCell t i SECOND)) (ofZ w32 (bondCell t j SECOND)) ≡ false → sameEnds t i j ≡ false
+  second-differs e f = sym same-cells ∙ rw (eq-eqb _ _ e, f)
 
 -- bonds with different keys do not join the same two atoms
 key-apart : (t : List ℤ) (k j : ℕ) → endsKey t j < endsKey t k → not (sameEnds t k j) ≡ true
@@ -84,11 +114,7 @@ module _ {t : List ℤ} {n m i last : ℕ} (a : Sorted t n m i last) where
   unfolding distinct fresh
   sorted-apart h = each-all (fresh t) m λ k l. each-all (λ j. not (sameEnds t k j)) k λ j r. key-apart t k j (a .apart k (omega arith) j r)
 
--- the ends of a valid bond are small
-pub short-ends : (t : List ℤ) (n b : ℕ) → n < 65536 → bondOk t n b ≡ true → ShortEnds t b
-short-ends t n b h e = let f = bond-fine t n b e in record { first = omega (arith, f .order, f .second); second = omega (arith, f .second) }
-
--- so are those of valid cells
+-- the ends in valid cells are small
 pub short-row : (e f k : ℤ) (n : ℕ) → n < 65536 → bondRowOk e f k n ≡ true → (number e < 65536) × (number f < 65536)
 unfolding bondRowOk
 short-row e f k n h ok =
@@ -105,7 +131,3 @@ held {r} e h = sym e ∙ not-false r h
 
 pub failed : {r b : Bool} → r ≡ b → not r ≡ true → b ≡ false
 failed {r} e h = sym e ∙ not-true r h
-
--- what did not pass claims nothing
-pub never : {A : Type 0} → _≡_ {A = Bool} false true → A
-never e = absurd (let z : _≡_ {A = ℕ} 0 1 = cc in omega arith)

@@ -3,3 +3,4 @@ pub mod Rows
 pub mod Valid
 pub mod Edits
 pub mod Keys
+pub mod Checks

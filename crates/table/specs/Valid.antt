@@ -8,7 +8,7 @@ use lib.IntN.{ℤ, pos, negsuc}
 use lib.Signed.{leZ}
 use lib.Dec.{eqb, leb, ltb}
 use Rattle.loops.specs.Loop.{pick, each}
-use Rattle.refusal.specs.declared.Refusal.the-variants.{Short, Invalid}
+use Rattle.refusal.specs.Code.{codeOf}
 use Rattle.table.specs.declared.Check.{Check}
 use Rattle.table.specs.declared.Check.the-variants.{Fine, Refused}
 use Rattle.table.specs.Limits.{maxAtoms, maxBonds, atomCells, bondCells, ELEMENT, SELECTED, ISOTOPE, HYDROGENS, CHARGE, EXTENSION, FIRST, KIND}
@@ -96,6 +96,11 @@ pub record Valid (atoms bonds : List ℤ) (n m : ℕ) : Type 0 where
 unfoldable pub enough : List ℤ → List ℤ → Bool
 enough atoms bonds = leb (atomCells * maxAtoms) (length atoms) && leb (bondCells * maxBonds) (length bonds)
 
+-- 01's number for each answer of a check: 0, or the refusal's
+abbrev pub checkCode : Check → ℕ
+checkCode Fine = 0
+checkCode (Refused r) = codeOf r
+
 -- 01, When a call says no: 1, then 13
-unfoldable pub checkOf : List ℤ → List ℤ → ℕ → ℕ → Check
-checkOf atoms bonds n m = pick (enough atoms bonds) (pick (valid atoms bonds n m) Fine (Refused Invalid)) (Refused Short)
+unfoldable pub checkOf : List ℤ → List ℤ → ℕ → ℕ → ℕ
+checkOf atoms bonds n m = pick (enough atoms bonds) (pick (valid atoms bonds n m) 0 13) 1

@@ -9,8 +9,8 @@ use lib.IntN.{ℤ}
 use lib.Dec.{eqb}
 use Rattle.loops.specs.Loop.{upTo}
 use Rattle.loops.proofs.Loops.{length-upTo, upTo-at, filled-part}
-use Rattle.table.specs.Limits.{maxAtoms}
-use Rattle.table.specs.Cells.{element, selected, hydrogens, end1, end2, kind}
+use Rattle.table.specs.Limits.{maxAtoms, CHARGE}
+use Rattle.table.specs.Cells.{atomCell, element, selected, hydrogens, end1, end2, kind}
 use Rattle.table.specs.Valid.{Valid}
 use Rattle.table.proofs.Valid.{bond-row, first-end, second-end}
 use Rattle.valence.specs.Valence.{delocalized}
@@ -41,7 +41,7 @@ upTo-ext f g k (suc n) h = rw (h k (omega arith), upTo-ext f g (suc k) n (λ j l
 sum-flags : (atoms bonds : List ℤ) (n m len : ℕ) {sums : List ℕ} → sums ≡ sumsTo bonds m len → n ≤ len → upTo (sumFlag atoms sums) 0 n ≡ delocalizedFlags atoms bonds n m
 sum-flags atoms bonds n m len {sums} e h =
     upTo-ext (sumFlag atoms sums) (delocalizedFlag atoms bonds m) 0 n
-    (λ j l. ap (λ (s : ℕ). flag (delocalized (element atoms j) (selected atoms j) s (hydrogens atoms j))) (ap (λ (t : List ℕ). getD t j 0) e ∙ upTo-at (bondSum bonds m) len j 0 (omega arith)))
+    (λ j l. ap (λ (s : ℕ). flag (delocalized (element atoms j) (selected atoms j) (atomCell atoms j CHARGE) s (hydrogens atoms j))) (ap (λ (t : List ℕ). getD t j 0) e ∙ upTo-at (bondSum bonds m) len j 0 (omega arith)))
 
 -- the flags that are filled from the bond sums make the graph whole
 pub flags-built : {atoms bonds : List ℤ} {n m : ℕ} (flags₀ : List ℕ) {sums ea eb el flags : List ℕ} → Prepared atoms bonds n m sums ea eb el → flags ≡ upTo (sumFlag atoms sums) 0 n ++ drop n flags₀ → Built atoms bonds n m flags ea eb el

@@ -1,4 +1,4 @@
--- What the buffers hold that the graph of a molecule is built in
+-- auxiliary: what the buffers hold that the graph of a molecule is built in
 use Prim.Native.Nat.{ℕ, _+_, _<_, _≤_}
 use mathlib.Core.Path.{_≡_}
 use mathlib.Core.List.{List}
@@ -6,8 +6,8 @@ use lib.ListN.{length, take, getD, set}
 use lib.IntN.{ℤ}
 use lib.Dec.{eqb}
 use Rattle.loops.specs.Loop.{pick, upTo}
-use Rattle.table.specs.Limits.{maxAtoms, maxBonds}
-use Rattle.table.specs.Cells.{element, selected, hydrogens, end1, end2, kind}
+use Rattle.table.specs.Limits.{maxAtoms, maxBonds, CHARGE}
+use Rattle.table.specs.Cells.{atomCell, element, selected, hydrogens, end1, end2, kind}
 use Rattle.table.specs.Valid.{Valid}
 use Rattle.valence.specs.Valence.{order, delocalized}
 use Rattle.table_graph.specs.Graph.{bondSum, flag, delocalizedFlags, elidedFlag}
@@ -17,8 +17,8 @@ abbrev pub bump : List ℕ → ℕ → ℕ → List ℕ
 bump sums i x = set sums i (getD sums i 0 + x)
 
 -- the bond sums with one bond more: its order added at each of its ends
-unfoldable pub withBond : List ℤ → ℕ → List ℕ → List ℕ
-withBond bonds b sums =
+unfoldable pub sumsWithBond : List ℤ → ℕ → List ℕ → List ℕ
+sumsWithBond bonds b sums =
     let e = end1 bonds b in
     let f = end2 bonds b in
     let x = order (kind bonds b) in
@@ -26,7 +26,7 @@ withBond bonds b sums =
 
 -- the flag of an atom, from the bond sums
 abbrev pub sumFlag : List ℤ → List ℕ → ℕ → ℕ
-sumFlag atoms sums a = flag (delocalized (element atoms a) (selected atoms a) (getD sums a 0) (hydrogens atoms a))
+sumFlag atoms sums a = flag (delocalized (element atoms a) (selected atoms a) (atomCell atoms a CHARGE) (getD sums a 0) (hydrogens atoms a))
 
 -- what the flags are filled from: a bond sum and a cell for each of n atoms
 pub record Summed (sums : List ℕ) (n : ℕ) (flags : List ℕ) : Type 0 where

@@ -5,7 +5,8 @@ use mathlib.Core.Bool.{Bool, true, false, _||_, not}
 use lib.IntN.{ℤ}
 use lib.Dec.{eqb}
 use Rattle.loops.specs.Loop.{pick, each, run, upTo}
-use Rattle.table.specs.Cells.{element, selected, hydrogens, end1, end2, kind}
+use Rattle.table.specs.Limits.{CHARGE}
+use Rattle.table.specs.Cells.{atomCell, element, selected, hydrogens, end1, end2, kind}
 use Rattle.valence.specs.Valence.{order, delocalized}
 use Rattle.matching.specs.Enumeration.{Row, matchings}
 use Rattle.matching.specs.Graph.{Bond, isMatching}
@@ -26,9 +27,9 @@ addShare bonds a b s = s + share bonds a b
 unfoldable pub bondSum : List ℤ → ℕ → ℕ → ℕ
 bondSum bonds m a = run (addShare bonds a) 0 m 0
 
--- 01's "kept"
+-- 01's "kept", by 02's P1
 abbrev pub delocalizedAt : List ℤ → List ℤ → ℕ → ℕ → Bool
-delocalizedAt atoms bonds m a = delocalized (element atoms a) (selected atoms a) (bondSum bonds m a) (hydrogens atoms a)
+delocalizedAt atoms bonds m a = delocalized (element atoms a) (selected atoms a) (atomCell atoms a CHARGE) (bondSum bonds m a) (hydrogens atoms a)
 
 abbrev pub flag : Bool → ℕ
 flag true = 1
@@ -41,11 +42,11 @@ abbrev pub elidedFlag : List ℤ → ℕ → ℕ
 elidedFlag bonds b = flag (eqb (kind bonds b) 0)
 
 -- none of n atoms is selected
-abbrev pub unselected : List ℤ → ℕ → Bool
-unselected atoms a = not (eqb (selected atoms a) 1)
+abbrev pub notSelected : List ℤ → ℕ → Bool
+notSelected atoms a = not (eqb (selected atoms a) 1)
 
 unfoldable pub noneSelected : List ℤ → ℕ → Bool
-noneSelected atoms n = each (unselected atoms) 0 n
+noneSelected atoms n = each (notSelected atoms) 0 n
 
 -- the flags of n atoms, and the bonds, as matchings see them
 abbrev pub delocalizedFlags : List ℤ → List ℤ → ℕ → ℕ → List ℕ

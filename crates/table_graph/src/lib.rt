@@ -4,14 +4,15 @@ ghost use mathlib.Core.List.{_++_};
 ghost use Prim.Native.Nat.{_≤_, _<_};
 ghost use lib.ListN.{drop, replicate};
 ghost use Rattle.loops.specs.Loop.{upTo};
-ghost use Rattle.table.specs.Limits.{maxAtoms, maxBonds};
-ghost use Rattle.table.specs.Cells.{element, selected, hydrogens};
+ghost use Rattle.table.specs.Limits.{maxAtoms, maxBonds, CHARGE};
+ghost use Rattle.table.specs.Cells.{atomCell, element, selected, hydrogens};
 ghost use Rattle.table.specs.Valid.{Valid};
 ghost use Rattle.valence.specs.Valence.{delocalized};
 ghost use Rattle.table_graph.specs.Graph.{bondSum, flag, noneSelected};
 ghost use Rattle.table_graph.specs.Built.{sumFlag, Summed, Wide, Wired, Built, Room};
 use ids::AtomId;
 use ids::BondId;
+use table::CHARGE;
 use table::ELEMENT;
 use table::HYDROGENS;
 use table::MAX_ATOMS;
@@ -37,15 +38,16 @@ pub fn none_selected(atoms: &[i32], n: usize) -> bool
 // Whether an atom is delocalized, by its bond sum.
 fn is_delocalized(atoms: &[i32], a: AtomId, sum: u16) -> bool
     requires { ⌜ a .0 < maxAtoms ⌝ }
-    ensures { λ r. ⌜ r ≡ delocalized (element (now (atoms .entry)) (a .0)) (selected (now (atoms .entry)) (a .0)) sum (hydrogens (now (atoms .entry)) (a .0)) ⌝ }
+    ensures { λ r. ⌜ r ≡ delocalized (element (now (atoms .entry)) (a .0)) (selected (now (atoms .entry)) (a .0)) (atomCell (now (atoms .entry)) (a .0) CHARGE) sum (hydrogens (now (atoms .entry)) (a .0)) ⌝ }
 {
     let s = cell::atom_number(atoms, a, SELECTED);
     if s != 1 {
         return false;
     }
     let e = cell::atom_number(atoms, a, ELEMENT);
-    let h = cell::atom_number(atoms, a, HYDROGENS);
-    valence::delocalized(e, s, sum as usize, h)
+    let c = cell::atom_cell(atoms, a, CHARGE);
+    let h = cell::atom_cell(atoms, a, HYDROGENS);
+    valence::delocalized(e, s, c, sum as u32, cell::number(h) as u32)
 }
 
 // 0 or 1.

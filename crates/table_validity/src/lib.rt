@@ -7,8 +7,8 @@ ghost use lib.ListN.{length, drop};
 ghost use Rattle.loops.specs.Loop.{each, upTo};
 ghost use Rattle.table.specs.Limits.{maxAtoms, maxBonds};
 ghost use Rattle.table.specs.Cells.{number};
-ghost use Rattle.table.specs.Valid.{selectable, selectionOk, atomRowOk, bondRowOk, atomOk, bondOk, distinct, valid, enough, checkOf};
-ghost use Rattle.table.specs.Keys.{ShortEnds, keyOf, endsKey, freshKey};
+ghost use Rattle.table.specs.Valid.{selectable, selectionOk, atomRowOk, bondRowOk, atomOk, bondOk, distinct, valid, enough, checkCode, checkOf};
+ghost use Rattle.table.specs.Keys.{BondEnds, keyOf, endsKey};
 use ids::AtomId;
 use ids::BondId;
 use refusal::Refusal;
@@ -173,51 +173,21 @@ fn bonds_ok(t: &[i32], n: usize, m: usize) -> bool
     true
 }
 
-// Two ends as one number.
-fn key_of(first: usize, second: usize) -> u32
-    requires { ⌜ (first < 65536) × (second < 65536) ⌝ }
-    ensures { λ r. ⌜ r ≡ keyOf first second ⌝ }
-{
-    (second * 65536 + (65535 - first)) as u32
-}
-
-// The two ends of a bond as one number.
-fn ends_key(t: &[i32], b: BondId) -> u32
-    requires { ⌜ b .0 < maxBonds ⌝ }
-    requires { ⌜ ShortEnds (now t) (b .0) ⌝ }
-    ensures { λ r. ⌜ r ≡ endsKey (now (t .entry)) (b .0) ⌝ }
-{
-    let first = cell::bond_number(t, b, FIRST);
-    let second = cell::bond_number(t, b, SECOND);
-    key_of(first, second)
-}
-
-// The ends of the first m bonds, each as one number.
-fn fill_keys(t: &[i32], m: usize, keys: &mut [u32])
+// No two of the first m bonds join the same two atoms: their rows are compared pair by pair, up to the first repeat.
+fn distinct(t: &[i32], m: usize) -> bool
     requires { ⌜ m ≤ maxBonds ⌝ }
-    requires { ⌜ m ≤ length (now keys) ⌝ }
-    requires { ⌜ ((b : ℕ) → b < m → ShortEnds (now t) b) ⌝ }
-    ensures { λ _. ⌜ now (keys .exit) ≡ upTo (endsKey (now (t .entry))) 0 m ++ drop m (now (keys .entry)) ⌝ }
-{
-    let mut i = 0;
-    while i < m {
-        keys[i] = ends_key(t, BondId(i));
-        i += 1;
-    }
-}
-
-// No two of the first m numbers are equal.
-fn all_different(keys: &[u32], m: usize) -> bool
-    requires { ⌜ m ≤ length (now keys) ⌝ }
-    ensures { λ r. ⌜ r ≡ each (freshKey (now (keys .entry))) 0 m ⌝ }
+    requires { ⌜ ((b : ℕ) → b < m → BondEnds (now t) b) ⌝ }
+    ensures { λ r. ⌜ r ≡ distinct (now (t .entry)) m ⌝ }
 {
     let mut fine = true;
     let mut i = 0;
     'rows: while i < m {
-        let key = keys[i];
+        let first = t[BOND_CELLS * i + FIRST];
+        let second = t[BOND_CELLS * i + SECOND];
         let mut j = 0;
         while j < i {
-            if keys[j] == key {
+            let p = BOND_CELLS * j;
+            if (first == t[p + FIRST]) && (second == t[p + SECOND]) {
                 fine = false;
                 break 'rows;
             }
@@ -228,15 +198,12 @@ fn all_different(keys: &[u32], m: usize) -> bool
     fine
 }
 
-// No two of the first m bonds join the same two atoms.
-fn distinct(t: &[i32], m: usize) -> bool
-    requires { ⌜ m ≤ maxBonds ⌝ }
-    requires { ⌜ ((b : ℕ) → b < m → ShortEnds (now t) b) ⌝ }
-    ensures { λ r. ⌜ r ≡ distinct (now (t .entry)) m ⌝ }
+// Two ends as one number.
+fn key_of(first: usize, second: usize) -> u32
+    requires { ⌜ (first < 65536) × (second < 65536) ⌝ }
+    ensures { λ r. ⌜ r ≡ keyOf first second ⌝ }
 {
-    let mut keys = [0u32; MAX_BONDS];
-    fill_keys(t, m, &mut keys);
-    all_different(&keys, m)
+    (second * 65536 + (65535 - first)) as u32
 }
 
 // The ends of a bond's row as one number, 0 if its three cells are not valid with n atoms.
@@ -311,7 +278,7 @@ pub fn enough(atoms: &[i32], bonds: &[i32]) -> bool
 
 // Whether the tables with their counts can be worked with: 1 for a table that is too short, 13 for tables that are not valid.
 pub fn check_tables(atoms: &[i32], bonds: &[i32], n: usize, m: usize) -> Check
-    ensures { λ r. ⌜ r ≡ checkOf (now (atoms .entry)) (now (bonds .entry)) n m ⌝ }
+    ensures { λ r. ⌜ checkCode r ≡ checkOf (now (atoms .entry)) (now (bonds .entry)) n m ⌝ }
 {
     if !enough(atoms, bonds) {
         return Check::Refused(Refusal::Short);

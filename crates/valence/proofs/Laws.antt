@@ -145,21 +145,3 @@ module _ (e selected s : ℕ) where
   pub implied-plain : (n : ℕ) → (selected ≡ 1 → ⊥) → n ≡ firstRoom (targets e) s → n ≡ implied e selected s
   unfolding implied
   implied-plain n h g = simp (ne-eqb selected 1 h) g
-
--- one law for each return of `delocalized`
-less-step : (t : Bool) (s h f : ℕ) → ltb h (f - s) ≡ t → s < f → t ≡ leb (s + h + 1) f
-less-step true s h f e g = sym (le-leb (s + h + 1) f (omega (arith, ltb-true h (f - s) e)))
-less-step false s h f e g = sym (lt-leb (s + h + 1) f (omega (arith, ltb-false h (f - s) e)))
-
-module _ (e selected s h : ℕ) where
-  pub not-selected : (selected ≡ 1 → ⊥) → false ≡ delocalized e selected s h
-  unfolding delocalized
-  not-selected n = simp (ne-eqb selected 1 n)
-
-  pub no-room : (f : ℕ) → selected ≡ 1 → f ≡ firstTarget e → f ≤ s → false ≡ delocalized e selected s h
-  unfolding delocalized
-  no-room f n i g = simp (n, ← i) (sym (lt-leb (s + h + 1) f (omega arith)))
-
-  pub by-room : (f : ℕ) → selected ≡ 1 → f ≡ firstTarget e → s < f → ltb h (f - s) ≡ delocalized e selected s h
-  unfolding delocalized
-  by-room f n i g = simp (n, ← i) (less-step (ltb h (f - s)) s h f refl g)

@@ -1,9 +1,11 @@
--- 01, Hydrogens and kept atoms: the rules as functions of numbers
+-- 01, Hydrogens and kept atoms, with 02's P1: the rules as functions of numbers
 use mathlib.Core.Bool.{Bool, _&&_}
 use mathlib.Core.List.{List, [], _∷_}
 use Prim.Native.Nat.{ℕ, _+_, _-_}
 use lib.Dec.{eqb, leb}
 use lib.ListN.{getD}
+use lib.IntN.{ℤ, pos, natAbs, _+ℤ_, _-ℤ_}
+use lib.Signed.{leZ}
 use Rattle.loops.specs.Loop.{pick}
 use Rattle.valence.specs.declared.Targets.{Targets}
 
@@ -48,6 +50,10 @@ firstRoom (t ∷ ts) sum = pick (leb sum t) (t - sum) (firstRoom ts sum)
 unfoldable pub implied : ℕ → ℕ → ℕ → ℕ
 implied e selected sum = pick (eqb selected 1) (firstTarget e - (sum + 1)) (firstRoom (targets e) sum)
 
--- 01's "kept": a selected atom whose bond sum + hydrogens + 1 is at most its first target
-unfoldable pub delocalized : ℕ → ℕ → ℕ → ℕ → Bool
-delocalized e selected sum hydrogens = eqb selected 1 && leb (sum + hydrogens + 1) (firstTarget e)
+-- 02, P1: "for carbon, the target less the size of the charge; for n, o, p and s, the target plus the signed charge". "A target below zero is an answer"
+unfoldable pub shiftedTarget : ℕ → ℤ → ℤ
+shiftedTarget e charge = pick (eqb e 6) (pos (firstTarget e) -ℤ pos (natAbs charge)) (pos (firstTarget e) +ℤ charge)
+
+-- 01's "kept": a selected atom whose bond sum + hydrogens + 1 is at most its shifted first target
+unfoldable pub delocalized : ℕ → ℕ → ℤ → ℕ → ℕ → Bool
+delocalized e selected charge sum hydrogens = eqb selected 1 && leZ (pos (sum + hydrogens + 1)) (shiftedTarget e charge)

@@ -1,7 +1,10 @@
 // Valence: what a bond adds to a bond sum, target valences, implied hydrogens, and the delocalization rule.
 ghost use mathlib.Core.Path.{_≡_};
 ghost use Prim.Native.Nat.{_<_};
-ghost use Rattle.valence.specs.Valence.{order, targets, targetRow, firstTarget, firstRoom, implied, delocalized};
+ghost use lib.IntN.{pos, natAbs};
+ghost use mir.Syntax.{w64};
+ghost use mir.Val.{SFits};
+ghost use Rattle.valence.specs.Valence.{order, targets, targetRow, firstTarget, firstRoom, implied, shiftedTarget, delocalized};
 
 // The target valences of an element in their order; 0 for each that it lacks.
 struct Targets(usize, usize, usize);
@@ -107,16 +110,33 @@ pub fn implied(e: usize, selected: usize, sum: usize) -> usize
     room(e, sum)
 }
 
-// Whether an atom is delocalized ("kept"), from its element, its selected cell, its bond sum and its hydrogens.
-pub fn delocalized(e: usize, selected: usize, sum: usize, hydrogens: usize) -> bool
-    ensures { λ r. ⌜ r ≡ delocalized e selected sum hydrogens ⌝ }
+// The size of a charge.
+fn size(charge: i32) -> i64
+    ensures { λ r. ⌜ r ≡ pos (natAbs charge) ⌝ }
+    ensures { λ r. ⌜ SFits w64 r ⌝ }
+{
+    let c = charge as i64;
+    if c < 0 { 0 - c } else { c }
+}
+
+// The first target valence of an element at a charge, as the delocalization rule looks at it; it may be below zero.
+pub fn shifted_target(e: usize, charge: i32) -> i64
+    ensures { λ r. ⌜ r ≡ shiftedTarget e charge ⌝ }
+    ensures { λ r. ⌜ SFits w64 r ⌝ }
+{
+    let first = first_target(e) as i64;
+    if e == 6 {
+        return first - size(charge);
+    }
+    first + charge as i64
+}
+
+// Whether an atom is delocalized ("kept"), from its element, its selected cell, its charge, its bond sum and its hydrogens.
+pub fn delocalized(e: usize, selected: usize, charge: i32, sum: u32, hydrogens: u32) -> bool
+    ensures { λ r. ⌜ r ≡ delocalized e selected charge sum hydrogens ⌝ }
 {
     if selected != 1 {
         return false;
     }
-    let first = first_target(e);
-    if first <= sum {
-        return false;
-    }
-    hydrogens < first - sum
+    sum as i64 + hydrogens as i64 + 1 <= shifted_target(e, charge)
 }

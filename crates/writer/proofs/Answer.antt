@@ -14,32 +14,15 @@ use Rattle.loops.specs.Loop.{pick, upTo}
 use Rattle.loops.proofs.Loops.{length-upTo}
 use Rattle.table.specs.Limits.{maxAtoms}
 use Rattle.table.specs.Valid.{valid, enough}
-use Rattle.reading_state.specs.Limits.{maxText}
+use Rattle.ids.specs.Limits.{maxText}
 use Rattle.writing_walk.specs.Emit.{pre}
 use Rattle.writing_walk.specs.Walk.{forestOf, place}
-use Rattle.writing.specs.Write.{Told, bondList, tokens, textOf, renumbering, fewBridges, shallow, refused, short, filled, accepted, writeValid, lent, writeOf}
-use Rattle.buffer.specs.Pen.{Pen, pen, putByte, writes, Wrote}
+use Rattle.writing.specs.Write.{WriteResult, bondList, tokens, textOf, renumbering, fewBridges, shallow, writeRefused, writeShort, filled, writeAccepted, writeValid, lent, writeOf}
+use Rattle.buffer.specs.Pen.{Pen, pen, Wrote}
+use Rattle.buffer.proofs.Laws.{Laid, laid, over}
 use Rattle.writer.specs.Told.{Said}
 
 -- ---- clearing
-pub clear-none : (r : List ℕ) (from : ℕ) → r ≡ take from r ++ (replicate (from - from) 0 ++ drop from r)
-clear-none r from = let z : from - from ≡ 0 = omega arith in rw z (sym (take-append-drop from r))
-
-pub clear-more : (r row : List ℕ) (from i : ℕ) → from ≤ i → i < length r → row ≡ take from r ++ (replicate (i - from) 0 ++ drop i r)
-    → set row i 0 ≡ take from r ++ (replicate ((i + 1) - from) 0 ++ drop (i + 1) r)
-clear-more r row from i h l e =
-    let n : length (take from r ++ replicate (i - from) 0) ≡ i = length-append (take from r) (replicate (i - from) 0) ∙ rw (length-take-le from r (omega arith), length-replicate) (omega arith) in
-    let q : (i + 1) - from ≡ (i - from) + 1 = omega arith in
-    ap (λ (x : List ℕ). set x i 0) (e ∙ sym (append-assoc (take from r) (replicate (i - from) 0) (drop i r)) ∙ ap (λ (x : List ℕ). (take from r ++ replicate (i - from) 0) ++ x) (drop-cons r i 0 l))
-    ∙ set-at (take from r ++ replicate (i - from) 0) (getD r i 0) (drop (suc i) r) 0 i n
-    ∙ rw (q, ← replicate-append-replicate {A = ℕ} (i - from) 1 0, add-one i) (append-assoc (take from r) (replicate (i - from) 0) (0 ∷ drop (suc i) r)
-    ∙ ap (λ (x : List ℕ). take from r ++ x) (sym (append-assoc (replicate (i - from) 0) (0 ∷ []) (drop (suc i) r))))
-
-pub clear-end : (r row : List ℕ) (from i : ℕ) → length r ≤ i → i ≤ length r → row ≡ take from r ++ (replicate (i - from) 0 ++ drop i r) → row ≡ take from r ++ replicate (length r - from) 0
-clear-end r row from i h l e =
-    let q : i ≡ length r = omega arith in
-    e ∙ rw (drop-of-length-le r h, append-nil {A = ℕ} (replicate (i - from) 0), q)
-
 pub cleared-all : (r row : List ℕ) → row ≡ take 0 r ++ replicate (length r - 0) 0 → row ≡ replicate (length r) 0
 cleared-all r row e = let z : length r - 0 ≡ length r = omega arith in e ∙ rw z
 
@@ -48,47 +31,19 @@ pub numbers-cleared : (f : ℕ → ℕ) (n : ℕ) (r r1 r2 : List ℕ) → n ≤
 numbers-cleared f n r r1 r2 h e g l =
     g ∙ ap (λ (x : ℕ). take n r1 ++ replicate (x - n) 0) l ∙ ap (λ (x : List ℕ). x ++ replicate (length r - n) 0) (ap (take n) e ∙ take-at (upTo f 0 n) (drop n r) n (length-upTo f 0 n))
 
--- ---- what the pen leaves
-stuck : (l o : List ℕ) → writes l (pen o (suc (length o))) ≡ pen o (suc (length o))
-unfolding writes putByte
-stuck [] o = refl
-stuck (b ∷ l) o = rw (le-ltb (suc (length o)) (length o) (omega arith)) (stuck l o)
-
-put-here : (b x : ℕ) (a o : List ℕ) → putByte b (pen (a ++ (x ∷ o)) (length a)) ≡ pen ((a ++ (b ∷ [])) ++ o) (length (a ++ (b ∷ [])))
-unfolding putByte
-put-here b x a o =
-    let l = length-append a (x ∷ o) in
-    let e : set (a ++ (x ∷ o)) (length a) b ≡ (a ++ (b ∷ [])) ++ o = set-at a x o b (length a) refl ∙ sym (append-assoc a (b ∷ []) o) in
-    let m : suc (length a) ≡ length (a ++ (b ∷ [])) = omega (arith, length-append a (b ∷ [])) in
-    rw (lt-ltb (length a) (length (a ++ (x ∷ o))) (omega arith)) (λ i. pen (e i) (m i))
-
-fitting : (l a o : List ℕ) → length l ≤ length o → writes l (pen (a ++ o) (length a)) ≡ pen (a ++ (l ++ drop (length l) o)) (length a + length l)
-unfolding writes
-fitting [] a o h = let e : length a ≡ length a + 0 = omega arith in ap (pen (a ++ o)) e
-fitting (b ∷ l) a [] h = absurd (omega arith)
-fitting (b ∷ l) a (x ∷ o) h =
-    let e : length (a ++ (b ∷ [])) + length l ≡ length a + suc (length l) = omega (arith, length-append a (b ∷ [])) in
-    ap (writes l) (put-here b x a o) ∙ fitting l (a ++ (b ∷ [])) o (omega arith) ∙ (λ i. pen (append-assoc a (b ∷ []) (l ++ drop (length l) o) i) (e i))
-
-over : (l a o : List ℕ) → length o < length l → writes l (pen (a ++ o) (length a)) .place ≡ suc (length a + length o)
-unfolding writes putByte
-over [] a o h = absurd (omega arith)
-over (b ∷ l) a [] h =
-    let e : a ++ [] ≡ a = append-nil a in
-    let q : writes l (putByte b (pen (a ++ []) (length a))) ≡ pen a (suc (length a)) = ap (λ (y : List ℕ). writes l (putByte b (pen y (length a)))) e ∙ rw (le-ltb (length a) (length a) (omega arith)) (stuck l a) in
-    ap (λ (y : Pen). y .place) q ∙ omega arith
-over (b ∷ l) a (x ∷ o) h =
-    ap (λ (y : Pen). writes l y .place) (put-here b x a o) ∙ over l (a ++ (b ∷ [])) o (omega arith) ∙ omega (arith, length-append a (b ∷ []))
-
+-- ---- the text in the output
 module _ (l out part : List ℕ) (at : ℕ) (room : maxText ≤ length out) (w : Wrote l (pen (take maxText out) 0) (pen part at)) where
   long : length (take maxText out) ≡ maxText
   long = length-take-le maxText out room
+
+  laid-here : length l ≤ maxText → Laid l (take maxText out) 0 part at
+  laid-here h = laid w (omega (arith, long))
 
   pub too-long : maxText < at → leb (length l) maxText ≡ false
   too-long h = go (leb (length l) maxText) refl
     where
       go : (t : Bool) → leb (length l) maxText ≡ t → t ≡ false
-      go true e = absurd (let q = leb-true (length l) maxText e in let z = ap (λ (y : Pen). y .place) (w .same ∙ fitting l [] (take maxText out) (omega (arith, long))) in omega arith)
+      go true e = absurd (omega (arith, leb-true (length l) maxText e, laid-here (leb-true (length l) maxText e) .place))
       go false e = refl
 
   pub not-long : at ≤ maxText → length l ≤ maxText
@@ -96,15 +51,13 @@ module _ (l out part : List ℕ) (at : ℕ) (room : maxText ≤ length out) (w :
     where
       go : (t : Bool) → leb (length l) maxText ≡ t → length l ≤ maxText
       go true e = leb-true (length l) maxText e
-      go false e = absurd (let q = leb-false (length l) maxText e in let z = ap (λ (y : Pen). y .place) (w .same) ∙ over l [] (take maxText out) (omega (arith, long)) in omega (arith, long))
+      go false e = absurd (omega (arith, long, over w (omega (arith, long)) (omega arith) (omega (arith, long, leb-false (length l) maxText e))))
 
   -- the text and its length
   pub the-text : length l ≤ maxText → (at ≡ length l) × (take at part ≡ l)
   the-text h =
-      let q = w .same ∙ fitting l [] (take maxText out) (omega (arith, long)) in
-      let p : at ≡ length l = ap (λ (y : Pen). y .place) q ∙ omega arith in
-      let r : part ≡ l ++ drop (length l) (take maxText out) = ap (λ (y : Pen). y .output) q in
-      (p, ap (take at) r ∙ take-at l (drop (length l) (take maxText out)) at (sym p))
+      let d : Laid l (take maxText out) 0 part at = laid-here h in
+      (d .place ∙ omega arith, d .front)
 
 upTo-same : (f g : ℕ → ℕ) (n d k : ℕ) → k + d ≤ n → ((a : ℕ) → a < n → f a ≡ g a) → upTo f k d ≡ upTo g k d
 unfolding upTo
@@ -123,19 +76,19 @@ renumbering-is bonds n m = refl
 
 -- ---- the answers
 module _ {atoms bonds : List ℤ} {n m : ℕ} {few flat : Bool} {p q : Pen} (s : Said atoms bonds n m few flat p q) (out ren : List ℕ) where
-  pub tells14 : few ≡ false → refused 14 out ren ≡ writeValid atoms bonds n m out ren
+  pub tells14 : few ≡ false → writeRefused 14 out ren ≡ writeValid atoms bonds n m out ren
   unfolding writeValid
   tells14 e = sym (rw (sym (s .numbers) ∙ e))
 
-  pub tells15 : few ≡ true → flat ≡ false → refused 15 out ren ≡ writeValid atoms bonds n m out ren
+  pub tells15 : few ≡ true → flat ≡ false → writeRefused 15 out ren ≡ writeValid atoms bonds n m out ren
   unfolding writeValid
   tells15 e f = sym (rw (sym (s .numbers) ∙ e, sym (s .depth) ∙ f))
 
-  pub tells16 : few ≡ true → flat ≡ true → leb (length (textOf atoms bonds n m)) maxText ≡ false → refused 16 out ren ≡ writeValid atoms bonds n m out ren
+  pub tells16 : few ≡ true → flat ≡ true → leb (length (textOf atoms bonds n m)) maxText ≡ false → writeRefused 16 out ren ≡ writeValid atoms bonds n m out ren
   unfolding writeValid
   tells16 e f g = sym (rw (sym (s .numbers) ∙ e, sym (s .depth) ∙ f, g))
 
-  pub tells0 : few ≡ true → flat ≡ true → leb (length (textOf atoms bonds n m)) maxText ≡ true → accepted (textOf atoms bonds n m) (renumbering bonds n m) out ren ≡ writeValid atoms bonds n m out ren
+  pub tells0 : few ≡ true → flat ≡ true → leb (length (textOf atoms bonds n m)) maxText ≡ true → writeAccepted (textOf atoms bonds n m) (renumbering bonds n m) out ren ≡ writeValid atoms bonds n m out ren
   unfolding writeValid
   tells0 e f g = sym (rw (sym (s .numbers) ∙ e, sym (s .depth) ∙ f, g))
 
@@ -144,17 +97,17 @@ pub part-long : (part out : List ℕ) → length part ≡ length (take maxText o
 part-long part out e h = omega (arith, length-append part (drop maxText out), length-drop maxText out, length-take-le maxText out h)
 
 pub zeroed : (c : ℕ) (out ren o1 o2 r2 : List ℕ) → length o1 ≡ length out → o2 ≡ replicate (length o1) 0 → r2 ≡ replicate (length ren) 0
-    → _≡_ {A = Told} (record { code = c; size = 0; output = o2; numbers = r2 }) (refused c out ren)
+    → _≡_ {A = WriteResult} (record { code = c; size = 0; output = o2; numbers = r2 }) (writeRefused c out ren)
 zeroed c out ren o1 o2 r2 l e f = λ i. record { code = c; size = 0; output = (e ∙ ap (λ (x : ℕ). replicate x 0) l) i; numbers = f i }
 
 module _ {atoms bonds : List ℤ} {n m : ℕ} {few flat : Bool} (out ren part : List ℕ) (at : ℕ) (room : maxText ≤ length out) (pl : length part ≡ length (take maxText out))
     (s : Said atoms bonds n m few flat (pen (take maxText out) 0) (pen part at)) (e : few ≡ true) (f : flat ≡ true) where
-  pub told16 : maxText < at → refused 16 out ren ≡ writeValid atoms bonds n m out ren
+  pub told16 : maxText < at → writeRefused 16 out ren ≡ writeValid atoms bonds n m out ren
   told16 h = tells16 s out ren e f (too-long (textOf atoms bonds n m) out part at room (s .text e) h)
 
   pub told0 : at ≤ maxText → (number o2 r2 : List ℕ) → ((a : ℕ) → a < n → getD number a 0 ≡ suc (place (pre (forestOf n (bondList bonds m))) a))
       → o2 ≡ take at (part ++ drop maxText out) ++ replicate (length (part ++ drop maxText out) - at) 0 → r2 ≡ upTo (λ a. getD number a 0 - 1) 0 n ++ replicate (length ren - n) 0
-      → _≡_ {A = Told} (record { code = 0; size = at; output = o2; numbers = r2 }) (writeValid atoms bonds n m out ren)
+      → _≡_ {A = WriteResult} (record { code = 0; size = at; output = o2; numbers = r2 }) (writeValid atoms bonds n m out ren)
   told0 h number o2 r2 nu eo er =
       let l = textOf atoms bonds n m in
       let w = s .text e in
@@ -170,20 +123,20 @@ module _ {atoms bonds : List ℤ} {n m : ℕ} {few flat : Bool} (out ren part : 
       renumbers number nu = same-numbers ren n (λ a. getD number a 0 - 1) (renumbering bonds n m) (place (pre (forestOf n (bondList bonds m)))) (renumbering-is bonds n m) (λ a i. (let q = nu a i in omega arith))
 
 -- ---- 1 and 13
-pub short1 : (atoms bonds : List ℤ) (n m : ℕ) (out ren : List ℕ) → enough atoms bonds ≡ false → short out ren ≡ writeOf atoms bonds n m out ren
+pub short1 : (atoms bonds : List ℤ) (n m : ℕ) (out ren : List ℕ) → enough atoms bonds ≡ false → writeShort out ren ≡ writeOf atoms bonds n m out ren
 unfolding writeOf
 short1 atoms bonds n m out ren e = sym (rw e)
 
-pub short2 : (atoms bonds : List ℤ) (n m : ℕ) (out ren : List ℕ) → enough atoms bonds ≡ true → length out < maxText → short out ren ≡ writeOf atoms bonds n m out ren
+pub short2 : (atoms bonds : List ℤ) (n m : ℕ) (out ren : List ℕ) → enough atoms bonds ≡ true → length out < maxText → writeShort out ren ≡ writeOf atoms bonds n m out ren
 unfolding writeOf
 short2 atoms bonds n m out ren e h = sym (rw (e, lt-leb maxText (length out) h))
 
-pub short3 : (atoms bonds : List ℤ) (n m : ℕ) (out ren : List ℕ) → enough atoms bonds ≡ true → maxText ≤ length out → length ren < maxAtoms → short out ren ≡ writeOf atoms bonds n m out ren
+pub short3 : (atoms bonds : List ℤ) (n m : ℕ) (out ren : List ℕ) → enough atoms bonds ≡ true → maxText ≤ length out → length ren < maxAtoms → writeShort out ren ≡ writeOf atoms bonds n m out ren
 unfolding writeOf
 short3 atoms bonds n m out ren e h g = sym (rw (e, le-leb maxText (length out) h, lt-leb maxAtoms (length ren) g))
 
 module _ (atoms bonds : List ℤ) (n m : ℕ) (out ren : List ℕ) (e : enough atoms bonds ≡ true) (h : maxText ≤ length out) (g : maxAtoms ≤ length ren) where
-  pub told13 : valid atoms bonds n m ≡ false → refused 13 out ren ≡ writeOf atoms bonds n m out ren
+  pub told13 : valid atoms bonds n m ≡ false → writeRefused 13 out ren ≡ writeOf atoms bonds n m out ren
   unfolding writeOf
   told13 v = sym (rw (e, le-leb maxText (length out) h, le-leb maxAtoms (length ren) g, v))
 

@@ -3,17 +3,21 @@ ghost use mathlib.Core.Bool.{true};
 ghost use Prim.Native.Nat.{ℕ, _<_};
 ghost use lib.ListN.{length, replicate};
 ghost use Rattle.buffer.specs.Pen.{pen, Wrote};
+ghost use Rattle.ids.specs.Limits.{bridges};
+ghost use Rattle.writing_bridges.specs.Slots.{slotCount};
 ghost use Rattle.writing_bridges.specs.Unused.{Marked};
 ghost use Rattle.writer.specs.Emit.{leaveBytes, enterBytes, leadBytes, headBytes, Ready, Emitted, Texted};
 use ids::AtomId;
 use table::MAX_ATOMS;
+use writing_bridges::SLOTS;
 use writing_bridges::Spot;
+use writing_visit::WalkNumber;
 
 // A branch is left before a child that is not the first.
-fn leave(out: &mut [u8], at: usize, up: usize, x: usize) -> usize
-    ensures { λ r. ⌜ Wrote (leaveBytes up x) (pen (now (out .entry)) at) (pen (now (out .exit)) r) ⌝ }
+fn leave(out: &mut [u8], at: usize, up: usize, x: WalkNumber) -> usize
+    ensures { λ r. ⌜ Wrote (leaveBytes up (x .0)) (pen (now (out .entry)) at) (pen (now (out .exit)) r) ⌝ }
 {
-    if up == x {
+    if up == x.0 {
         return at;
     }
     buffer::put(out, at, b')')
@@ -30,21 +34,21 @@ fn enter(out: &mut [u8], at: usize, more: bool) -> usize
 }
 
 // What stands before the atom x: a dot, or parentheses and the symbol of the bond to its parent.
-fn lead(out: &mut [u8], at: usize, x: usize, up: usize, more: bool, kind: usize) -> usize
-    ensures { λ r. ⌜ Wrote (leadBytes x up more kind) (pen (now (out .entry)) at) (pen (now (out .exit)) r) ⌝ }
+fn lead(out: &mut [u8], at: usize, x: WalkNumber, up: usize, more: bool, kind: usize) -> usize
+    ensures { λ r. ⌜ Wrote (leadBytes (x .0) up more kind) (pen (now (out .entry)) at) (pen (now (out .exit)) r) ⌝ }
 {
     if up > 0 {
         let at = leave(out, at, up, x);
         let at = enter(out, at, more);
         return writing_atoms::bond_symbol(out, at, kind);
     }
-    if x == 0 {
+    if x.0 == 0 {
         return at;
     }
     buffer::put(out, at, b'.')
 }
 
-// The atom x of the walk: what stands before it, its bytes, what closes there and what opens there.
+// The atom x: what stands before it, its bytes, what closes there and what opens there.
 fn emit_atom(
     atoms: &[i32],
     order: &[u16],
@@ -58,19 +62,20 @@ fn emit_atom(
     marks: &[u16; MAX_ATOMS],
     k: usize,
     slots: &mut [u16],
-    x: usize,
+    x: WalkNumber,
     out: &mut [u8],
     at: usize,
 ) -> Spot
-    requires { ⌜ Ready (now atoms) (now order) (now up) (now kind) (now last) (now sums) (now los) (now his) (now kinds) k x ⌝ }
+    requires { ⌜ Ready (now atoms) (now order) (now up) (now kind) (now last) (now sums) (now los) (now his) (now kinds) k (x .0) ⌝ }
     requires { ⌜ Marked (now marks) (now los) (now his) k ⌝ }
-    requires { ⌜ length (now slots) < 100 ⌝ }
-    ensures { λ r. ⌜ Emitted (now (atoms .entry)) (now (order .entry)) (now (up .entry)) (now (kind .entry)) (now (last .entry)) (now (sums .entry)) (now (los .entry)) (now (his .entry)) (now (kinds .entry)) k x (now (slots .entry)) (now (slots .exit)) (r .few) (pen (now (out .entry)) at) (pen (now (out .exit)) (r .at)) ⌝ }
+    requires { ⌜ length (now slots) < bridges ⌝ }
+    ensures { λ r. ⌜ Emitted (now (atoms .entry)) (now (order .entry)) (now (up .entry)) (now (kind .entry)) (now (last .entry)) (now (sums .entry)) (now (los .entry)) (now (his .entry)) (now (kinds .entry)) k (x .0) (now (slots .entry)) (now (slots .exit)) (r .few) (pen (now (out .entry)) at) (pen (now (out .exit)) (r .at)) ⌝ }
 {
-    let a = order[x] as usize;
-    let u = up[x] as usize;
-    let more = last[u] as usize != x;
-    let at = lead(out, at, x, u, more, kind[x] as usize);
+    let i = x.0;
+    let a = order[i] as usize;
+    let u = up[i] as usize;
+    let more = last[u] as usize != i;
+    let at = lead(out, at, x, u, more, kind[i] as usize);
     let at = writing_atoms::fields::atom(atoms, AtomId(a), sums[a] as usize, out, at);
     writing_bridges::ring_ends(los, his, kinds, marks, k, x, slots, out, at)
 }
@@ -93,9 +98,9 @@ pub fn emit(
 ) -> Spot
     requires { ⌜ ((x : ℕ) → x < n → Ready (now atoms) (now order) (now up) (now kind) (now last) (now sums) (now los) (now his) (now kinds) k x) ⌝ }
     requires { ⌜ Marked (now marks) (now los) (now his) k ⌝ }
-    ensures { λ r. ⌜ Texted (headBytes (now (atoms .entry)) (now (order .entry)) (now (up .entry)) (now (kind .entry)) (now (last .entry)) (now (sums .entry))) (now (los .entry)) (now (his .entry)) (now (kinds .entry)) n k (replicate 99 0) (r .few) (pen (now (out .entry)) 0) (pen (now (out .exit)) (r .at)) ⌝ }
+    ensures { λ r. ⌜ Texted (headBytes (now (atoms .entry)) (now (order .entry)) (now (up .entry)) (now (kind .entry)) (now (last .entry)) (now (sums .entry))) (now (los .entry)) (now (his .entry)) (now (kinds .entry)) n k (replicate slotCount 0) (r .few) (pen (now (out .entry)) 0) (pen (now (out .exit)) (r .at)) ⌝ }
 {
-    let mut slots = [0u16; 99];
+    let mut slots = [0u16; SLOTS];
     let mut at = 0;
     let mut x = 0;
     while x < n {
@@ -112,7 +117,7 @@ pub fn emit(
             marks,
             k,
             &mut slots,
-            x,
+            WalkNumber(x),
             out,
             at,
         );

@@ -6,12 +6,12 @@ ghost use lib.ListN.{length, getD, take, drop, replicate};
 ghost use lib.IntN.{ℤ};
 ghost use Rattle.loops.specs.Loop.{upTo};
 ghost use Rattle.table.specs.Limits.{maxAtoms};
-ghost use Rattle.reading_state.specs.Limits.{maxText};
+ghost use Rattle.ids.specs.Limits.{maxText};
 ghost use Rattle.writing.specs.Write.{writeValid, writeOf};
 ghost use Rattle.table.specs.Valid.{Valid};
 ghost use Rattle.buffer.specs.Pen.{pen};
 ghost use Rattle.writer.specs.Told.{Held, Counted, Said, told};
-use reading_state::MAX_TEXT;
+use ids::MAX_TEXT;
 use refusal::Refusal;
 use table::MAX_ATOMS;
 use table::MAX_BONDS;
@@ -141,18 +141,6 @@ fn text(
     )
 }
 
-// Zeros from a place on.
-fn clear_from(out: &mut [u8], from: usize)
-    requires { ⌜ from ≤ length (now out) ⌝ }
-    ensures { λ _. ⌜ now (out .exit) ≡ take from (now (out .entry)) ++ replicate (length (now (out .entry)) - from) 0 ⌝ }
-{
-    let mut i = from;
-    while i < out.len() {
-        out[i] = 0;
-        i += 1;
-    }
-}
-
 // Zeros in a renumbering from a place on.
 fn clear_numbers(ren: &mut [u16], from: usize)
     requires { ⌜ from ≤ length (now ren) ⌝ }
@@ -193,7 +181,7 @@ fn clear_all(out: &mut [u8], ren: &mut [u16])
     ensures { λ _. ⌜ now (out .exit) ≡ replicate (length (now (out .entry))) 0 ⌝ }
     ensures { λ _. ⌜ now (ren .exit) ≡ replicate (length (now (ren .entry))) 0 ⌝ }
 {
-    clear_from(out, 0);
+    buffer::clear_from(out, 0);
     clear_numbers(ren, 0);
 }
 
@@ -227,7 +215,7 @@ pub fn write_valid(
         clear_all(out, ren);
         return Written::Refused(Refusal::LongWriting);
     }
-    clear_from(out, at);
+    buffer::clear_from(out, at);
     renumber(&number, n, ren);
     Written::Text(at)
 }

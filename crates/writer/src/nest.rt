@@ -6,7 +6,8 @@ ghost use Rattle.loops.specs.Loop.{run};
 ghost use Rattle.table.specs.Limits.{maxAtoms};
 ghost use Rattle.writer.specs.Emit.{moreAt};
 ghost use Rattle.writer.specs.Nest.{depthLeft, depthAfter, nestFrom};
-use reading_state::MAX_DEPTH;
+use ids::MAX_DEPTH;
+use writing_visit::WalkNumber;
 
 // internal: for each parent, by its walk number plus 1, its last child.
 pub fn last_children(up: &[u16], n: usize, last: &mut [u16])
@@ -23,13 +24,13 @@ pub fn last_children(up: &[u16], n: usize, last: &mut [u16])
 }
 
 // How many branches are open when the branch before the atom x, if there is one, is left.
-fn depth_left(depth: usize, up: usize, x: usize) -> usize
-    ensures { λ r. ⌜ r ≡ depthLeft depth up x ⌝ }
+fn depth_left(depth: usize, up: usize, x: WalkNumber) -> usize
+    ensures { λ r. ⌜ r ≡ depthLeft depth up (x .0) ⌝ }
 {
     if up == 0 {
         return depth;
     }
-    if up == x {
+    if up == x.0 {
         return depth;
     }
     if depth == 0 {
@@ -39,8 +40,8 @@ fn depth_left(depth: usize, up: usize, x: usize) -> usize
 }
 
 // How many branches are open after the atom x; one too many where they nest too deep.
-fn depth_after(depth: usize, up: usize, more: bool, x: usize) -> usize
-    ensures { λ r. ⌜ r ≡ depthAfter depth up more x ⌝ }
+fn depth_after(depth: usize, up: usize, more: bool, x: WalkNumber) -> usize
+    ensures { λ r. ⌜ r ≡ depthAfter depth up more (x .0) ⌝ }
 {
     let left = depth_left(depth, up, x);
     if up == 0 {
@@ -65,7 +66,7 @@ pub fn is_shallow(up: &[u16], last: &[u16], n: usize) -> bool
     let mut x = 0;
     while x < n {
         let u = up[x] as usize;
-        depth = depth_after(depth, u, last[u] as usize != x, x);
+        depth = depth_after(depth, u, last[u] as usize != x, WalkNumber(x));
         if MAX_DEPTH < depth {
             return false;
         }

@@ -1,2 +1,3 @@
 pub mod Spell
 pub mod Write
+pub mod Conditions

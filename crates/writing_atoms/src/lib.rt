@@ -1,6 +1,7 @@
 // The bytes of bond symbols, bridges and atoms, laid into a buffer.
 ghost use mathlib.Core.List.{[], _∷_};
-ghost use Prim.Native.Nat.{_<_};
+ghost use Prim.Native.Nat.{_+_, _<_};
+ghost use Rattle.ids.specs.Limits.{bridges};
 ghost use Rattle.buffer.specs.Pen.{pen, Wrote};
 ghost use Rattle.writing.specs.Spell.{digitByte, decimal, kindBytes, bridgeBytes};
 
@@ -11,7 +12,7 @@ fn digit(out: &mut [u8], at: usize, d: usize) -> usize
     requires { ⌜ d < 10 ⌝ }
     ensures { λ r. ⌜ Wrote (digitByte d ∷ []) (pen (now (out .entry)) at) (pen (now (out .exit)) r) ⌝ }
 {
-    buffer::put(out, at, 48 + d as u8)
+    buffer::put(out, at, b'0' + d as u8)
 }
 
 // internal: a number in decimal.
@@ -37,7 +38,7 @@ pub fn decimal(out: &mut [u8], at: usize, x: usize) -> usize
     digit(out, at, x % 10)
 }
 
-// The symbol of a bond's kind; nothing for an elided bond.
+// internal: the symbol of a bond's kind; nothing for an elided bond.
 pub fn bond_symbol(out: &mut [u8], at: usize, k: usize) -> usize
     ensures { λ r. ⌜ Wrote (kindBytes k) (pen (now (out .entry)) at) (pen (now (out .exit)) r) ⌝ }
 {
@@ -55,7 +56,7 @@ pub fn bond_symbol(out: &mut [u8], at: usize, k: usize) -> usize
 
 // internal: the number of a bridge; r is the number less one.
 pub fn bridge(out: &mut [u8], at: usize, r: usize) -> usize
-    requires { ⌜ r < 99 ⌝ }
+    requires { ⌜ r + 1 < bridges ⌝ }
     ensures { λ s. ⌜ Wrote (bridgeBytes r) (pen (now (out .entry)) at) (pen (now (out .exit)) s) ⌝ }
 {
     if r < 9 {

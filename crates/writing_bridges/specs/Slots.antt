@@ -1,4 +1,4 @@
--- The bridges that are open, in an array: a slot holds 0, or the number of a bridge bond plus 1 (01, Writing)
+-- auxiliary: the bridges that are open, in an array: a slot holds 0, or the number of a bridge bond plus 1 (01, Writing)
 use Prim.Native.Nat.{ℕ, suc, _-_, _<_, _≤_}
 use mathlib.Core.Path.{_≡_}
 use mathlib.Core.Bool.{Bool, true, _&&_}
@@ -6,13 +6,17 @@ use mathlib.Core.List.{List, [], _∷_, _++_}
 use lib.Dec.{eqb, ltb}
 use lib.ListN.{length, getD}
 use Rattle.loops.specs.Loop.{pick, upTo}
+use Rattle.ids.specs.Limits.{bridges}
 use Rattle.writing_walk.specs.Token.{Bond, eqBond}
 use Rattle.writing_walk.specs.Emit.{Slot, free, held, find, release, lowest, insert, closeAll, openAll}
 use Rattle.writing_walk.specs.Walk.{keep, sweep}
-use Rattle.writing_walk.proofs.Count.{count}
-use Rattle.writing_walk.proofs.Read.{openOf, Within}
+use Rattle.writing_walk.specs.Same.{count, openOf, Within}
 use Rattle.buffer.specs.Pen.{Pen, Wrote}
 use Rattle.writing.specs.Spell.{kindBytes, bridgeBytes}
+
+-- how many slots there are: one for each bridge number, 1 to 99
+abbrev pub slotCount : ℕ
+slotCount = bridges - 1
 
 -- the first place of a number in an array; its length where it is not there
 unfoldable pub indexOf : ℕ → List ℕ → ℕ

@@ -4,14 +4,21 @@ ghost use mathlib.Core.List.{_++_};
 ghost use Prim.Native.Nat.{_+_, _<_, _≤_};
 ghost use lib.ListN.{length, set};
 ghost use Rattle.table.specs.Limits.{maxAtoms, maxBonds};
+ghost use Rattle.ids.specs.Limits.{bridges};
 ghost use Rattle.buffer.specs.Pen.{pen, Wrote};
 ghost use Rattle.writing.specs.Spell.{kindBytes, bridgeBytes};
 ghost use Rattle.writing_bridges.specs.Slots.{indexOf, Near, Released, Inserted, Closed, Opened, Ended};
 ghost use Rattle.writing_bridges.specs.Unused.{Marked};
+use ids::BRIDGES;
 use table::MAX_ATOMS;
 use unused::MANY;
+use unused::UnusedId;
+use writing_visit::WalkNumber;
 
 pub mod unused;
+
+// How many bridge numbers there are: a slot for each, 0 where it is free, else the number of its bond plus 1.
+pub const SLOTS: usize = BRIDGES - 1;
 
 // Whether the bridge numbers sufficed, and the place after the last byte.
 pub struct Spot {
@@ -19,7 +26,7 @@ pub struct Spot {
     pub at: usize,
 }
 
-// The first slot with a number; the number of slots where there is none.
+// The first slot with a content; the number of slots where there is none.
 fn slot_of(slots: &[u16], x: usize) -> usize
     ensures { λ r. ⌜ r ≡ indexOf x (now (slots .entry)) ⌝ }
 {
@@ -33,51 +40,53 @@ fn slot_of(slots: &[u16], x: usize) -> usize
     i
 }
 
-// The nearer of the best number so far and the number i.
+// The nearer of the best bond so far and the bond i.
 fn nearer(
     ends: &[u16],
     keys: &[u16],
     k: usize,
-    x: usize,
-    from: usize,
-    i: usize,
-    best: usize,
-) -> usize
+    x: WalkNumber,
+    from: WalkNumber,
+    i: UnusedId,
+    best: UnusedId,
+) -> UnusedId
     requires { ⌜ (k ≤ length (now ends)) × (k ≤ length (now keys)) ⌝ }
-    requires { ⌜ i < k ⌝ }
-    ensures { λ r. ⌜ (Near (now (ends .entry)) (now (keys .entry)) x from k i best → Near (now (ends .entry)) (now (keys .entry)) x from k (i + 1) r) ⌝ }
+    requires { ⌜ i .0 < k ⌝ }
+    ensures { λ r. ⌜ (Near (now (ends .entry)) (now (keys .entry)) (x .0) (from .0) k (i .0) (best .0) → Near (now (ends .entry)) (now (keys .entry)) (x .0) (from .0) k (i .0 + 1) (r .0)) ⌝ }
 {
-    if ends[i] as usize != x {
+    let at = i.0;
+    let old = best.0;
+    if ends[at] as usize != x.0 {
         return best;
     }
-    let key = keys[i] as usize;
-    if key < from {
+    let key = keys[at] as usize;
+    if key < from.0 {
         return best;
     }
-    if k <= best {
+    if k <= old {
         return i;
     }
-    if keys[best] as usize <= key {
+    if keys[old] as usize <= key {
         return best;
     }
     i
 }
 
 // Of the bonds with the end x, the one with the least other end from a bound on; k where there is none.
-fn nearest(ends: &[u16], keys: &[u16], k: usize, x: usize, from: usize) -> usize
+fn nearest(ends: &[u16], keys: &[u16], k: usize, x: WalkNumber, from: WalkNumber) -> UnusedId
     requires { ⌜ (k ≤ length (now ends)) × (k ≤ length (now keys)) ⌝ }
-    ensures { λ r. ⌜ Near (now (ends .entry)) (now (keys .entry)) x from k k r ⌝ }
+    ensures { λ r. ⌜ Near (now (ends .entry)) (now (keys .entry)) (x .0) (from .0) k k (r .0) ⌝ }
 {
-    let mut best = k;
+    let mut best = UnusedId(k);
     let mut i = 0;
     while i < k {
-        best = nearer(ends, keys, k, x, from, i, best);
+        best = nearer(ends, keys, k, x, from, UnusedId(i), best);
         i += 1;
     }
     best
 }
 
-// A bridge number is written, and its slot gets x.
+// A bridge number is written, and its slot gets a content.
 fn write_slot(
     slots: &mut [u16],
     out: &mut [u8],
@@ -86,7 +95,7 @@ fn write_slot(
     r: usize,
     x: usize,
 ) -> usize
-    requires { ⌜ (length (now slots) < 100) × (r < length (now slots)) ⌝ }
+    requires { ⌜ (length (now slots) < bridges) × (r < length (now slots)) ⌝ }
     requires { ⌜ x ≤ maxBonds ⌝ }
     ensures { λ s. ⌜ Wrote (kindBytes kind ++ bridgeBytes r) (pen (now (out .entry)) at) (pen (now (out .exit)) s) ⌝ }
     ensures { λ s. ⌜ now (slots .exit) ≡ set (now (slots .entry)) r x ⌝ }
@@ -97,11 +106,11 @@ fn write_slot(
 }
 
 // The bond i closes: its bridge number is written, and its slot is free again.
-fn close_bond(slots: &mut [u16], out: &mut [u8], at: usize, i: usize) -> usize
-    requires { ⌜ (length (now slots) < 100) × (i < maxBonds) ⌝ }
-    ensures { λ r. ⌜ Released i (now (slots .entry)) (now (slots .exit)) (pen (now (out .entry)) at) (pen (now (out .exit)) r) ⌝ }
+fn close_bond(slots: &mut [u16], out: &mut [u8], at: usize, i: UnusedId) -> usize
+    requires { ⌜ (length (now slots) < bridges) × (i .0 < maxBonds) ⌝ }
+    ensures { λ r. ⌜ Released (i .0) (now (slots .entry)) (now (slots .exit)) (pen (now (out .entry)) at) (pen (now (out .exit)) r) ⌝ }
 {
-    let r = slot_of(slots, i + 1);
+    let r = slot_of(slots, i.0 + 1);
     if slots.len() <= r {
         return at;
     }
@@ -109,15 +118,15 @@ fn close_bond(slots: &mut [u16], out: &mut [u8], at: usize, i: usize) -> usize
 }
 
 // The bond i opens: the lowest free bridge number is written after its symbol, if there is one.
-fn open_bond(slots: &mut [u16], out: &mut [u8], at: usize, kind: usize, i: usize) -> Spot
-    requires { ⌜ (length (now slots) < 100) × (i < maxBonds) ⌝ }
-    ensures { λ r. ⌜ Inserted i kind (now (slots .entry)) (now (slots .exit)) (r .few) (pen (now (out .entry)) at) (pen (now (out .exit)) (r .at)) ⌝ }
+fn open_bond(slots: &mut [u16], out: &mut [u8], at: usize, kind: usize, i: UnusedId) -> Spot
+    requires { ⌜ (length (now slots) < bridges) × (i .0 < maxBonds) ⌝ }
+    ensures { λ r. ⌜ Inserted (i .0) kind (now (slots .entry)) (now (slots .exit)) (r .few) (pen (now (out .entry)) at) (pen (now (out .exit)) (r .at)) ⌝ }
 {
     let r = slot_of(slots, 0);
     if slots.len() <= r {
         return Spot { few: false, at };
     }
-    let at = write_slot(slots, out, at, kind, r, i + 1);
+    let at = write_slot(slots, out, at, kind, r, i.0 + 1);
     Spot { few: true, at }
 }
 
@@ -126,23 +135,24 @@ fn close_from(
     los: &[u16],
     his: &[u16],
     k: usize,
-    x: usize,
-    from: usize,
+    x: WalkNumber,
+    from: WalkNumber,
     slots: &mut [u16],
     out: &mut [u8],
     at: usize,
 ) -> usize
     requires { ⌜ (k ≤ length (now los)) × (k ≤ length (now his)) ⌝ }
-    requires { ⌜ (k ≤ maxBonds) × (length (now slots) < 100) ⌝ }
-    ensures { λ r. ⌜ Closed (now (los .entry)) (now (his .entry)) k x from (now (slots .entry)) (now (slots .exit)) (pen (now (out .entry)) at) (pen (now (out .exit)) r) ⌝ }
+    requires { ⌜ (k ≤ maxBonds) × (length (now slots) < bridges) ⌝ }
+    ensures { λ r. ⌜ Closed (now (los .entry)) (now (his .entry)) k (x .0) (from .0) (now (slots .entry)) (now (slots .exit)) (pen (now (out .entry)) at) (pen (now (out .exit)) r) ⌝ }
 {
-    let i = nearest(his, los, k, x, from);
+    let bond = nearest(his, los, k, x, from);
+    let i = bond.0;
     if k <= i {
         return at;
     }
-    let at = close_bond(slots, out, at, i);
+    let at = close_bond(slots, out, at, bond);
     let next = los[i] as usize + 1;
-    close_from(los, his, k, x, next, slots, out, at)
+    close_from(los, his, k, x, WalkNumber(next), slots, out, at)
 }
 
 // What opens at the atom x, by ascending other end from a bound on.
@@ -151,29 +161,30 @@ fn open_from(
     his: &[u16],
     kinds: &[u8],
     k: usize,
-    x: usize,
-    from: usize,
+    x: WalkNumber,
+    from: WalkNumber,
     slots: &mut [u16],
     out: &mut [u8],
     at: usize,
 ) -> Spot
     requires { ⌜ (k ≤ length (now los)) × (k ≤ length (now his)) ⌝ }
-    requires { ⌜ (k ≤ maxBonds) × (length (now slots) < 100) ⌝ }
+    requires { ⌜ (k ≤ maxBonds) × (length (now slots) < bridges) ⌝ }
     requires { ⌜ k ≤ length (now kinds) ⌝ }
-    ensures { λ r. ⌜ Opened (now (los .entry)) (now (his .entry)) (now (kinds .entry)) k x from (now (slots .entry)) (now (slots .exit)) (r .few) (pen (now (out .entry)) at) (pen (now (out .exit)) (r .at)) ⌝ }
+    ensures { λ r. ⌜ Opened (now (los .entry)) (now (his .entry)) (now (kinds .entry)) k (x .0) (from .0) (now (slots .entry)) (now (slots .exit)) (r .few) (pen (now (out .entry)) at) (pen (now (out .exit)) (r .at)) ⌝ }
 {
-    let i = nearest(los, his, k, x, from);
+    let bond = nearest(los, his, k, x, from);
+    let i = bond.0;
     if k <= i {
         return Spot { few: true, at };
     }
-    let spot = open_bond(slots, out, at, kinds[i] as usize, i);
+    let spot = open_bond(slots, out, at, kinds[i] as usize, bond);
     let few = spot.few;
     if !few {
         return spot;
     }
     let next = his[i] as usize + 1;
     let at = spot.at;
-    open_from(los, his, kinds, k, x, next, slots, out, at)
+    open_from(los, his, kinds, k, x, WalkNumber(next), slots, out, at)
 }
 
 // internal: what closes at the atom x, and then what opens there.
@@ -183,30 +194,31 @@ pub fn ring_ends(
     kinds: &[u8],
     marks: &[u16; MAX_ATOMS],
     k: usize,
-    x: usize,
+    x: WalkNumber,
     slots: &mut [u16],
     out: &mut [u8],
     at: usize,
 ) -> Spot
     requires { ⌜ (k ≤ length (now los)) × (k ≤ length (now his)) ⌝ }
-    requires { ⌜ (k ≤ maxBonds) × (length (now slots) < 100) ⌝ }
+    requires { ⌜ (k ≤ maxBonds) × (length (now slots) < bridges) ⌝ }
     requires { ⌜ k ≤ length (now kinds) ⌝ }
     requires { ⌜ Marked (now marks) (now los) (now his) k ⌝ }
-    requires { ⌜ x < maxAtoms ⌝ }
-    ensures { λ r. ⌜ Ended (now (los .entry)) (now (his .entry)) (now (kinds .entry)) k x (now (slots .entry)) (now (slots .exit)) (r .few) (pen (now (out .entry)) at) (pen (now (out .exit)) (r .at)) ⌝ }
+    requires { ⌜ x .0 < maxAtoms ⌝ }
+    ensures { λ r. ⌜ Ended (now (los .entry)) (now (his .entry)) (now (kinds .entry)) k (x .0) (now (slots .entry)) (now (slots .exit)) (r .few) (pen (now (out .entry)) at) (pen (now (out .exit)) (r .at)) ⌝ }
 {
-    let mark = marks[x];
+    let here = x.0;
+    let mark = marks[here];
     if mark == 0 {
         return Spot { few: true, at };
     }
     if mark < MANY {
         let i = mark as usize - 1;
-        if his[i] as usize == x {
-            let at = close_bond(slots, out, at, i);
+        if his[i] as usize == here {
+            let at = close_bond(slots, out, at, UnusedId(i));
             return Spot { few: true, at };
         }
-        return open_bond(slots, out, at, kinds[i] as usize, i);
+        return open_bond(slots, out, at, kinds[i] as usize, UnusedId(i));
     }
-    let at = close_from(los, his, k, x, 0, slots, out, at);
-    open_from(los, his, kinds, k, x, 0, slots, out, at)
+    let at = close_from(los, his, k, x, WalkNumber(0), slots, out, at);
+    open_from(los, his, kinds, k, x, WalkNumber(0), slots, out, at)
 }

@@ -10,31 +10,34 @@ ghost use Rattle.table.specs.Cells.{end1, end2, kind};
 ghost use Rattle.valence.specs.Valence.{order};
 ghost use Rattle.table_graph.specs.Graph.{bondSum};
 ghost use Rattle.table_graph.specs.Built.{bump};
-ghost use Rattle.writing.specs.Write.{bondAt, bondList};
-ghost use Rattle.writing_visit.specs.Tour.{touching, grow, rootForest, BondsFit, Linked, Room, Kept, sheet, Grown, Walked};
+ghost use Rattle.writing.specs.Write.{walkBond, bondList};
+ghost use Rattle.writing_visit.specs.Visit.{touching, grow, rootForest, BondsFit, Linked, Room, Kept, walkArrays, Grown, Walked};
 ghost use Rattle.writing_visit.specs.Wires.{wires, Wired, Places};
 use ids::AtomId;
 use ids::BondId;
 use table::MAX_ATOMS;
 use table::MAX_BONDS;
 
-// A bond in numbers: its ends and its kind.
+// The number of an atom in the walk, which is its number in the written text.
+pub struct WalkNumber(pub usize);
+
+// A bond: its ends and its kind.
 struct Wire {
-    first: usize,
-    second: usize,
+    first: AtomId,
+    second: AtomId,
     kind: usize,
 }
 
-// A bond of the table in numbers.
+// A bond of the table.
 fn read_bond(bonds: &[i32], b: BondId) -> Wire
     requires { ⌜ b .0 < maxBonds ⌝ }
-    ensures { λ r. ⌜ (r .first ≡ end1 (now (bonds .entry)) (b .0)) × (r .second ≡ end2 (now (bonds .entry)) (b .0)) ⌝ }
+    ensures { λ r. ⌜ (r .first .0 ≡ end1 (now (bonds .entry)) (b .0)) × (r .second .0 ≡ end2 (now (bonds .entry)) (b .0)) ⌝ }
     ensures { λ r. ⌜ r .kind ≡ kind (now (bonds .entry)) (b .0) ⌝ }
 {
     let row = table::row::get_bond(bonds, b);
     Wire {
-        first: table::cell::number(row.first),
-        second: table::cell::number(row.second),
+        first: AtomId(table::cell::number(row.first)),
+        second: AtomId(table::cell::number(row.second)),
         kind: table::cell::number(row.kind),
     }
 }
@@ -49,17 +52,17 @@ fn note_bond(
     sums: &mut [u16; MAX_ATOMS],
 )
     requires { ⌜ b .0 < maxBonds ⌝ }
-    requires { ⌜ (x .first < x .second) × (x .second < maxAtoms) ⌝ }
+    requires { ⌜ (x .first .0 < x .second .0) × (x .second .0 < maxAtoms) ⌝ }
     requires { ⌜ x .kind < 4 ⌝ }
     requires { ⌜ ((a : ℕ) → getD (now sums) a 0 ≤ 3 * maxBonds) ⌝ }
-    ensures { λ _. ⌜ now (ea .exit) ≡ set (now (ea .entry)) (b .0) (x .first) ⌝ }
-    ensures { λ _. ⌜ now (eb .exit) ≡ set (now (eb .entry)) (b .0) (x .second) ⌝ }
+    ensures { λ _. ⌜ now (ea .exit) ≡ set (now (ea .entry)) (b .0) (x .first .0) ⌝ }
+    ensures { λ _. ⌜ now (eb .exit) ≡ set (now (eb .entry)) (b .0) (x .second .0) ⌝ }
     ensures { λ _. ⌜ now (ks .exit) ≡ set (now (ks .entry)) (b .0) (x .kind) ⌝ }
-    ensures { λ _. ⌜ now (sums .exit) ≡ bump (bump (now (sums .entry)) (x .first) (order (x .kind))) (x .second) (order (x .kind)) ⌝ }
+    ensures { λ _. ⌜ now (sums .exit) ≡ bump (bump (now (sums .entry)) (x .first .0) (order (x .kind))) (x .second .0) (order (x .kind)) ⌝ }
 {
     let i = b.0;
-    let e = x.first;
-    let f = x.second;
+    let e = x.first.0;
+    let f = x.second.0;
     ea[i] = e as u16;
     eb[i] = f as u16;
     ks[i] = x.kind as u8;
@@ -77,14 +80,14 @@ fn link_bond(
     behind: &mut [u16; MAX_BONDS],
 )
     requires { ⌜ b .0 < maxBonds ⌝ }
-    requires { ⌜ (x .first < maxAtoms) × (x .second < maxAtoms) ⌝ }
-    ensures { λ _. ⌜ now (head .exit) ≡ set (set (now (head .entry)) (x .first) (b .0)) (x .second) (b .0) ⌝ }
-    ensures { λ _. ⌜ now (after .exit) ≡ set (now (after .entry)) (b .0) (getD (now (head .entry)) (x .first) 0) ⌝ }
-    ensures { λ _. ⌜ now (behind .exit) ≡ set (now (behind .entry)) (b .0) (getD (now (head .entry)) (x .second) 0) ⌝ }
+    requires { ⌜ (x .first .0 < maxAtoms) × (x .second .0 < maxAtoms) ⌝ }
+    ensures { λ _. ⌜ now (head .exit) ≡ set (set (now (head .entry)) (x .first .0) (b .0)) (x .second .0) (b .0) ⌝ }
+    ensures { λ _. ⌜ now (after .exit) ≡ set (now (after .entry)) (b .0) (getD (now (head .entry)) (x .first .0) 0) ⌝ }
+    ensures { λ _. ⌜ now (behind .exit) ≡ set (now (behind .entry)) (b .0) (getD (now (head .entry)) (x .second .0) 0) ⌝ }
 {
     let i = b.0;
-    let e = x.first;
-    let f = x.second;
+    let e = x.first.0;
+    let f = x.second.0;
     after[i] = head[e];
     behind[i] = head[f];
     head[e] = i as u16;
@@ -103,7 +106,7 @@ fn link(
     ks: &mut [u8; MAX_BONDS],
     sums: &mut [u16; MAX_ATOMS],
 )
-    requires { ⌜ BondsFit (bondAt (now bonds)) maxAtoms m ⌝ }
+    requires { ⌜ BondsFit (walkBond (now bonds)) maxAtoms m ⌝ }
     requires { ⌜ (now head ≡ replicate maxAtoms m) × (now sums ≡ replicate maxAtoms 0) ⌝ }
     requires { ⌜ Places (now after) (now behind) (now ea) (now eb) (now ks) ⌝ }
     ensures { λ _. ⌜ Linked (wires (now (ea .exit)) (now (eb .exit)) (now (ks .exit))) m 0 (now (head .exit)) (now (after .exit)) (now (behind .exit)) ⌝ }
@@ -121,8 +124,8 @@ fn link(
 
 // A bond as the walk sees it from an atom: the other end, and the next bond at the atom.
 struct Step {
-    other: usize,
-    next: usize,
+    other: AtomId,
+    next: BondId,
 }
 
 // The other end of a bond at an atom, and the next bond at the atom behind it; m where there is none.
@@ -137,20 +140,23 @@ fn follow(
     requires { ⌜ b .0 < maxBonds ⌝ }
     requires { ⌜ (getD (now ea) (b .0) 0 < maxAtoms) × (getD (now eb) (b .0) 0 < maxAtoms) ⌝ }
     requires { ⌜ (getD (now after) (b .0) 0 ≤ maxBonds) × (getD (now behind) (b .0) 0 ≤ maxBonds) ⌝ }
-    ensures { λ r. ⌜ r .other ≡ pick (eqb (getD (now (ea .entry)) (b .0) 0) (v .0)) (getD (now (eb .entry)) (b .0) 0) (getD (now (ea .entry)) (b .0) 0) ⌝ }
-    ensures { λ r. ⌜ r .next ≡ pick (eqb (getD (now (ea .entry)) (b .0) 0) (v .0)) (getD (now (after .entry)) (b .0) 0) (getD (now (behind .entry)) (b .0) 0) ⌝ }
+    ensures { λ r. ⌜ r .other .0 ≡ pick (eqb (getD (now (ea .entry)) (b .0) 0) (v .0)) (getD (now (eb .entry)) (b .0) 0) (getD (now (ea .entry)) (b .0) 0) ⌝ }
+    ensures { λ r. ⌜ r .next .0 ≡ pick (eqb (getD (now (ea .entry)) (b .0) 0) (v .0)) (getD (now (after .entry)) (b .0) 0) (getD (now (behind .entry)) (b .0) 0) ⌝ }
 {
     let i = b.0;
     let first = ea[i] as usize;
     if first == v.0 {
+        let second = eb[i] as usize;
+        let next = after[i] as usize;
         return Step {
-            other: eb[i] as usize,
-            next: after[i] as usize,
+            other: AtomId(second),
+            next: BondId(next),
         };
     }
+    let next = behind[i] as usize;
     Step {
-        other: first,
-        next: behind[i] as usize,
+        other: AtomId(first),
+        next: BondId(next),
     }
 }
 
@@ -194,33 +200,35 @@ fn visit(
     up: &mut [u16; MAX_ATOMS],
     kind: &mut [u8; MAX_ATOMS],
     v: AtomId,
-    hub: usize,
-    from: usize,
+    hub: WalkNumber,
+    from: BondId,
     count: usize,
 ) -> usize
     requires { ⌜ BondsFit (wires (now ea) (now eb) (now ks)) n m ⌝ }
     requires { ⌜ Linked (wires (now ea) (now eb) (now ks)) m 0 (now head) (now after) (now behind) ⌝ }
     requires { ⌜ Room (now order) (now number) (now up) (now kind) ⌝ }
-    requires { ⌜ (hub < maxAtoms) × (from ≤ m) ⌝ }
-    requires { ⌜ (from < m → touching (wires (now ea) (now eb) (now ks)) (v .0) from ≡ true) ⌝ }
-    ensures { λ r. ⌜ Grown n (suc hub) (grow (wires (now (ea .entry)) (now (eb .entry)) (now (ks .entry))) n m (v .0) from) (sheet (now (order .entry)) (now (number .entry)) (now (up .entry)) (now (kind .entry)) count) (sheet (now (order .exit)) (now (number .exit)) (now (up .exit)) (now (kind .exit)) r) ⌝ }
+    requires { ⌜ (hub .0 < maxAtoms) × (from .0 ≤ m) ⌝ }
+    requires { ⌜ (from .0 < m → touching (wires (now ea) (now eb) (now ks)) (v .0) (from .0) ≡ true) ⌝ }
+    ensures { λ r. ⌜ Grown n (suc (hub .0)) (grow (wires (now (ea .entry)) (now (eb .entry)) (now (ks .entry))) n m (v .0) (from .0)) (walkArrays (now (order .entry)) (now (number .entry)) (now (up .entry)) (now (kind .entry)) count) (walkArrays (now (order .exit)) (now (number .exit)) (now (up .exit)) (now (kind .exit)) r) ⌝ }
     ensures { λ _. ⌜ Kept (now (order .entry)) (now (number .entry)) (now (up .entry)) (now (kind .entry)) (now (order .exit)) (now (number .exit)) (now (up .exit)) (now (kind .exit)) ⌝ }
 {
-    let mut b = from;
+    let mut b = from.0;
     let mut next = count;
     while b < m {
         let i = b;
         let seen = follow(ea, eb, after, behind, BondId(i), v);
         let w = seen.other;
-        b = seen.next;
-        if number[w] != 0 {
+        let a = w.0;
+        b = seen.next.0;
+        if number[a] != 0 {
             continue;
         }
         if n <= next {
             return next;
         }
         let k = ks[i] as usize;
-        add(order, number, up, kind, AtomId(w), hub + 1, k, next);
+        add(order, number, up, kind, w, hub.0 + 1, k, next);
+        let start = head[a] as usize;
         next = visit(
             ea,
             eb,
@@ -234,9 +242,9 @@ fn visit(
             number,
             up,
             kind,
-            AtomId(w),
-            next,
-            head[w] as usize,
+            w,
+            WalkNumber(next),
+            BondId(start),
             next + 1,
         );
     }
@@ -264,7 +272,7 @@ fn root(
     requires { ⌜ Linked (wires (now ea) (now eb) (now ks)) m 0 (now head) (now after) (now behind) ⌝ }
     requires { ⌜ Room (now order) (now number) (now up) (now kind) ⌝ }
     requires { ⌜ a .0 < n ⌝ }
-    ensures { λ r. ⌜ Grown n 0 (rootForest (wires (now (ea .entry)) (now (eb .entry)) (now (ks .entry))) n m (a .0)) (sheet (now (order .entry)) (now (number .entry)) (now (up .entry)) (now (kind .entry)) count) (sheet (now (order .exit)) (now (number .exit)) (now (up .exit)) (now (kind .exit)) r) ⌝ }
+    ensures { λ r. ⌜ Grown n 0 (rootForest (wires (now (ea .entry)) (now (eb .entry)) (now (ks .entry))) n m (a .0)) (walkArrays (now (order .entry)) (now (number .entry)) (now (up .entry)) (now (kind .entry)) count) (walkArrays (now (order .exit)) (now (number .exit)) (now (up .exit)) (now (kind .exit)) r) ⌝ }
     ensures { λ _. ⌜ Kept (now (order .entry)) (now (number .entry)) (now (up .entry)) (now (kind .entry)) (now (order .exit)) (now (number .exit)) (now (up .exit)) (now (kind .exit)) ⌝ }
 {
     let v = a.0;
@@ -274,7 +282,8 @@ fn root(
     if n <= count {
         return count;
     }
-    add(order, number, up, kind, AtomId(v), 0, 0, count);
+    add(order, number, up, kind, a, 0, 0, count);
+    let start = head[v] as usize;
     visit(
         ea,
         eb,
@@ -288,9 +297,9 @@ fn root(
         number,
         up,
         kind,
-        AtomId(v),
-        count,
-        head[v] as usize,
+        a,
+        WalkNumber(count),
+        BondId(start),
         count + 1,
     )
 }
@@ -309,7 +318,7 @@ pub fn walk(
     ks: &mut [u8; MAX_BONDS],
     sums: &mut [u16; MAX_ATOMS],
 )
-    requires { ⌜ BondsFit (bondAt (now bonds)) n m ⌝ }
+    requires { ⌜ BondsFit (walkBond (now bonds)) n m ⌝ }
     requires { ⌜ Room (now order) (now number) (now up) (now kind) ⌝ }
     requires { ⌜ now number ≡ replicate (length (now number)) 0 ⌝ }
     requires { ⌜ (maxBonds ≤ length (now ea)) × (maxBonds ≤ length (now eb)) ⌝ }

@@ -8,23 +8,12 @@ use lib.Dec.{eqb}
 use lib.ListN.{length, getD}
 use borrow.Author.Tests.{eq-eqb, eqb-true}
 use Rattle.writing_walk.specs.Token.{Bond, eqBond}
-
-abbrev pub bit : Bool → ℕ
-bit true = 1
-bit false = 0
+pub use Rattle.writing_walk.specs.Same.{bit, count, All, none, more}
 
 module _ {A : Type 0} where
-  abbrev pub count : (A → Bool) → List A → ℕ
-  count p [] = 0
-  count p (x ∷ l) = bit (p x) + count p l
-
   pub count-append : (p : A → Bool) (l m : List A) → count p (l ++ m) ≡ count p l + count p m
   count-append p [] m = omega arith
   count-append p (x ∷ l) m = omega (arith, count-append p l m)
-
-  pub data All (P : A → Type 0) : List A → Type 0 where
-    none : All P []
-    more : {b : A} {l : List A} → P b → All P l → All P (b ∷ l)
 
   pub all-map : (P Q : A → Type 0) → ((b : A) → P b → Q b) → (l : List A) → All P l → All Q l
   all-map P Q f [] none = none

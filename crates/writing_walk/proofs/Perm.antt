@@ -6,15 +6,10 @@ use Prim.Native.Nat.{ℕ, _+_, _<_}
 use native.Mathlib.Omega.{arith}
 use Rattle.writing_walk.specs.Token.{Bond, eqBond}
 use Rattle.writing_walk.specs.Walk.{remove, renumbered}
+pub use Rattle.writing_walk.specs.Same.{Perm, nil, cons, swap, trans}
 use Rattle.writing_walk.proofs.Count.{bit, count, bond-same, bond-eq}
 use Rattle.writing_walk.proofs.Walk.{Inside}
 use Rattle.writing_walk.proofs.Trip.{remove-count, completed, round-trip}
-
-pub data Perm : List Bond → List Bond → Type 0 where
-  nil : Perm [] []
-  cons : {x : Bond} {l m : List Bond} → Perm l m → Perm (x ∷ l) (x ∷ m)
-  swap : {x y : Bond} {l m : List Bond} → Perm l m → Perm (x ∷ y ∷ l) (y ∷ x ∷ m)
-  trans : {l m r : List Bond} → Perm l m → Perm m r → Perm l r
 
 perm-same : (l : List Bond) → Perm l l
 perm-same [] = nil

@@ -26,10 +26,48 @@ pub struct ForcedReply {
     pub forced: usize,
 }
 
+/// What `balsa_symbol` hands back.
+#[repr(C)]
+pub struct SymbolReply {
+    pub code: u32,
+    pub place: usize,
+    pub length: usize,
+    pub element: u32,
+    pub selected: u32,
+}
+
+/// What `balsa_register_entry` hands back.
+#[repr(C)]
+pub struct EntryReply {
+    pub code: u32,
+    pub found: u32,
+    pub tag: u16,
+    pub start: usize,
+    pub length: usize,
+}
+
+/// What `balsa_report` hands back.
+#[repr(C)]
+pub struct ReportReply {
+    pub code: u32,
+    pub length: usize,
+}
+
+/// What `balsa_register_walk` hands back.
+#[repr(C)]
+pub struct WalkReply {
+    pub code: u32,
+    pub tag: u16,
+    pub start: usize,
+    pub length: usize,
+    pub next: usize,
+}
+
 mod linked {
-    use super::{ForcedReply, ReadReply, WriteReply};
+    use super::{EntryReply, ForcedReply, ReadReply, ReportReply, SymbolReply, WalkReply, WriteReply};
 
     extern "C" {
+        pub fn balsa_symbol(first: u8, second: u8) -> SymbolReply;
         pub fn balsa_read(
             text: *const u8,
             text_len: usize,
@@ -134,7 +172,37 @@ mod linked {
             codes: *mut u8,
             codes_len: usize,
         ) -> u32;
+        pub fn balsa_report(
+            input: *const u8,
+            input_len: usize,
+            out: *mut u8,
+            out_len: usize,
+        ) -> ReportReply;
+        pub fn balsa_report_length(input: *const u8, input_len: usize) -> usize;
+        pub fn balsa_register_empty(reg: *mut u8, reg_len: usize) -> u32;
+        pub fn balsa_register_add(
+            reg: *mut u8,
+            reg_len: usize,
+            tag: u16,
+            body: *const u8,
+            body_len: usize,
+        ) -> u32;
+        pub fn balsa_register_step(
+            reg: *mut u8,
+            reg_len: usize,
+            tag: u16,
+            body: *const u8,
+            body_len: usize,
+            k: usize,
+        ) -> u32;
+        pub fn balsa_register_entry(reg: *const u8, reg_len: usize, place: usize) -> EntryReply;
+        pub fn balsa_register_walk(reg: *const u8, reg_len: usize, place: usize) -> WalkReply;
     }
+}
+
+pub fn symbol(first: u8, second: u8) -> SymbolReply {
+    // SAFETY: two bytes pass by value.
+    unsafe { linked::balsa_symbol(first, second) }
 }
 
 pub fn read(text: &[u8], atoms: &mut [i32], bonds: &mut [i32]) -> ReadReply {
@@ -321,4 +389,50 @@ pub fn replay(
             codes.len(),
         )
     }
+}
+
+pub fn report(input: &[u8], out: &mut [u8]) -> ReportReply {
+    // SAFETY: as for `read`.
+    unsafe { linked::balsa_report(input.as_ptr(), input.len(), out.as_mut_ptr(), out.len()) }
+}
+
+pub fn report_length(input: &[u8]) -> usize {
+    // SAFETY: as for `read`.
+    unsafe { linked::balsa_report_length(input.as_ptr(), input.len()) }
+}
+
+pub fn register_empty(reg: &mut [u8]) -> u32 {
+    // SAFETY: as for `read`.
+    unsafe { linked::balsa_register_empty(reg.as_mut_ptr(), reg.len()) }
+}
+
+pub fn register_add(reg: &mut [u8], tag: u16, body: &[u8]) -> u32 {
+    // SAFETY: as for `read`.
+    unsafe {
+        linked::balsa_register_add(reg.as_mut_ptr(), reg.len(), tag, body.as_ptr(), body.len())
+    }
+}
+
+pub fn register_step(reg: &mut [u8], tag: u16, body: &[u8], k: usize) -> u32 {
+    // SAFETY: as for `read`.
+    unsafe {
+        linked::balsa_register_step(
+            reg.as_mut_ptr(),
+            reg.len(),
+            tag,
+            body.as_ptr(),
+            body.len(),
+            k,
+        )
+    }
+}
+
+pub fn register_entry(reg: &[u8], place: usize) -> EntryReply {
+    // SAFETY: as for `read`.
+    unsafe { linked::balsa_register_entry(reg.as_ptr(), reg.len(), place) }
+}
+
+pub fn register_walk(reg: &[u8], place: usize) -> WalkReply {
+    // SAFETY: as for `read`.
+    unsafe { linked::balsa_register_walk(reg.as_ptr(), reg.len(), place) }
 }

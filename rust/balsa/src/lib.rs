@@ -1,12 +1,26 @@
 //! Balsa text read, kekulized and written by a proved library.
 //!
-//! [`Molecule`] owns its tables; [`tables`] has the calls on buffers that the caller lends. Every
-//! answer is defined for all inputs: nothing panics, and nothing outside the buffers is touched.
+//! [`Molecule`] owns its tables; [`tables`] has the calls on buffers that the caller lends;
+//! [`report()`] reports the lines of an input. Every answer is defined for all inputs: nothing
+//! panics, and nothing outside the buffers is touched.
+//!
+//! [`Register`] keeps bodies of bytes under tags and survives a power cut after any store;
+//! [`RegisterFile`] is one in a file.
 
 mod ffi;
 mod molecule;
 mod refusal;
+pub mod register;
+#[cfg(unix)]
+mod register_file;
+mod report;
+mod symbol;
 pub mod tables;
 
 pub use molecule::{Matchings, Molecule, Written};
 pub use refusal::{Code, Refusal};
+pub use register::{Damage, Entries, Register};
+#[cfg(unix)]
+pub use register_file::{FileError, RegisterFile};
+pub use report::{report, report_into};
+pub use symbol::{symbol, Symbol};

@@ -27,7 +27,7 @@ pub enum Code {
     /// A bridge is open at the end.
     OpenBridge = 10,
     /// No matching exists.
-    NoMatching = 11,
+    Unmatchable = 11,
     /// The row is not a matching of this molecule.
     NotMatching = 12,
     /// The tables are not valid.
@@ -38,10 +38,14 @@ pub enum Code {
     DeepWriting = 15,
     /// The written text would be over 4,096 bytes.
     LongWriting = 16,
+    /// The layout of the register breaks a rule.
+    InvalidRegister = 17,
+    /// The register has no room for the body.
+    FullRegister = 18,
 }
 
 impl Code {
-    const ALL: [Code; 16] = [
+    const ALL: [Code; 18] = [
         Code::Short,
         Code::LongText,
         Code::Grammar,
@@ -52,15 +56,17 @@ impl Code {
         Code::RepeatedBond,
         Code::SymbolClash,
         Code::OpenBridge,
-        Code::NoMatching,
+        Code::Unmatchable,
         Code::NotMatching,
         Code::Invalid,
         Code::ManyBridges,
         Code::DeepWriting,
         Code::LongWriting,
+        Code::InvalidRegister,
+        Code::FullRegister,
     ];
 
-    /// The number of the rules, 1 to 16.
+    /// The number of the rules, 1 to 18.
     pub fn number(self) -> u8 {
         self as u8
     }

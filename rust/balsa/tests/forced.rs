@@ -57,7 +57,7 @@ fn a_refusal_zeroes_the_row_and_the_list() {
     let mut row = vec![7; ROW];
     let mut pairs = vec![9; ROW];
     let told = tables::first_forced(&atoms, &bonds, counts, &mut row, &mut pairs);
-    assert_eq!(told, Err(Code::NoMatching));
+    assert_eq!(told, Err(Code::Unmatchable));
     assert!(row.iter().all(|&cell| cell == 0) && pairs.iter().all(|&cell| cell == 0));
     let mut row = vec![2; ROW];
     let told = tables::next_forced(&atoms, &bonds, counts, &mut row);

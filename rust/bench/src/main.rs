@@ -6,6 +6,7 @@
 mod clock;
 mod subject;
 
+use balsa_reference::element::{searched, symbol_of};
 use clock::time;
 use compare::implementation::Reference;
 use compare::proved::Proved;
@@ -40,6 +41,39 @@ fn main() {
     row("reference", measure_lengths(&Molecules));
     row("reference on tables", measure_lengths(&OnTables(Reference)));
     row("proved on tables", measure_lengths(&OnTables(Proved)));
+    compare_symbols();
+}
+
+/// Measures how long the symbol at two bytes takes: looked up directly, and searched in the list.
+fn compare_symbols() {
+    let pairs: Vec<[u8; 2]> = (1..=118)
+        .map(|element| {
+            let symbol = symbol_of(element).as_bytes();
+            [symbol[0], symbol.get(1).copied().unwrap_or(b']')]
+        })
+        .collect();
+    let nanoseconds = |ask: &dyn Fn(u8, u8)| {
+        let mut task = || {
+            for _ in 0..READINGS {
+                pairs.iter().for_each(|&[first, second]| ask(first, second));
+            }
+        };
+        let least = (0..ROUNDS).map(|_| time(&mut task)).min();
+        figure(1000.0 * mean(least.unwrap_or_default(), READINGS * pairs.len()))
+    };
+    println!("the 118 symbols, nanoseconds for each");
+    row("", ["lookup".into(), "search".into()]);
+    row(
+        "proved, reference",
+        [
+            nanoseconds(&|first, second| {
+                black_box(balsa::symbol(first, Some(second)));
+            }),
+            nanoseconds(&|first, second| {
+                black_box(searched(first, Some(second)).or_else(|| searched(first, None)));
+            }),
+        ],
+    );
 }
 
 /// Measures the reference and the proved library on the texts, and prints the times, their ratios and

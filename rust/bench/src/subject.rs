@@ -82,6 +82,8 @@ impl<I: Implementation> Subject for OnTables<I> {
             row: vec![0; ROW],
             text: vec![0; TEXT],
             renumbering: vec![0; RENUMBERING],
+            calls: Vec::new(),
+            codes: Vec::new(),
         }
     }
 

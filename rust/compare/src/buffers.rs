@@ -23,6 +23,10 @@ pub struct Buffers {
     pub text: Vec<u8>,
     /// The output of a renumbering.
     pub renumbering: Vec<u16>,
+    /// A list of calls on the row.
+    pub calls: Vec<u8>,
+    /// The output of their codes.
+    pub codes: Vec<u8>,
 }
 
 impl Buffers {
@@ -38,6 +42,12 @@ impl Buffers {
         let (atoms, bonds) = (length(ATOM_TABLE), length(BOND_TABLE));
         let (row, text, renumbering) = (length(ROW), length(TEXT), length(RENUMBERING));
         let pairs = length(ROW);
+        let calls = calls(random);
+        let codes = match random.below(8) {
+            0 => calls.len().saturating_sub(1),
+            1 => calls.len() + random.below(4),
+            _ => calls.len(),
+        };
         let dirt = random.number();
         Buffers {
             atoms: vec![dirt as i32; atoms],
@@ -47,6 +57,8 @@ impl Buffers {
             pairs: vec![dirt as u16 | 1; pairs],
             text: vec![dirt as u8 | 1; text],
             renumbering: vec![dirt as u16; renumbering],
+            calls,
+            codes: vec![dirt as u8 | 1; codes],
         }
     }
 
@@ -128,6 +140,14 @@ impl Buffers {
             self.counts.bonds = count;
         }
     }
+}
+
+/// A short list of calls: mostly the next matching, sometimes the first.
+fn calls(random: &mut Random) -> Vec<u8> {
+    let count = random.below(9);
+    (0..count)
+        .map(|_| *random.pick(&[0, 1, 1, 1, 2, 255]))
+        .collect()
 }
 
 /// A row for a molecule: a matching, one that is nearly so, or anything.

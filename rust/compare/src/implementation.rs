@@ -54,6 +54,8 @@ pub trait Implementation {
     fn name(&self) -> &str;
     /// Reads a text into the tables.
     fn read(&self, text: &[u8], buffers: &mut Buffers) -> Answer;
+    /// Tells whether the tables are long enough and valid.
+    fn check(&self, buffers: &mut Buffers) -> Answer;
     /// Stores the first matching in the row.
     fn first(&self, buffers: &mut Buffers) -> Answer;
     /// Stores the matching after the row in the row.
@@ -62,6 +64,8 @@ pub trait Implementation {
     fn first_forced(&self, buffers: &mut Buffers) -> Answer;
     /// Stores the matching after the row in the row, by the engine that forces pairs.
     fn next_forced(&self, buffers: &mut Buffers) -> Answer;
+    /// Makes the list of calls on the row and stores their codes.
+    fn replay(&self, buffers: &mut Buffers) -> Answer;
     /// Tells whether the row is a matching.
     fn is_matching(&self, buffers: &mut Buffers) -> Answer;
     /// Kekulizes the tables by the row.
@@ -96,6 +100,10 @@ impl Implementation for Reference {
         answer(counts, |counts| Answer::of(counts.atoms, counts.bonds))
     }
 
+    fn check(&self, buffers: &mut Buffers) -> Answer {
+        answer(tables::check(tables_of(buffers)), |()| Answer::default())
+    }
+
     fn first(&self, buffers: &mut Buffers) -> Answer {
         let mut row = std::mem::take(&mut buffers.row);
         let result = tables::first(tables_of(buffers), &mut row);
@@ -120,6 +128,14 @@ impl Implementation for Reference {
 
     fn next_forced(&self, buffers: &mut Buffers) -> Answer {
         self.next(buffers)
+    }
+
+    fn replay(&self, buffers: &mut Buffers) -> Answer {
+        let mut row = std::mem::take(&mut buffers.row);
+        let mut codes = std::mem::take(&mut buffers.codes);
+        let result = tables::replay(&buffers.calls, tables_of(buffers), &mut row, &mut codes);
+        (buffers.row, buffers.codes) = (row, codes);
+        answer(result, |()| Answer::default())
     }
 
     fn is_matching(&self, buffers: &mut Buffers) -> Answer {

@@ -86,7 +86,8 @@ pub fn longest(random: &mut Random) -> Molecule {
         }
         for (number, hydrogens) in [(inner, 1), (outer, 2)] {
             let atom = &mut molecule.atoms[number];
-            (atom.element, atom.selected, atom.hydrogens) = (6, true, hydrogens);
+            (atom.element, atom.selected) = (7, true);
+            (atom.hydrogens, atom.charge) = (hydrogens, 9);
         }
     }
     for number in 0..random.below(9) {

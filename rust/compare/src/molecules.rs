@@ -2,7 +2,7 @@
 
 use crate::random::Random;
 use balsa_reference::{
-    implied_hydrogens, is_shorthand, Atom, Bond, Kind, Molecule, MAX_ATOMS, MAX_BONDS,
+    delocalized, implied_hydrogens, is_shorthand, Atom, Bond, Kind, Molecule, MAX_ATOMS, MAX_BONDS,
 };
 
 /// How hard the matchings of the molecules may be.
@@ -212,13 +212,17 @@ fn number(random: &mut Random, digits: u32) -> u16 {
     }) as u16
 }
 
+fn charge(random: &mut Random) -> i8 {
+    random.between(0, 18) as i8 - 9
+}
+
 /// Gives an atom fields that stand in brackets only.
 fn add_fields(random: &mut Random, atom: &mut Atom) {
     if random.percent(30) {
         atom.isotope = number(random, 3);
     }
     if random.percent(40) {
-        atom.charge = random.between(0, 18) as i8 - 9;
+        atom.charge = charge(random);
     }
     if random.percent(20) {
         atom.extension = number(random, 4);
@@ -246,6 +250,7 @@ pub fn molecule(random: &mut Random, effort: Effort) -> Molecule {
     } else {
         dress(random, &mut molecule, effort, style);
     }
+    charge_selected(random, &mut molecule);
     molecule
 }
 
@@ -322,5 +327,27 @@ fn pruned_element(random: &mut Random, bond_sum: u32) -> Option<u8> {
         2 => Some(*random.pick(&[7, 8, 15, 16])),
         3 => Some(*random.pick(&[7, 8, 15, 16])),
         _ => Some(*random.pick(&[6, 7, 8, 15, 16])),
+    }
+}
+
+/// Charges some of the selected atoms, mostly so that each stays delocalized or pruned.
+fn charge_selected(random: &mut Random, molecule: &mut Molecule) {
+    let chance = *random.pick(&[0, 0, 4, 30]);
+    let was_delocalized = delocalized(molecule);
+    for number in 0..molecule.atoms.len() {
+        let atom = molecule.atoms[number];
+        if !atom.selected || !random.percent(chance) {
+            continue;
+        }
+        molecule.atoms[number] = Atom {
+            element: *random.pick(&[6, 7, 8, 15, 16]),
+            charge: charge(random),
+            hydrogens: random.below(2) as u8,
+            ..atom
+        };
+        let is_same = delocalized(molecule)[number] == was_delocalized[number];
+        if !is_same && random.percent(95) {
+            molecule.atoms[number] = atom;
+        }
     }
 }

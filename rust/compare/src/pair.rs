@@ -52,12 +52,15 @@ impl<'a> Pair<'a> {
         })
     }
 
-    /// The calls on tables: the list of matchings from the row at hand and from the first one,
-    /// and the texts before and after kekulizing.
+    /// The calls on tables: the list of matchings from the row at hand and from the first one, a
+    /// list of calls at once, and the texts before and after kekulizing.
     fn calls_on_tables(&mut self) -> Result<(), Difference> {
+        self.call("check", |it, buffers| it.check(buffers))?;
         self.call("is_matching", |it, buffers| it.is_matching(buffers))?;
         self.call("write", |it, buffers| it.write(buffers))?;
         let start = self.buffers.clone();
+        self.call("replay", |it, buffers| it.replay(buffers))?;
+        self.buffers = start.clone();
         self.call("kekulize by the row", |it, buffers| it.kekulize(buffers))?;
         self.buffers = start.clone();
         self.forced_matchings()?;
@@ -107,6 +110,7 @@ fn different(one: &Buffers, other: &Buffers) -> Vec<&'static str> {
         ("pairs", one.pairs != other.pairs),
         ("text", one.text != other.text),
         ("renumbering", one.renumbering != other.renumbering),
+        ("codes", one.codes != other.codes),
     ];
     let differs = names.into_iter().filter(|(_, differs)| *differs);
     differs.map(|(name, _)| name).collect()

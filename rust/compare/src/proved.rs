@@ -47,6 +47,11 @@ impl Implementation for Proved {
         answer(read, |counts| Answer::of(counts.atoms, counts.bonds))
     }
 
+    fn check(&self, buffers: &mut Buffers) -> Answer {
+        let checked = tables::check(&buffers.atoms, &buffers.bonds, counts(buffers));
+        answer(checked, |()| Answer::default())
+    }
+
     fn first(&self, buffers: &mut Buffers) -> Answer {
         let counts = counts(buffers);
         let found = tables::first(&buffers.atoms, &buffers.bonds, counts, &mut buffers.row);
@@ -75,6 +80,19 @@ impl Implementation for Proved {
         let counts = counts(buffers);
         let found = tables::next_forced(&buffers.atoms, &buffers.bonds, counts, &mut buffers.row);
         answer(found, |step| Answer::of(usize::from(step == Step::End), 0))
+    }
+
+    fn replay(&self, buffers: &mut Buffers) -> Answer {
+        let counts = counts(buffers);
+        let made = tables::replay(
+            &buffers.calls,
+            &buffers.atoms,
+            &buffers.bonds,
+            counts,
+            &mut buffers.row,
+            &mut buffers.codes,
+        );
+        answer(made, |()| Answer::default())
     }
 
     fn is_matching(&self, buffers: &mut Buffers) -> Answer {

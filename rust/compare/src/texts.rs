@@ -168,7 +168,7 @@ fn bytes(random: &mut Random) -> Vec<u8> {
     let length = random.between(4090, 4099);
     let pairs = [
         "[999CoH9-9:9999]=%10.[999CoH9-9:9999]%10.",
-        "[9c-9][9c-9:9999].",
+        "[9n+9][9n+9:9999].",
     ];
     let mut text = String::new();
     while text.len() + 60 < length {

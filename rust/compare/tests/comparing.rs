@@ -1,6 +1,6 @@
 //! The comparison itself: it is reproducible, it reaches every refusal, and it sees differences.
 
-use balsa_reference::read;
+use balsa_reference::{delocalized, read};
 use compare::buffers::Buffers;
 use compare::implementation::{Answer, Implementation, Reference};
 use compare::laws;
@@ -47,6 +47,33 @@ fn the_tables_reach_every_refusal() {
         codes.insert(Reference.first(&mut buffers).code);
     }
     assert_eq!(codes, BTreeSet::from([0, 1, 11, 12, 13, 14, 15, 16]));
+}
+
+/// Accepted texts have selected atoms of every element and charge; most are delocalized in one
+/// text and pruned in another.
+#[test]
+fn selected_atoms_have_every_charge() {
+    let mut random = Random::new(3);
+    let (mut charged, mut judged) = (BTreeSet::new(), BTreeSet::new());
+    for _ in 0..4000 {
+        let molecule = molecules::molecule(&mut random, Effort::Hard);
+        let Ok(molecule) = read(&spelling::text(&mut random, &molecule)) else {
+            continue;
+        };
+        let flags = delocalized(&molecule);
+        for (atom, flag) in molecule.atoms.iter().zip(flags) {
+            if atom.selected {
+                charged.insert((atom.element, atom.charge));
+                judged.insert((atom.element, atom.charge, flag));
+            }
+        }
+    }
+    let elements = [6, 7, 8, 15, 16];
+    let all = elements
+        .iter()
+        .flat_map(|&element| (-9..=9).map(move |charge| (element, charge)));
+    assert_eq!(charged, all.collect());
+    assert!(judged.len() > 130, "{}", judged.len());
 }
 
 /// A molecule in a random spelling is read as the same molecule, renumbered: its atoms and kinds
@@ -108,8 +135,24 @@ impl Implementation for Faulty {
         answer
     }
 
+    fn check(&self, buffers: &mut Buffers) -> Answer {
+        let mut answer = Reference.check(buffers);
+        if self.has("13 as 1") && answer.code == 13 {
+            answer.code = 1;
+        }
+        answer
+    }
+
     fn first(&self, buffers: &mut Buffers) -> Answer {
         Reference.first(buffers)
+    }
+
+    fn replay(&self, buffers: &mut Buffers) -> Answer {
+        let answer = Reference.replay(buffers);
+        if self.has("dirty codes") && buffers.codes.len() > buffers.calls.len() {
+            *buffers.codes.last_mut().unwrap() = 1;
+        }
+        answer
     }
 
     fn next(&self, buffers: &mut Buffers) -> Answer {
@@ -172,6 +215,8 @@ fn faults_are_seen() {
         "dirty table",
         "row at the end",
         "early end",
+        "13 as 1",
+        "dirty codes",
         "row cleared",
         "15 before 14",
         "renumbering",

@@ -14,10 +14,10 @@ fn delocalized(tables: Tables) -> Vec<bool> {
         let sum: i32 = at_atom
             .map(|bond| if bond[2] == 0 { 1 } else { bond[2] })
             .sum();
-        let target = match cells[0] {
-            6 => 4,
-            7 | 15 => 3,
-            _ => 2,
+        let target = match (cells[0], cells[4]) {
+            (6, charge) => 4 - charge.abs(),
+            (7 | 15, charge) => 3 + charge,
+            (_, charge) => 2 + charge,
         };
         cells[1] == 1 && sum + cells[3] < target
     };
@@ -75,7 +75,7 @@ fn check(molecule: &Molecule) -> usize {
     };
     let mut row = vec![9; ROW];
     let answer = if list.is_empty() {
-        Err(Code::NoMatching)
+        Err(Code::Unmatchable)
     } else {
         Ok(())
     };

@@ -48,8 +48,18 @@ pub fn number_of(first: u8, second: Option<u8>) -> Option<u8> {
     row.get(column).copied().filter(|&number| number != 0)
 }
 
+/// The same by a search of the list from the front, with no table.
+pub fn searched(first: u8, second: Option<u8>) -> Option<u8> {
+    let wanted = |symbol: &&str| {
+        let bytes = symbol.as_bytes();
+        bytes[0] == first && bytes.get(1).copied() == second
+    };
+    let place = SYMBOLS.iter().skip(1).position(|symbol| wanted(&symbol))?;
+    Some(place as u8 + 1)
+}
+
 /// Whether some symbol begins with this byte.
-pub(crate) fn begins_symbol(first: u8) -> bool {
+pub fn begins_symbol(first: u8) -> bool {
     first.is_ascii_uppercase()
         && NUMBERS[usize::from(first - b'A')]
             .iter()

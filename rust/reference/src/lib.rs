@@ -3,15 +3,16 @@
 //! It is the second program to which the proved one is compared, and the baseline of the
 //! benchmark. [`read`], [`first`], [`next`], [`kekulize`] and [`write`] work on a [`Molecule`];
 //! [`tables`] holds the same calls on tables of `i32`, with the paper's rules for short buffers
-//! and for what a refusal leaves behind.
+//! and for what a refusal leaves behind. [`register`] holds the calls on a register.
 
 mod blossom;
-mod element;
+pub mod element;
 mod forced;
 mod matching;
 mod molecule;
 mod read;
 mod refusal;
+pub mod register;
 mod report;
 mod search;
 pub mod tables;

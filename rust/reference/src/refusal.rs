@@ -25,7 +25,7 @@ pub enum Code {
     /// A bridge is open at the end of the text.
     OpenBridge = 10,
     /// No matching exists.
-    NoMatching = 11,
+    Unmatchable = 11,
     /// The row handed in is not a matching.
     NotAMatching = 12,
     /// The tables are not valid.
@@ -36,6 +36,10 @@ pub enum Code {
     WrittenTooDeep = 15,
     /// The written text would be too long.
     WrittenTooLong = 16,
+    /// The layout of the register breaks a rule.
+    InvalidRegister = 17,
+    /// The register has no room for the body.
+    RegisterFull = 18,
 }
 
 impl Code {

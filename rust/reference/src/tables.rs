@@ -67,13 +67,21 @@ pub fn read(text: &[u8], atoms: &mut [i32], bonds: &mut [i32]) -> Result<Counts,
     answer.map(|molecule| counts(&molecule))
 }
 
+/// Whether the tables are long enough and valid.
+pub fn check(tables: Tables) -> Result<(), Code> {
+    if tables.is_short() {
+        return Err(Code::ShortBuffer);
+    }
+    molecule(tables).map(|_| ())
+}
+
 /// The first matching, stored in the row.
 pub fn first(tables: Tables, row: &mut [u8]) -> Result<(), Code> {
     if tables.is_short() || row.len() < ROW {
         return Err(Code::ShortBuffer);
     }
     let matching =
-        molecule(tables).and_then(|molecule| matching::first(&molecule).ok_or(Code::NoMatching));
+        molecule(tables).and_then(|molecule| matching::first(&molecule).ok_or(Code::Unmatchable));
     store(row, matching.as_deref().unwrap_or(&[]));
     matching.map(|_| ())
 }
@@ -112,6 +120,30 @@ pub fn next(tables: Tables, row: &mut [u8]) -> Result<Step, Code> {
             Err(code)
         }
     }
+}
+
+/// The number of "end" among the codes of [`replay`].
+pub const END: u8 = 255;
+
+/// Makes calls on one row, 0 for the first matching and any other byte for the next, and stores the
+/// number of each answer: 0, [`END`], or the refusal's. The rest of the codes is filled with 0.
+pub fn replay(calls: &[u8], tables: Tables, row: &mut [u8], codes: &mut [u8]) -> Result<(), Code> {
+    if codes.len() < calls.len() {
+        return Err(Code::ShortBuffer);
+    }
+    codes.fill(0);
+    for (call, code) in calls.iter().zip(codes) {
+        let answer = match call {
+            0 => first(tables, row).map(|()| Step::Matching),
+            _ => next(tables, row),
+        };
+        *code = match answer {
+            Ok(Step::Matching) => 0,
+            Ok(Step::End) => END,
+            Err(code) => code.number(),
+        };
+    }
+    Ok(())
 }
 
 /// Whether the row is a matching.

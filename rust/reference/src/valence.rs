@@ -37,9 +37,20 @@ pub fn implied_hydrogens(element: u8, selected: bool, bond_sum: u32) -> u8 {
     room as u8
 }
 
+/// The first target of a selected atom, shifted by its charge. It can be below zero.
+fn shifted_target(atom: &Atom) -> i32 {
+    let first = targets(atom.element)[0] as i32;
+    let charge = i32::from(atom.charge);
+    match atom.element {
+        6 => first - charge.abs(),
+        _ => first + charge,
+    }
+}
+
 /// Whether an atom with this bond sum is delocalized (in the paper: kept).
 fn is_delocalized(atom: &Atom, bond_sum: u32) -> bool {
-    atom.selected && bond_sum + u32::from(atom.hydrogens) < targets(atom.element)[0]
+    let used = bond_sum as i32 + i32::from(atom.hydrogens) + 1;
+    atom.selected && used <= shifted_target(atom)
 }
 
 /// For each atom whether it is delocalized.

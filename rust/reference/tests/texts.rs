@@ -81,17 +81,22 @@ fn matchings_are_listed_in_order() {
 
 #[test]
 fn texts_without_a_matching_are_refused() {
-    for text in [
-        "c1ccnc1",
-        "c(c)(c)c",
-        "c-c",
-        "c",
-        "c1cccc1",
-        "[cH-]1cccc1",
-        "c1cc[n+]([O-])cc1",
-    ] {
-        refused(text, Code::NoMatching, 0);
+    for text in ["c1ccnc1", "c(c)(c)c", "c-c", "c", "c1cccc1", "[s+]1cccc1"] {
+        refused(text, Code::Unmatchable, 0);
     }
+}
+
+/// Request P1.
+#[test]
+fn charges_shift_the_first_target() {
+    assert_eq!(matchings("c1cc[n+]([O-])cc1"), ["1010010", "0100101"]);
+    assert_eq!(matchings("[cH-]1cccc1"), ["01010"]);
+    assert_eq!(matchings("[cH+]1cccccc1"), ["0101010"]);
+    assert_eq!(matchings("[c-5]1cccc1"), ["01010"]);
+    assert_eq!(matchings("[o+]1ccccc1"), ["101010", "010101"]);
+    assert_eq!(matchings("[n-]1cccc1"), ["01010"]);
+    assert_eq!(matchings("[n-9]1cccc1"), ["01010"]);
+    assert_eq!(hydrogens("[cH-]1cccc1"), [1; 5]);
 }
 
 #[test]
@@ -429,5 +434,5 @@ fn refusals_come_by_place_and_then_by_number() {
     refused("C11)", Code::SelfBridge, 2);
     refused("C1(", Code::Grammar, 3);
     refused("c1", Code::OpenBridge, 1);
-    refused("c", Code::NoMatching, 0);
+    refused("c", Code::Unmatchable, 0);
 }

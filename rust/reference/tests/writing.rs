@@ -43,7 +43,7 @@ fn assert_read_back(molecule: &Molecule) {
     let renumber = |atom: usize| usize::from(written.renumbering[atom]);
     let back = match read(&written.text) {
         Err(Refusal {
-            code: Code::NoMatching,
+            code: Code::Unmatchable,
             ..
         }) => return assert_eq!(first(molecule), None, "{shown}"),
         back => back.unwrap(),
@@ -188,7 +188,7 @@ fn a_molecule_without_a_matching_is_written() {
     lone.atoms[0].hydrogens = 3;
     let text = write(&lone).unwrap().text;
     assert_eq!(text, b"c");
-    assert_eq!(read(&text), Err(Code::NoMatching.into()));
+    assert_eq!(read(&text), Err(Code::Unmatchable.into()));
 }
 
 /// All bonds between `atoms` atoms.
@@ -289,9 +289,10 @@ fn a_kekulized_text_can_be_too_long() {
     }
     for (number, hydrogens) in [(inner, 1), (outer, 2)] {
         molecule.atoms[number] = Atom {
-            element: 6,
+            element: 7,
             selected: true,
             hydrogens,
+            charge: 9,
             ..LONG
         };
     }
@@ -304,21 +305,12 @@ fn a_kekulized_text_can_be_too_long() {
 #[test]
 fn real_texts_are_read_back() {
     let corpus = include_str!("../../../corpus/real.smi");
-    let mut accepted = 0;
     for line in corpus.lines() {
-        let mut molecule = match read(line.as_bytes()) {
-            Ok(molecule) => molecule,
-            Err(refusal) => {
-                assert_eq!(refusal.code, Code::NoMatching, "{line}");
-                continue;
-            }
-        };
-        accepted += 1;
+        let mut molecule = read(line.as_bytes()).unwrap_or_else(|no| panic!("{line}: {no:?}"));
         assert_read_back(&molecule);
         let row = first(&molecule).unwrap();
         assert!(kekulize(&mut molecule, &row), "{line}");
         assert_read_back(&molecule);
         assert!(molecule.atoms.iter().all(|atom| !atom.selected), "{line}");
     }
-    assert!(accepted > 5000, "{accepted}");
 }

@@ -16,7 +16,7 @@ same-length-2 : tie.Need-same-length-2
 same-length-2 c = search needs
 
 returns : tie.Need-returns
-returns c = replay-law (c .check-code .ensures) (c .before .before .before .before .before .replay .ensures)
+returns c = replay-law (c .check-code .ensures) (c .before .before .before .before .before .replay .ensures .handed)
 
 pub balsa-replay-spec : {M : Type 1} → statement M
 balsa-replay-spec =

@@ -14,14 +14,15 @@ same-length : tie.Need-same-length
 same-length c = search needs
 
 returns : tie.Need-returns
-returns c = room (now (c .before .args .out)) (c .before .args .at) (c .before .args .b) (c .if1 .taken)
+returns c = room (now (c .before .before .args .out)) (c .before .before .args .at) (c .before .before .args .b) (c .if1 .taken)
 
-add-result-2 : tie.Need-add-result-2
-add-result-2 c = search needs
+next-count-requires : tie.Need-next-count-requires
+next-count-requires c κs = search needs
 
 returns-2 : tie.Need-returns-2
-returns-2 c = full (now (c .before .args .out)) (c .before .args .at) (c .before .args .b) (c .if1 .left)
+returns-2 c = full (now (c .before .before .before .args .out)) (c .before .before .before .args .at) (c .before .before .before .args .b) (c .before .if1 .left) (c .next-count .ensures)
 
 pub put-spec : {M : Type 1} → statement M
 put-spec =
-    tie.close (tie.spec slice-write-out add-result same-length returns add-result-2 returns-2)
+    tie.close
+    (tie.spec slice-write-out add-result same-length returns next-count-requires returns-2)

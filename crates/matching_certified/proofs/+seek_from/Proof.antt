@@ -69,8 +69,8 @@ seek-from-mark-requires t c κs = ends-here (c .before .before .before .before .
 seek-from-slice-write-row : (t : ℕ) → seek-from-lts.Need-slice-write-row (seek-from-claims t) (seek-from-at t) seek-from.Post seek-from-Inv-loop seek-from-μ-loop
 seek-from-slice-write-row t c = in-row (c .before .before .before .before .before .before .before .before .before .before .before .before .loop .inv .shape) (inside (c .before .before .before .before .before .before .before .before .before .before .before .loop-test .taken))
 
-seek-from-add-t33 : (t : ℕ) → seek-from-lts.Need-add-t33 (seek-from-claims t) (seek-from-at t) seek-from.Post seek-from-Inv-loop seek-from-μ-loop
-seek-from-add-t33 t c = omega (arith, c .before .before .before .before .before .before .before .before .before .before .before .before .before .before .before .before .before .before .before .before .good .0 .0, c .before .before .before .before .before .before .before .before .before .before .before .before .before .loop-test .taken)
+seek-from-add-t35 : (t : ℕ) → seek-from-lts.Need-add-t35 (seek-from-claims t) (seek-from-at t) seek-from.Post seek-from-Inv-loop seek-from-μ-loop
+seek-from-add-t35 t c = omega (arith, c .before .before .before .before .before .before .before .before .before .before .before .before .before .before .before .before .before .before .before .before .good .0 .0, c .before .before .before .before .before .before .before .before .before .before .before .before .before .loop-test .taken)
 
 seek-from-seek-from-requires : (t : ℕ) → seek-from-lts.Need-seek-from-requires (seek-from-claims t) (seek-from-at t) seek-from.Post seek-from-Inv-loop seek-from-μ-loop
 seek-from-seek-from-requires t c κs = (
@@ -134,7 +134,7 @@ pub +seek-from-spec : {M : Type 1} → statement M
     (seek-from-choosable-requires t)
     (seek-from-mark-requires t)
     (seek-from-slice-write-row t)
-    (seek-from-add-t33 t)
+    (seek-from-add-t35 t)
     (seek-from-seek-from-requires t)
     (seek-from-mark-requires-2 t)
     (seek-from-same-length-3 t)

@@ -6,8 +6,8 @@ use borrow.Author.Needs.{needs}
 use Rattle.matching_engine.proofs.dead_end.Statement.{statement}
 use Rattle.matching_engine.proofs.dead_end.Tie as tie
 
-add-after : tie.Need-add-after
-add-after c = search needs
+add-next : tie.Need-add-next
+add-next c = search needs
 
 end-of-requires : tie.Need-end-of-requires
 end-of-requires c κs = search needs
@@ -31,7 +31,7 @@ pub dead-end-spec : {M : Type 1} → statement M
 dead-end-spec =
     tie.close
     (tie.spec
-    add-after
+    add-next
     end-of-requires
     stranded-requires
     returns

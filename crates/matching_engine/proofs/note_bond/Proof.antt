@@ -8,8 +8,8 @@ use Rattle.matching_engine.proofs.note_bond.Tie as tie
 choosable-requires : tie.Need-choosable-requires
 choosable-requires c κs = search needs
 
-add-after : tie.Need-add-after
-add-after c = search needs
+add-next : tie.Need-add-next
+add-next c = search needs
 
 end-of-requires : tie.Need-end-of-requires
 end-of-requires c κs = search needs
@@ -37,7 +37,7 @@ note-bond-spec =
     tie.close
     (tie.spec
     choosable-requires
-    add-after
+    add-next
     end-of-requires
     note-requires
     end-of-requires-2

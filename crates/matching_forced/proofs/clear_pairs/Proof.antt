@@ -3,7 +3,7 @@ use Prim.Native.Nat.{_-_}
 use native.Mathlib.Omega.{arith}
 use borrow.Author.Needs.{needs}
 use lib.ListN.{length}
-use Rattle.matching_search.proofs.Reply.{Blanking, blank-start, blank-step, blank-end, cleared}
+use Rattle.loops.proofs.Clearing.{Blanking, blank-start, blank-step, blank-end, cleared}
 use Rattle.matching_forced.proofs.clear_pairs.Statement.{statement}
 use Rattle.matching_forced.proofs.clear_pairs.Tie as tie
 

@@ -2,15 +2,15 @@
 use Prim.Native.Nat.{_-_}
 use native.Mathlib.Omega.{arith}
 use borrow.Author.Needs.{needs}
-use Rattle.matching_search.proofs.Reply.{Blanking, blank-start, blank-step, blank-end}
+use Rattle.loops.proofs.Clearing.{Blanking, blank-start, blank-step, blank-end}
 use Rattle.matching_search.proofs.blank.Statement.{statement}
 use Rattle.matching_search.proofs.blank.Tie as tie
 
 abbrev Inv-loop : tie.InvT-loop
-Inv-loop row₀ from to i₀ row i = Blanking row₀ from to i row
+Inv-loop row₀ end i₀ row i = Blanking row₀ i₀ end i row
 
 abbrev μ-loop : tie.MeasureT-loop
-μ-loop row₀ from to i₀ row i = to - i
+μ-loop row₀ end i₀ row i = end - i
 
 loop-holds : tie.Need-loop-holds Inv-loop μ-loop
 loop-holds c = blank-start (c .pre .0)

@@ -1,6 +1,6 @@
 -- `matching_search::clear` meets its contract. Assumes nothing.
 use borrow.Author.Needs.{needs}
-use Rattle.matching_search.proofs.Reply.{cleared}
+use Rattle.loops.proofs.Clearing.{cleared}
 use Rattle.matching_search.proofs.clear.Statement.{statement}
 use Rattle.matching_search.proofs.clear.Tie as tie
 
@@ -11,7 +11,7 @@ same-length : tie.Need-same-length
 same-length c = search needs
 
 returns : tie.Need-returns
-returns c = cleared (c .before .before .before .before .before .args .row .now) (c .before .before .before .before .before .args .from) (c .before .before .blank .ensures)
+returns c = cleared (c .before .before .before .before .before .args .row .now) (c .before .before .before .before .before .args .from .0) (c .before .before .blank .ensures)
 
 pub clear-spec : {M : Type 1} → statement M
 clear-spec = tie.close (tie.spec blank-requires same-length returns)

@@ -1,4 +1,4 @@
-use Rattle.report_blocks.proofs.Laws.{from-nothing}
+use Rattle.report_blocks.proofs.Lines.{from-nothing}
 use borrow.Author.Needs.{needs}
 use Rattle.report_blocks.proofs.begin.Statement.{statement}
 use Rattle.report_blocks.proofs.begin.Tie as tie

@@ -1,4 +1,4 @@
-use Rattle.report_blocks.proofs.Laws.{counted-accepted, counted-refused}
+use Rattle.report_blocks.proofs.Lines.{counted-accepted, counted-refused}
 use borrow.Author.Needs.{needs}
 use Rattle.report_blocks.proofs.count.Statement.{statement}
 use Rattle.report_blocks.proofs.count.Tie as tie

@@ -1,6 +1,6 @@
 use mathlib.Core.Path.{_∙_}
 use Rattle.buffer.proofs.Laws.{as-is}
-use Rattle.report_blocks.proofs.Laws.{gathered-length, no-last, last-told}
+use Rattle.report_blocks.proofs.Lines.{gathered-length, no-last, last-told}
 use borrow.Author.Needs.{needs}
 use Rattle.report_blocks.proofs.finish.Statement.{statement}
 use Rattle.report_blocks.proofs.finish.Tie as tie

@@ -4,7 +4,7 @@ use native.Mathlib.Omega.{arith}
 use lib.ListN.{length}
 use borrow.Author.Needs.{needs}
 use borrow.Author.Tests.{not-true, not-false}
-use Rattle.report_lines.proofs.Laws.{line-went}
+use Rattle.report_lines.proofs.Cut.{line-reached}
 use Rattle.report_blocks.proofs.Turn.{progress, Going, going-start, going-line, going-over, going-full}
 use Rattle.report_blocks.proofs.report_block.Statement.{statement}
 use Rattle.report_blocks.proofs.report_block.Tie as tie
@@ -37,7 +37,7 @@ count-requires : tie.Need-count-requires Inv-loop μ-loop
 count-requires c κs = search needs
 
 loop-less : tie.Need-loop-less Inv-loop μ-loop
-loop-less c = omega (arith, line-went _ _ _ _ (c .before .before .before .before .before .before .before .before .fill .ensures) (not-false _ (c .before .before .before .before .before .if1 .left)) .0, line-went _ _ _ _ (c .before .before .before .before .before .before .before .before .fill .ensures) (not-false _ (c .before .before .before .before .before .if1 .left)) .1)
+loop-less c = omega (arith, line-reached _ _ _ _ (c .before .before .before .before .before .before .before .before .fill .ensures) (not-false _ (c .before .before .before .before .before .if1 .left)) .0, line-reached _ _ _ _ (c .before .before .before .before .before .before .before .before .fill .ensures) (not-false _ (c .before .before .before .before .before .if1 .left)) .1)
 
 loop-again : tie.Need-loop-again Inv-loop μ-loop
 loop-again c =

@@ -1,6 +1,6 @@
 use mathlib.Core.Path.{refl, sym, ap}
 use Rattle.buffer.proofs.Laws.{as-is}
-use Rattle.report_format.specs.Text.{refusedLine}
+use Rattle.report_lines.specs.Format.{refusedLine}
 use borrow.Author.Needs.{needs}
 use Rattle.report_entry.proofs.refuse.Statement.{statement}
 use Rattle.report_entry.proofs.refuse.Tie as tie

@@ -2,7 +2,7 @@ use native.Mathlib.Omega.{arith}
 use borrow.Author.Tests.{le-leb, lt-leb}
 use Rattle.loops.proofs.Loops.{each-at}
 use Rattle.table.specs.Valid.{valid}
-use Rattle.table.proofs.Keys.{short-ends, held, failed}
+use Rattle.table.proofs.Keys.{bond-ends, held, failed}
 use borrow.Author.Needs.{needs}
 use Rattle.table_validity.proofs.valid.Statement.{statement}
 use Rattle.table_validity.proofs.valid.Tie as tie
@@ -39,7 +39,7 @@ unfolding valid
 returns-5 c = simp (le-leb _ _ (c .before .before .before .before .before .before .before .if1 .left), le-leb _ _ (c .before .before .before .before .before .before .if2 .left), held (c .before .before .before .before .before .atoms-ok .ensures) (c .before .before .before .before .if3 .left), failed (c .before .bonds-ok .ensures) (c .if5 .taken))
 
 distinct-requires : tie.Need-distinct-requires
-distinct-requires c κs = (omega arith, λ b h. short-ends _ _ b (omega arith) (each-at _ _ b (held (c .before .bonds-ok .ensures) (c .if5 .left)) h))
+distinct-requires c κs = (omega arith, λ b h. bond-ends _ _ b (each-at _ _ b (held (c .before .bonds-ok .ensures) (c .if5 .left)) h))
 
 returns-6 : tie.Need-returns-6
 unfolding valid

@@ -1,25 +1,38 @@
-use Rattle.valence.proofs.Laws.{not-selected, no-room, by-room}
 use borrow.Author.Needs.{needs}
+use Rattle.valence.proofs.Charge.{not-selected, both-fits, one-more-fits, by-target}
 use Rattle.valence.proofs.delocalized.Statement.{statement}
 use Rattle.valence.proofs.delocalized.Tie as tie
 
 returns : tie.Need-returns
-returns c = not-selected (c .before .args .e) (c .before .args .selected) (c .before .args .sum) (c .before .args .hydrogens) (c .if1 .taken)
+returns c = not-selected (c .before .args .e) (c .before .args .selected) (c .before .args .charge) (c .before .args .sum) (c .before .args .hydrogens) (c .if1 .taken)
 
-first-target-requires : tie.Need-first-target-requires
-first-target-requires c κs = search needs
+cast-result : tie.Need-cast-result
+cast-result c = search needs
+
+cast-result-2 : tie.Need-cast-result-2
+cast-result-2 c = search needs
+
+add-result : tie.Need-add-result
+add-result c = both-fits (c .before .args .sum) (c .before .args .hydrogens) (c .before .fits .sum) (c .before .fits .hydrogens)
+
+add-result-2 : tie.Need-add-result-2
+add-result-2 c = one-more-fits (c .before .args .sum) (c .before .args .hydrogens) (c .before .fits .sum) (c .before .fits .hydrogens)
+
+shifted-target-requires : tie.Need-shifted-target-requires
+shifted-target-requires c κs = search needs
 
 returns-2 : tie.Need-returns-2
 returns-2 c =
-    no-room (c .before .before .before .args .e) (c .before .before .before .args .selected) (c .before .before .before .args .sum) (c .before .before .before .args .hydrogens) (c .before .first-target .result) (c .before .before .if1 .left) (c .before .first-target .ensures) (c .if2 .taken)
-
-sub-result : tie.Need-sub-result
-sub-result c = search needs
-
-returns-3 : tie.Need-returns-3
-returns-3 c =
-    by-room (c .before .before .before .args .e) (c .before .before .before .args .selected) (c .before .before .before .args .sum) (c .before .before .before .args .hydrogens) (c .before .first-target .result) (c .before .before .if1 .left) (c .before .first-target .ensures) (c .if2 .left)
+    by-target (c .before .before .args .sum) (c .before .before .args .hydrogens) (c .before .before .fits .sum) (c .before .before .fits .hydrogens) (c .before .before .args .e) (c .before .before .args .selected) (c .before .before .fits .charge) (c .before .if1 .left) (c .shifted-target .ensures)
 
 pub delocalized-spec : {M : Type 1} → statement M
 delocalized-spec =
-    tie.close (tie.spec returns first-target-requires returns-2 sub-result returns-3)
+    tie.close
+    (tie.spec
+    returns
+    cast-result
+    cast-result-2
+    add-result
+    add-result-2
+    shifted-target-requires
+    returns-2)

@@ -14,7 +14,7 @@ use Rattle.writing_bridges.proofs.+close_from.{statement}
 use Rattle.writing_bridges.proofs.+close_from.Tie.{close}
 
 abbrev μ-close-from : Measures 4 close-from-kinds.ps ℕ
-μ-close-from κs a = 65537 - a .1 .1 .1 .1 .0
+μ-close-from κs a = 65537 - a .1 .1 .1 .1 .0 .0
 
 abbrev close-from-at : ℕ → In 4 close-from-kinds.ps
 close-from-at t = and 4 close-from-kinds.ps (is 4 close-from-kinds.ps μ-close-from t) close-from.Pre
@@ -48,13 +48,13 @@ close-from-shared-slice-read-next : (t : ℕ) → close-from-lts.Need-shared-sli
 close-from-shared-slice-read-next t c = omega (arith, c .before .before .before .before .before .before .before .before .before .before .before .before .before .before .pre .1 .0 .0, c .before .before .before .before .before .before .before .before .if1 .left)
 
 close-from-cast-next : (t : ℕ) → close-from-lts.Need-cast-next (close-from-claims t) (close-from-at t) close-from.Post
-close-from-cast-next t c = omega (arith, c .shared-slice-known3 .given (c .before .before .before .before .before .before .before .before .before .nearest .result))
+close-from-cast-next t c = omega (arith, c .shared-slice-known3 .given (c .before .before .before .before .before .before .before .before .before .nearest .result .0))
 
 close-from-add-next : (t : ℕ) → close-from-lts.Need-add-next (close-from-claims t) (close-from-at t) close-from.Post
-close-from-add-next t c = omega (arith, c .shared-slice-known3 .given (c .before .before .before .before .before .before .before .before .before .nearest .result))
+close-from-add-next t c = omega (arith, c .shared-slice-known3 .given (c .before .before .before .before .before .before .before .before .before .nearest .result .0))
 
 close-from-close-from-requires : (t : ℕ) → close-from-lts.Need-close-from-requires (close-from-claims t) (close-from-at t) close-from.Post
-close-from-close-from-requires t c κs = let s = c .before .before .before .before .before .before .before .before .before .before .before .before .before .before .before .before in let i = c .before .before .before .before .before .before .before .before .before .before .before .nearest in (omega (arith, i .ensures .here (c .before .before .before .before .before .before .before .before .before .before .if1 .left) .1, c .before .before .shared-slice-known3 .given (i .result), s .pre .0), (s .pre .1 .0, (s .pre .1 .1 .0, omega (arith, s .pre .1 .1 .1, c .before .before .before .before .before .before .before .close-bond .kept .0))))
+close-from-close-from-requires t c κs = let s = c .before .before .before .before .before .before .before .before .before .before .before .before .before .before .before .before in let i = c .before .before .before .before .before .before .before .before .before .before .before .nearest in (omega (arith, i .ensures .here (c .before .before .before .before .before .before .before .before .before .before .if1 .left) .1, c .before .before .shared-slice-known3 .given (i .result .0), s .pre .0), (s .pre .1 .0, (s .pre .1 .1 .0, omega (arith, s .pre .1 .1 .1, c .before .before .before .before .before .before .before .close-bond .kept .0))))
 
 close-from-same-length : (t : ℕ) → close-from-lts.Need-same-length (close-from-claims t) (close-from-at t) close-from.Post
 close-from-same-length t c = c .before .before .before .before .close-from .kept .1 .1 .1 .1 .1 .0 ∙ c .before .before .before .before .before .before .before .before .before .before .before .before .close-bond .kept .0

@@ -15,7 +15,7 @@ use Rattle.writing_bridges.proofs.+open_from.{statement}
 use Rattle.writing_bridges.proofs.+open_from.Tie.{close}
 
 abbrev μ-open-from : Measures 5 open-from-kinds.ps ℕ
-μ-open-from κs a = 65537 - a .1 .1 .1 .1 .1 .0
+μ-open-from κs a = 65537 - a .1 .1 .1 .1 .1 .0 .0
 
 abbrev open-from-at : ℕ → In 5 open-from-kinds.ps
 open-from-at t = and 5 open-from-kinds.ps (is 5 open-from-kinds.ps μ-open-from t) open-from.Pre
@@ -43,7 +43,7 @@ open-from-shared-slice-read-open-bond : (t : ℕ) → open-from-lts.Need-shared-
 open-from-shared-slice-read-open-bond t c = omega (arith, c .before .before .before .if1 .left, c .before .before .before .before .before .before .before .before .before .before .pre .1 .1 .1)
 
 open-from-cast-open-bond : (t : ℕ) → open-from-lts.Need-cast-open-bond (open-from-claims t) (open-from-at t) open-from.Post
-open-from-cast-open-bond t c = omega (arith, c .shared-slice-known4 .given (c .before .before .before .before .nearest .result))
+open-from-cast-open-bond t c = omega (arith, c .shared-slice-known4 .given (c .before .before .before .before .nearest .result .0))
 
 open-from-open-bond-requires : (t : ℕ) → open-from-lts.Need-open-bond-requires (open-from-claims t) (open-from-at t) open-from.Post
 open-from-open-bond-requires t c κs = let s = c .before .before .before .before .before .before .before .before .before .before in (s .pre .1 .1 .0 .1, omega (arith, c .before .before .before .if1 .left, s .pre .1 .1 .0 .0))
@@ -64,13 +64,13 @@ open-from-shared-slice-read-next : (t : ℕ) → open-from-lts.Need-shared-slice
 open-from-shared-slice-read-next t c = omega (arith, c .before .before .before .before .before .before .before .before .before .before .before .before .before .before .before .before .before .pre .1 .0 .1, c .before .before .before .before .before .before .before .before .before .before .if1 .left)
 
 open-from-cast-next : (t : ℕ) → open-from-lts.Need-cast-next (open-from-claims t) (open-from-at t) open-from.Post
-open-from-cast-next t c = omega (arith, c .shared-slice-known5 .given (c .before .before .before .before .before .before .before .before .before .before .before .nearest .result))
+open-from-cast-next t c = omega (arith, c .shared-slice-known5 .given (c .before .before .before .before .before .before .before .before .before .before .before .nearest .result .0))
 
 open-from-add-next : (t : ℕ) → open-from-lts.Need-add-next (open-from-claims t) (open-from-at t) open-from.Post
-open-from-add-next t c = omega (arith, c .shared-slice-known5 .given (c .before .before .before .before .before .before .before .before .before .before .before .nearest .result))
+open-from-add-next t c = omega (arith, c .shared-slice-known5 .given (c .before .before .before .before .before .before .before .before .before .before .before .nearest .result .0))
 
 open-from-open-from-requires : (t : ℕ) → open-from-lts.Need-open-from-requires (open-from-claims t) (open-from-at t) open-from.Post
-open-from-open-from-requires t c κs = let s = c .before .before .before .before .before .before .before .before .before .before .before .before .before .before .before .before .before .before .before in let i = c .before .before .before .before .before .before .before .before .before .before .before .before .before .nearest in (omega (arith, i .ensures .here (c .before .before .before .before .before .before .before .before .before .before .before .before .if1 .left) .1, c .before .before .shared-slice-known5 .given (i .result), s .pre .0), (s .pre .1 .0, ((s .pre .1 .1 .0 .0, omega (arith, s .pre .1 .1 .0 .1, c .before .before .before .before .before .before .before .before .open-bond .kept .0)), s .pre .1 .1 .1)))
+open-from-open-from-requires t c κs = let s = c .before .before .before .before .before .before .before .before .before .before .before .before .before .before .before .before .before .before .before in let i = c .before .before .before .before .before .before .before .before .before .before .before .before .before .nearest in (omega (arith, i .ensures .here (c .before .before .before .before .before .before .before .before .before .before .before .before .if1 .left) .1, c .before .before .shared-slice-known5 .given (i .result .0), s .pre .0), (s .pre .1 .0, ((s .pre .1 .1 .0 .0, omega (arith, s .pre .1 .1 .0 .1, c .before .before .before .before .before .before .before .before .open-bond .kept .0)), s .pre .1 .1 .1)))
 
 open-from-same-length-3 : (t : ℕ) → open-from-lts.Need-same-length-3 (open-from-claims t) (open-from-at t) open-from.Post
 open-from-same-length-3 t c = c .before .before .before .before .open-from .kept .1 .1 .1 .1 .1 .1 .0 ∙ c .before .before .before .before .before .before .before .before .before .before .before .before .before .open-bond .kept .0

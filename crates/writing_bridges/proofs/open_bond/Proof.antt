@@ -25,7 +25,7 @@ same-length-3 : tie.Need-same-length-3
 same-length-3 c = search needs
 
 returns-2 : tie.Need-returns-2
-returns-2 c = inserted _ _ _ _ _ _ (c .before .before .before .before .before .before .before .before .slot-of .result) (c .before .before .before .before .before .before .before .before .slot-of .ensures) (c .before .before .before .before .before .before .before .if1 .left) (c .before .before .before .before .write-slot .ensures .1) (c .before .before .before .before .write-slot .ensures .0)
+returns-2 c = inserted _ _ _ _ _ _ (c .before .before .before .before .before .before .before .before .before .slot-of .result) (c .before .before .before .before .before .before .before .before .before .slot-of .ensures) (c .before .before .before .before .before .before .before .before .if1 .left) (c .before .before .before .before .write-slot .ensures .1) (c .before .before .before .before .write-slot .ensures .0)
 
 pub open-bond-spec : {M : Type 1} → statement M
 open-bond-spec =

@@ -29,7 +29,7 @@ shared-slice-read-if3 : tie.Need-shared-slice-read-if3
 shared-slice-read-if3 c = omega (arith, single-below _ _ _ _ _ (c .before .before .before .before .before .before .before .before .before .pre .1 .1 .1 .0) (c .before .before .if1 .left) (c .before .if2 .taken), c .before .before .before .before .before .before .before .before .before .pre .0 .1)
 
 cast-if3 : tie.Need-cast-if3
-cast-if3 c = let a = c .before .before .before .before .before .before .before .before .before .args in omega (arith, c .shared-slice-known4 .given (getD (a .marks .now) (a .x) 0 - 1))
+cast-if3 c = let a = c .before .before .before .before .before .before .before .before .before .args in omega (arith, c .shared-slice-known4 .given (getD (a .marks .now) (a .x .0) 0 - 1))
 
 close-bond-requires : tie.Need-close-bond-requires
 close-bond-requires c κs =
@@ -49,7 +49,7 @@ shared-slice-read-open-bond : tie.Need-shared-slice-read-open-bond
 shared-slice-read-open-bond c = omega (arith, single-below _ _ _ _ _ (c .before .before .before .before .before .before .before .before .before .before .before .before .before .pre .1 .1 .1 .0) (c .before .before .before .before .before .before .if1 .left) (c .before .before .before .before .before .if2 .taken), c .before .before .before .before .before .before .before .before .before .before .before .before .before .pre .1 .1 .0)
 
 cast-open-bond : tie.Need-cast-open-bond
-cast-open-bond c = let a = c .before .before .before .before .before .before .before .before .before .before .before .before .before .args in omega (arith, c .shared-slice-known5 .given (getD (a .marks .now) (a .x) 0 - 1))
+cast-open-bond c = let a = c .before .before .before .before .before .before .before .before .before .before .before .before .before .args in omega (arith, c .shared-slice-known5 .given (getD (a .marks .now) (a .x .0) 0 - 1))
 
 open-bond-requires : tie.Need-open-bond-requires
 open-bond-requires c κs =

@@ -6,7 +6,7 @@ use borrow.Fn.PlainCycle.{Measures, is, falls, and}
 use mathlib.Core.Path.{refl}
 use lib.ListN.{getD}
 use Rattle.table.specs.Limits.{maxAtoms}
-use Rattle.writing_visit.specs.Tour.{unseen, Kept, sheet}
+use Rattle.writing_visit.specs.Visit.{unseen, Kept, walkArrays}
 use Rattle.writing_visit.specs.Wires.{wires}
 use Rattle.writing_visit.proofs.Ways.{other-below}
 use Rattle.writing_visit.proofs.Lists.{head-within, head-here, after-within, next-after-is, next-after-later}
@@ -39,11 +39,11 @@ visit-claims t = (
 )
 
 abbrev visit-Inv-loop : visit-lts.InvT-loop
-visit-Inv-loop ea eb ks n m head after behind order₀ number₀ up₀ kind₀ v hub from count b₀ next₀ order number up kind b next =
-    Left (wires ea eb ks) n m (v .0) hub from b (sheet order₀ number₀ up₀ kind₀ count) (sheet order number up kind next) × Kept order₀ number₀ up₀ kind₀ order number up kind
+visit-Inv-loop ea eb ks n m head after behind order₀ number₀ up₀ kind₀ v hub count b₀ next₀ order number up kind b next =
+    Left (wires ea eb ks) n m (v .0) (hub .0) b₀ b (walkArrays order₀ number₀ up₀ kind₀ count) (walkArrays order number up kind next) × Kept order₀ number₀ up₀ kind₀ order number up kind
 
 abbrev visit-μ-loop : visit-lts.MeasureT-loop
-visit-μ-loop ea eb ks n m head after behind order₀ number₀ up₀ kind₀ v hub from count b₀ next₀ order number up kind b next = m - b
+visit-μ-loop ea eb ks n m head after behind order₀ number₀ up₀ kind₀ v hub count b₀ next₀ order number up kind b next = m - b
 
 visit-loop-holds : (t : ℕ) → visit-lts.Need-loop-holds (visit-claims t) (visit-at t) visit.Post visit-Inv-loop visit-μ-loop
 visit-loop-holds t c =
@@ -65,144 +65,144 @@ visit-follow-requires t c κs =
 
 visit-mul-if1 : (t : ℕ) → visit-lts.Need-mul-if1 (visit-claims t) (visit-at t) visit.Post visit-Inv-loop visit-μ-loop
 visit-mul-if1 t c =
-    let s = c .before .before .before in
+    let s = c .before .before .before .before in
     let a = s .args in
     let fit = s .pre .1 .0 in
     let x = fit .few-atoms in
-    let at = c .before .before .loop in
-    let h = c .before .loop-test .taken in
-    let f = c .follow in
-    let w : ℕ = f .result .other in
+    let at = c .before .before .before .loop in
+    let h = c .before .before .loop-test .taken in
+    let f = c .before .follow in
+    let w : ℕ = f .result .other .0 in
     let q = other-below fit (a .v .0) (at .b) h in
     let wn : w < maxAtoms = omega (arith, q, f .ensures .0, x) in
     omega arith
 
 visit-element-copy-out-if1 : (t : ℕ) → visit-lts.Need-element-copy-out-if1 (visit-claims t) (visit-at t) visit.Post visit-Inv-loop visit-μ-loop
 visit-element-copy-out-if1 t c =
-    let s = c .before .before .before in
+    let s = c .before .before .before .before in
     let a = s .args in
     let fit = s .pre .1 .0 in
     let x = fit .few-atoms in
-    let at = c .before .before .loop in
-    let h = c .before .loop-test .taken in
-    let f = c .follow in
-    let w : ℕ = f .result .other in
+    let at = c .before .before .before .loop in
+    let h = c .before .before .loop-test .taken in
+    let f = c .before .follow in
+    let w : ℕ = f .result .other .0 in
     let q = other-below fit (a .v .0) (at .b) h in
     let wn : w < maxAtoms = omega (arith, q, f .ensures .0, x) in
     omega arith
 
 visit-loop-less : (t : ℕ) → visit-lts.Need-loop-less (visit-claims t) (visit-at t) visit.Post visit-Inv-loop visit-μ-loop
 visit-loop-less t c =
-    let s = c .before .before .before .before .before in
-    let a = s .args in
-    let lk = s .pre .1 .1 .0 in
-    let at = c .before .before .before .before .loop in
-    let i = at .inv in
-    let h = c .before .before .before .loop-test .taken in
-    let f = c .before .before .follow in
-    let r = next-after-is lk (at .b) (a .v .0) (f .result .next) h (i .0 .here h) (f .ensures .1) in
-    let z = next-after-later lk (at .b) (a .v .0) (f .result .next) h r in
-    omega arith
-
-visit-loop-again : (t : ℕ) → visit-lts.Need-loop-again (visit-claims t) (visit-at t) visit.Post visit-Inv-loop visit-μ-loop
-visit-loop-again t c =
-    let s = c .before .before .before .before .before in
-    let a = s .args in
-    let fit = s .pre .1 .0 in
-    let lk = s .pre .1 .1 .0 in
-    let at = c .before .before .before .before .loop in
-    let i = at .inv in
-    let h = c .before .before .before .loop-test .taken in
-    let f = c .before .before .follow in
-    let r = next-after-is lk (at .b) (a .v .0) (f .result .next) h (i .0 .here h) (f .ensures .1) in
-    (left-seen fit (f .result .next) h r _ _ (i .0) (f .result .other) (f .ensures .0) (c .if1 .taken), i .1)
-
-visit-returns : (t : ℕ) → visit-lts.Need-returns (visit-claims t) (visit-at t) visit.Post visit-Inv-loop visit-μ-loop
-visit-returns t c =
     let s = c .before .before .before .before .before .before in
-    let fit = s .pre .1 .0 in
+    let a = s .args in
+    let lk = s .pre .1 .1 .0 in
     let at = c .before .before .before .before .before .loop in
     let i = at .inv in
     let h = c .before .before .before .before .loop-test .taken in
     let f = c .before .before .before .follow in
-    (left-full fit _ _ _ _ _ _ (i .0) h (f .result .other) (f .ensures .0) (c .before .if1 .left) (c .if2 .taken), i .1)
+    let r = next-after-is lk (at .b) (a .v .0) (f .result .next .0) h (i .0 .here h) (f .ensures .1) in
+    let z = next-after-later lk (at .b) (a .v .0) (f .result .next .0) h r in
+    omega arith
+
+visit-loop-again : (t : ℕ) → visit-lts.Need-loop-again (visit-claims t) (visit-at t) visit.Post visit-Inv-loop visit-μ-loop
+visit-loop-again t c =
+    let s = c .before .before .before .before .before .before in
+    let a = s .args in
+    let fit = s .pre .1 .0 in
+    let lk = s .pre .1 .1 .0 in
+    let at = c .before .before .before .before .before .loop in
+    let i = at .inv in
+    let h = c .before .before .before .before .loop-test .taken in
+    let f = c .before .before .before .follow in
+    let r = next-after-is lk (at .b) (a .v .0) (f .result .next .0) h (i .0 .here h) (f .ensures .1) in
+    (left-seen fit (f .result .next .0) h r _ _ (i .0) (f .result .other .0) (f .ensures .0) (c .if1 .taken), i .1)
+
+visit-returns : (t : ℕ) → visit-lts.Need-returns (visit-claims t) (visit-at t) visit.Post visit-Inv-loop visit-μ-loop
+visit-returns t c =
+    let s = c .before .before .before .before .before .before .before in
+    let fit = s .pre .1 .0 in
+    let at = c .before .before .before .before .before .before .loop in
+    let i = at .inv in
+    let h = c .before .before .before .before .before .loop-test .taken in
+    let f = c .before .before .before .before .follow in
+    (left-full fit _ _ _ _ _ _ (i .0) h (f .result .other .0) (f .ensures .0) (c .before .if1 .left) (c .if2 .taken), i .1)
 
 visit-element-copy-out-k : (t : ℕ) → visit-lts.Need-element-copy-out-k (visit-claims t) (visit-at t) visit.Post visit-Inv-loop visit-μ-loop
 visit-element-copy-out-k t c =
-    let s = c .before .before .before .before .before .before in
+    let s = c .before .before .before .before .before .before .before in
     let fit = s .pre .1 .0 in
     let y = fit .few-bonds in
-    let h = c .before .before .before .before .loop-test .taken in
+    let h = c .before .before .before .before .before .loop-test .taken in
     omega arith
 
 visit-cast-k : (t : ℕ) → visit-lts.Need-cast-k (visit-claims t) (visit-at t) visit.Post visit-Inv-loop visit-μ-loop
 visit-cast-k t c =
-    let s = c .before .before .before .before .before .before .before in
+    let s = c .before .before .before .before .before .before .before .before in
     let fit = s .pre .1 .0 in
-    let at = c .before .before .before .before .before .before .loop in
-    let h = c .before .before .before .before .before .loop-test .taken in
+    let at = c .before .before .before .before .before .before .before .loop in
+    let h = c .before .before .before .before .before .before .loop-test .taken in
     omega (arith, fit .kinds (at .b) h)
 
 visit-add-add : (t : ℕ) → visit-lts.Need-add-add (visit-claims t) (visit-at t) visit.Post visit-Inv-loop visit-μ-loop
 visit-add-add t c =
-    let s = c .before .before .before .before .before .before .before .before .before .before .before in
+    let s = c .before .before .before .before .before .before .before .before .before .before .before .before .before in
     omega (arith, s .pre .1 .1 .1 .1 .0 .0)
 
 visit-add-requires : (t : ℕ) → visit-lts.Need-add-requires (visit-claims t) (visit-at t) visit.Post visit-Inv-loop visit-μ-loop
 visit-add-requires t c κs =
-    let s = c .before .before .before .before .before .before .before .before .before .before .before in
+    let s = c .before .before .before .before .before .before .before .before .before .before .before .before .before in
     let a = s .args in
     let fit = s .pre .1 .0 in
     let x = fit .few-atoms in
-    let at = c .before .before .before .before .before .before .before .before .before .before .loop in
-    let h = c .before .before .before .before .before .before .before .before .before .loop-test .taken in
-    let f = c .before .before .before .before .before .before .before .before .follow in
-    let w : ℕ = f .result .other in
+    let at = c .before .before .before .before .before .before .before .before .before .before .before .before .loop in
+    let h = c .before .before .before .before .before .before .before .before .before .before .before .loop-test .taken in
+    let f = c .before .before .before .before .before .before .before .before .before .before .follow in
+    let w : ℕ = f .result .other .0 in
     let q = other-below fit (a .v .0) (at .b) h in
     let wn : w < maxAtoms = omega (arith, q, f .ensures .0, x) in
-    let k = c .before .before .before .before .before .if2 .left in
+    let k = c .before .before .before .before .before .before .if2 .left in
     ((omega arith, omega arith), (omega (arith, s .pre .1 .1 .1 .1 .0 .0), fit .kinds (at .b) h))
 
-visit-mul-visit : (t : ℕ) → visit-lts.Need-mul-visit (visit-claims t) (visit-at t) visit.Post visit-Inv-loop visit-μ-loop
-visit-mul-visit t c =
-    let s = c .before .before .before .before .before .before .before .before .before .before .before .before .before .before .before .before in
+visit-mul-start : (t : ℕ) → visit-lts.Need-mul-start (visit-claims t) (visit-at t) visit.Post visit-Inv-loop visit-μ-loop
+visit-mul-start t c =
+    let s = c .before .before .before .before .before .before .before .before .before .before .before .before .before .before in
     let a = s .args in
     let fit = s .pre .1 .0 in
     let x = fit .few-atoms in
-    let at = c .before .before .before .before .before .before .before .before .before .before .before .before .before .before .before .loop in
-    let h = c .before .before .before .before .before .before .before .before .before .before .before .before .before .before .loop-test .taken in
-    let f = c .before .before .before .before .before .before .before .before .before .before .before .before .before .follow in
-    let w : ℕ = f .result .other in
+    let at = c .before .before .before .before .before .before .before .before .before .before .before .before .before .loop in
+    let h = c .before .before .before .before .before .before .before .before .before .before .before .before .loop-test .taken in
+    let f = c .before .before .before .before .before .before .before .before .before .before .before .follow in
+    let w : ℕ = f .result .other .0 in
     let q = other-below fit (a .v .0) (at .b) h in
     let wn : w < maxAtoms = omega (arith, q, f .ensures .0, x) in
     omega arith
 
-visit-element-copy-out-visit : (t : ℕ) → visit-lts.Need-element-copy-out-visit (visit-claims t) (visit-at t) visit.Post visit-Inv-loop visit-μ-loop
-visit-element-copy-out-visit t c =
-    let s = c .before .before .before .before .before .before .before .before .before .before .before .before .before .before .before .before in
+visit-element-copy-out-start : (t : ℕ) → visit-lts.Need-element-copy-out-start (visit-claims t) (visit-at t) visit.Post visit-Inv-loop visit-μ-loop
+visit-element-copy-out-start t c =
+    let s = c .before .before .before .before .before .before .before .before .before .before .before .before .before .before in
     let a = s .args in
     let fit = s .pre .1 .0 in
     let x = fit .few-atoms in
-    let at = c .before .before .before .before .before .before .before .before .before .before .before .before .before .before .before .loop in
-    let h = c .before .before .before .before .before .before .before .before .before .before .before .before .before .before .loop-test .taken in
-    let f = c .before .before .before .before .before .before .before .before .before .before .before .before .before .follow in
-    let w : ℕ = f .result .other in
+    let at = c .before .before .before .before .before .before .before .before .before .before .before .before .before .loop in
+    let h = c .before .before .before .before .before .before .before .before .before .before .before .before .loop-test .taken in
+    let f = c .before .before .before .before .before .before .before .before .before .before .before .follow in
+    let w : ℕ = f .result .other .0 in
     let q = other-below fit (a .v .0) (at .b) h in
     let wn : w < maxAtoms = omega (arith, q, f .ensures .0, x) in
     omega arith
 
-visit-cast-visit : (t : ℕ) → visit-lts.Need-cast-visit (visit-claims t) (visit-at t) visit.Post visit-Inv-loop visit-μ-loop
-visit-cast-visit t c =
-    let s = c .before .before .before .before .before .before .before .before .before .before .before .before .before .before .before .before .before in
+visit-cast-start : (t : ℕ) → visit-lts.Need-cast-start (visit-claims t) (visit-at t) visit.Post visit-Inv-loop visit-μ-loop
+visit-cast-start t c =
+    let s = c .before .before .before .before .before .before .before .before .before .before .before .before .before .before .before in
     let a = s .args in
     let fit = s .pre .1 .0 in
     let x = fit .few-atoms in
     let y = fit .few-bonds in
     let lk = s .pre .1 .1 .0 in
-    let at = c .before .before .before .before .before .before .before .before .before .before .before .before .before .before .before .before .loop in
-    let h = c .before .before .before .before .before .before .before .before .before .before .before .before .before .before .before .loop-test .taken in
-    let f = c .before .before .before .before .before .before .before .before .before .before .before .before .before .before .follow in
-    let w : ℕ = f .result .other in
+    let at = c .before .before .before .before .before .before .before .before .before .before .before .before .before .before .loop in
+    let h = c .before .before .before .before .before .before .before .before .before .before .before .before .before .loop-test .taken in
+    let f = c .before .before .before .before .before .before .before .before .before .before .before .before .follow in
+    let w : ℕ = f .result .other .0 in
     let q = other-below fit (a .v .0) (at .b) h in
     let wn : w < maxAtoms = omega (arith, q, f .ensures .0, x) in
     let g = head-within lk w wn in
@@ -210,68 +210,68 @@ visit-cast-visit t c =
 
 visit-add-visit : (t : ℕ) → visit-lts.Need-add-visit (visit-claims t) (visit-at t) visit.Post visit-Inv-loop visit-μ-loop
 visit-add-visit t c =
-    let s = c .before .before .before .before .before .before .before .before .before .before .before .before .before .before .before .before .before in
+    let s = c .before .before .before .before .before .before .before .before .before .before .before .before .before .before .before .before .before .before .before in
     let fit = s .pre .1 .0 in
     let x = fit .few-atoms in
-    let k = c .before .before .before .before .before .before .before .before .before .before .before .if2 .left in
+    let k = c .before .before .before .before .before .before .before .before .before .before .before .before .if2 .left in
     omega arith
 
 visit-visit-requires : (t : ℕ) → visit-lts.Need-visit-requires (visit-claims t) (visit-at t) visit.Post visit-Inv-loop visit-μ-loop
 visit-visit-requires t c κs =
-    let s = c .before .before .before .before .before .before .before .before .before .before .before .before .before .before .before .before .before in
+    let s = c .before .before .before .before .before .before .before .before .before .before .before .before .before .before .before .before .before .before .before in
     let a = s .args in
     let fit = s .pre .1 .0 in
     let x = fit .few-atoms in
     let lk = s .pre .1 .1 .0 in
-    let at = c .before .before .before .before .before .before .before .before .before .before .before .before .before .before .before .before .loop in
+    let at = c .before .before .before .before .before .before .before .before .before .before .before .before .before .before .before .before .before .before .loop in
     let i = at .inv in
-    let h = c .before .before .before .before .before .before .before .before .before .before .before .before .before .before .before .loop-test .taken in
-    let f = c .before .before .before .before .before .before .before .before .before .before .before .before .before .before .follow in
-    let w : ℕ = f .result .other in
+    let h = c .before .before .before .before .before .before .before .before .before .before .before .before .before .before .before .before .before .loop-test .taken in
+    let f = c .before .before .before .before .before .before .before .before .before .before .before .before .before .before .before .before .follow in
+    let w : ℕ = f .result .other .0 in
     let q = other-below fit (a .v .0) (at .b) h in
     let wn : w < maxAtoms = omega (arith, q, f .ensures .0, x) in
     let room = room-kept (s .pre .1 .1 .1 .0) (i .1) in
     let l = room .number in
-    let k = c .before .before .before .before .before .before .before .before .before .before .before .if2 .left in
+    let k = c .before .before .before .before .before .before .before .before .before .before .before .before .if2 .left in
     let d = c .before .before .before .before .before .add in
-    let z = seen-less (at .number) (d .last .1 .0) w (at .next) (omega arith) (c .before .before .before .before .before .before .before .before .before .before .before .before .if1 .left) (d .ensures .1 .0) in
-    let kept = kept-set (i .1) (at .next) w (a .hub + 1) (getD (a .ks .now) (at .b) 0) (d .ensures .0) (d .ensures .1 .0) (d .ensures .1 .1 .0) (d .ensures .1 .1 .1) in
+    let z = seen-less (at .number) (d .last .1 .0) w (at .next) (omega arith) (c .before .before .before .before .before .before .before .before .before .before .before .before .before .if1 .left) (d .ensures .1 .0) in
+    let kept = kept-set (i .1) (at .next) w (a .hub .0 + 1) (getD (a .ks .now) (at .b) 0) (d .ensures .0) (d .ensures .1 .0) (d .ensures .1 .1 .0) (d .ensures .1 .1 .1) in
     (omega (arith, z, i .0 .fewer, s .pre .0), (fit, (lk, (room-kept (s .pre .1 .1 .1 .0) kept, ((omega arith, head-within lk w wn), head-here lk w wn)))))
 
 visit-loop-less-2 : (t : ℕ) → visit-lts.Need-loop-less-2 (visit-claims t) (visit-at t) visit.Post visit-Inv-loop visit-μ-loop
 visit-loop-less-2 t c =
-    let s = c .before .before .before .before .before .before .before .before .before .before .before .before .before .before .before .before .before .before in
+    let s = c .before .before .before .before .before .before .before .before .before .before .before .before .before .before .before .before .before .before .before .before in
     let a = s .args in
     let lk = s .pre .1 .1 .0 in
-    let at = c .before .before .before .before .before .before .before .before .before .before .before .before .before .before .before .before .before .loop in
+    let at = c .before .before .before .before .before .before .before .before .before .before .before .before .before .before .before .before .before .before .before .loop in
     let i = at .inv in
-    let h = c .before .before .before .before .before .before .before .before .before .before .before .before .before .before .before .before .loop-test .taken in
-    let f = c .before .before .before .before .before .before .before .before .before .before .before .before .before .before .before .follow in
-    let r = next-after-is lk (at .b) (a .v .0) (f .result .next) h (i .0 .here h) (f .ensures .1) in
-    let z = next-after-later lk (at .b) (a .v .0) (f .result .next) h r in
+    let h = c .before .before .before .before .before .before .before .before .before .before .before .before .before .before .before .before .before .before .loop-test .taken in
+    let f = c .before .before .before .before .before .before .before .before .before .before .before .before .before .before .before .before .before .follow in
+    let r = next-after-is lk (at .b) (a .v .0) (f .result .next .0) h (i .0 .here h) (f .ensures .1) in
+    let z = next-after-later lk (at .b) (a .v .0) (f .result .next .0) h r in
     omega arith
 
 visit-loop-again-2 : (t : ℕ) → visit-lts.Need-loop-again-2 (visit-claims t) (visit-at t) visit.Post visit-Inv-loop visit-μ-loop
 visit-loop-again-2 t c =
-    let s = c .before .before .before .before .before .before .before .before .before .before .before .before .before .before .before .before .before .before in
+    let s = c .before .before .before .before .before .before .before .before .before .before .before .before .before .before .before .before .before .before .before .before in
     let a = s .args in
     let fit = s .pre .1 .0 in
     let x = fit .few-atoms in
     let lk = s .pre .1 .1 .0 in
-    let at = c .before .before .before .before .before .before .before .before .before .before .before .before .before .before .before .before .before .loop in
+    let at = c .before .before .before .before .before .before .before .before .before .before .before .before .before .before .before .before .before .before .before .loop in
     let i = at .inv in
-    let h = c .before .before .before .before .before .before .before .before .before .before .before .before .before .before .before .before .loop-test .taken in
-    let f = c .before .before .before .before .before .before .before .before .before .before .before .before .before .before .before .follow in
-    let w : ℕ = f .result .other in
+    let h = c .before .before .before .before .before .before .before .before .before .before .before .before .before .before .before .before .before .before .loop-test .taken in
+    let f = c .before .before .before .before .before .before .before .before .before .before .before .before .before .before .before .before .before .follow in
+    let w : ℕ = f .result .other .0 in
     let q = other-below fit (a .v .0) (at .b) h in
     let wn : w < maxAtoms = omega (arith, q, f .ensures .0, x) in
-    let r = next-after-is lk (at .b) (a .v .0) (f .result .next) h (i .0 .here h) (f .ensures .1) in
+    let r = next-after-is lk (at .b) (a .v .0) (f .result .next .0) h (i .0 .here h) (f .ensures .1) in
     let room = room-kept (s .pre .1 .1 .1 .0) (i .1) in
     let l = room .number in
     let d = c .before .before .before .before .before .before .add in
-    let kept = kept-set (i .1) (at .next) w (a .hub + 1) (getD (a .ks .now) (at .b) 0) (d .ensures .0) (d .ensures .1 .0) (d .ensures .1 .1 .0) (d .ensures .1 .1 .1) in
+    let kept = kept-set (i .1) (at .next) w (a .hub .0 + 1) (getD (a .ks .now) (at .b) 0) (d .ensures .0) (d .ensures .1 .0) (d .ensures .1 .1 .0) (d .ensures .1 .1 .1) in
     let v = c .visit in
-    (left-new fit (f .result .next) h r _ _ _ _ _ _ (i .0) w (getD (a .ks .now) (at .b) 0) (getD (a .head .now) w 0) (f .ensures .0) (c .before .before .before .before .before .before .before .before .before .before .before .before .before .if1 .left) refl (lk .heads w wn) (omega arith) _ _ _ _ (d .ensures .0) (d .ensures .1 .0) (d .ensures .1 .1 .0) (d .ensures .1 .1 .1) _ (v .ensures .0), kept-then kept (v .ensures .1))
+    (left-new fit (f .result .next .0) h r _ _ _ _ _ _ (i .0) w (getD (a .ks .now) (at .b) 0) (getD (a .head .now) w 0) (f .ensures .0) (c .before .before .before .before .before .before .before .before .before .before .before .before .before .before .if1 .left) refl (lk .heads w wn) (omega arith) _ _ _ _ (d .ensures .0) (d .ensures .1 .0) (d .ensures .1 .1 .0) (d .ensures .1 .1 .1) _ (v .ensures .0), kept-then kept (v .ensures .1))
 
 visit-returns-2 : (t : ℕ) → visit-lts.Need-returns-2 (visit-claims t) (visit-at t) visit.Post visit-Inv-loop visit-μ-loop
 visit-returns-2 t c =
@@ -298,9 +298,9 @@ pub +visit-spec : {M : Type 1} → statement M
     (visit-cast-k t)
     (visit-add-add t)
     (visit-add-requires t)
-    (visit-mul-visit t)
-    (visit-element-copy-out-visit t)
-    (visit-cast-visit t)
+    (visit-mul-start t)
+    (visit-element-copy-out-start t)
+    (visit-cast-start t)
     (visit-add-visit t)
     (visit-visit-requires t)
     (visit-loop-less-2 t)

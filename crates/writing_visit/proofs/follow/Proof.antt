@@ -12,35 +12,35 @@ element-copy-out-first c = search needs
 cast-first : tie.Need-cast-first
 cast-first c = search needs
 
-mul-t14 : tie.Need-mul-t14
-mul-t14 c = search needs
+mul-second : tie.Need-mul-second
+mul-second c = search needs
 
-element-copy-out-t17 : tie.Need-element-copy-out-t17
-element-copy-out-t17 c = search needs
+element-copy-out-second : tie.Need-element-copy-out-second
+element-copy-out-second c = search needs
 
-cast-t18 : tie.Need-cast-t18
-cast-t18 c = search needs
+cast-second : tie.Need-cast-second
+cast-second c = search needs
 
-mul-t19 : tie.Need-mul-t19
-mul-t19 c = search needs
+mul-next : tie.Need-mul-next
+mul-next c = search needs
 
-element-copy-out-t22 : tie.Need-element-copy-out-t22
-element-copy-out-t22 c = search needs
+element-copy-out-next : tie.Need-element-copy-out-next
+element-copy-out-next c = search needs
 
-cast-t23 : tie.Need-cast-t23
-cast-t23 c = search needs
+cast-next : tie.Need-cast-next
+cast-next c = search needs
 
 returns : tie.Need-returns
 returns c = let e = eq-eqb _ _ (c .before .before .if1 .taken) in (simp e, simp e)
 
-mul-t9 : tie.Need-mul-t9
-mul-t9 c = search needs
+mul-next-2 : tie.Need-mul-next-2
+mul-next-2 c = search needs
 
-element-copy-out-t12 : tie.Need-element-copy-out-t12
-element-copy-out-t12 c = search needs
+element-copy-out-next-2 : tie.Need-element-copy-out-next-2
+element-copy-out-next-2 c = search needs
 
-cast-t26 : tie.Need-cast-t26
-cast-t26 c = search needs
+cast-next-2 : tie.Need-cast-next-2
+cast-next-2 c = search needs
 
 returns-2 : tie.Need-returns-2
 returns-2 c = let e = ne-eqb _ _ (c .before .if1 .left) in (simp e, simp e)
@@ -52,14 +52,14 @@ follow-spec =
     mul-first
     element-copy-out-first
     cast-first
-    mul-t14
-    element-copy-out-t17
-    cast-t18
-    mul-t19
-    element-copy-out-t22
-    cast-t23
+    mul-second
+    element-copy-out-second
+    cast-second
+    mul-next
+    element-copy-out-next
+    cast-next
     returns
-    mul-t9
-    element-copy-out-t12
-    cast-t26
+    mul-next-2
+    element-copy-out-next-2
+    cast-next-2
     returns-2)

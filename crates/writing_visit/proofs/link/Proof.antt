@@ -54,7 +54,7 @@ loop-again c =
     let y = c .before .before .before .before .note-bond .ensures in
     let z = c .link-bond .ensures in
     noted-step (s .pre .0) (at .inv) (c .before .before .before .before .before .before .before .before .before .before .loop-test .taken)
-    (r .result .first) (r .result .second) (r .result .kind) (r .ensures .0 .0) (r .ensures .0 .1) (r .ensures .1)
+    (r .result .first .0) (r .result .second .0) (r .result .kind) (r .ensures .0 .0) (r .ensures .0 .1) (r .ensures .1)
     _ _ _ _ _ _ _ (z .0) (z .1 .0) (z .1 .1) (y .0) (y .1 .0) (y .1 .1 .0) (y .1 .1 .1)
 
 returns : tie.Need-returns Inv-loop μ-loop

@@ -47,7 +47,7 @@ add-sums : tie.Need-add-sums
 add-sums c =
     let s = c .before .before .before in
     let x = s .args .x in
-    omega (arith, s .pre .1 .1 .1 (x .first), c .before .order .ensures, order-small (x .kind))
+    omega (arith, s .pre .1 .1 .1 (x .first .0), c .before .order .ensures, order-small (x .kind))
 
 element-write-sums : tie.Need-element-write-sums
 element-write-sums c = search needs
@@ -63,7 +63,7 @@ add-sums-2 c =
     let s = c .before .before .before .before in
     let x = s .args .x in
     let o = c .before .before .order in
-    omega (arith, second-bound (s .args .sums .now) (x .first) (x .second) (o .result) (3 * maxBonds) (s .pre .1 .0 .0) (s .pre .1 .1 .1), o .ensures, order-small (x .kind))
+    omega (arith, second-bound (s .args .sums .now) (x .first .0) (x .second .0) (o .result) (3 * maxBonds) (s .pre .1 .0 .0) (s .pre .1 .1 .1), o .ensures, order-small (x .kind))
 
 element-write-sums-2 : tie.Need-element-write-sums-2
 element-write-sums-2 c = search needs

@@ -32,15 +32,15 @@ returns-2 c =
 add-requires : tie.Need-add-requires
 add-requires c κs = search needs
 
-mul-visit : tie.Need-mul-visit
-mul-visit c = search needs
+mul-start : tie.Need-mul-start
+mul-start c = search needs
 
-element-copy-out-visit : tie.Need-element-copy-out-visit
-element-copy-out-visit c = search needs
+element-copy-out-start : tie.Need-element-copy-out-start
+element-copy-out-start c = search needs
 
-cast-visit : tie.Need-cast-visit
-cast-visit c =
-    let s = c .before .before .before .before .before .before .before .before .before .before .before .before .before in
+cast-start : tie.Need-cast-start
+cast-start c =
+    let s = c .before .before .before .before .before .before .before .before .before in
     let a = s .args in
     let fit = s .pre .0 in
     let h : a .a .0 < maxAtoms = omega (arith, fit .few-atoms, s .pre .1 .1 .1) in
@@ -84,9 +84,9 @@ root-spec =
     returns
     returns-2
     add-requires
-    mul-visit
-    element-copy-out-visit
-    cast-visit
+    mul-start
+    element-copy-out-start
+    cast-start
     add-visit
     visit-requires
     returns-3)

@@ -1,6 +1,7 @@
 use Rattle.writer.proofs.Emission.{Onward, onward-start, onward-stop, onward-step, onward-end}
 use Rattle.writer.specs.Emit.{headBytes}
 use Rattle.buffer.specs.Pen.{pen}
+use Rattle.writing_bridges.specs.Slots.{slotCount}
 use borrow.Author.Tests.{not-true, not-false}
 use mathlib.Core.Path.{_≡_, refl, sym, _∙_}
 use lib.ListN.{length, replicate}
@@ -11,7 +12,7 @@ use Rattle.writer.proofs.emit.emit.Tie as tie
 
 abbrev Inv-loop : tie.InvT-loop
 Inv-loop atoms n order up kind last sums los his kinds marks k out₀ slots₀ at₀ x₀ out slots at x =
-    Onward (headBytes atoms order up kind last sums) los his kinds n k (replicate 99 0) (pen out₀ 0) x slots (pen out at) × (x ≤ n) × (length slots ≡ 99) × (length out ≡ length out₀)
+    Onward (headBytes atoms order up kind last sums) los his kinds n k (replicate slotCount 0) (pen out₀ 0) x slots (pen out at) × (x ≤ n) × (length slots ≡ slotCount) × (length out ≡ length out₀)
 
 abbrev μ-loop : tie.MeasureT-loop
 μ-loop atoms n order up kind last sums los his kinds marks k out₀ slots₀ at₀ x₀ out slots at x = n - x

@@ -20,7 +20,7 @@ returns : tie.Need-returns
 returns c = as-is (child-lead _ _ _ _ (c .before .before .before .before .before .before .before .before .before .before .before .before .if1 .taken)) (also (c .before .before .before .before .before .before .before .before .before .before .leave .ensures) (also (c .before .before .before .before .before .before .enter .ensures) (c .before .before .bond-symbol .ensures)))
 
 returns-2 : tie.Need-returns-2
-returns-2 c = as-is (first-lead _ _ _ _ (c .before .if1 .left) (c .if2 .taken)) nothing
+returns-2 c = as-is (first-lead _ _ _ _ (c .before .before .if1 .left) (c .if2 .taken)) nothing
 
 put-requires : tie.Need-put-requires
 put-requires c κs = search needs
@@ -29,7 +29,7 @@ same-length-2 : tie.Need-same-length-2
 same-length-2 c = search needs
 
 returns-3 : tie.Need-returns-3
-returns-3 c = as-is (piece-lead _ _ _ _ (c .before .before .before .before .before .if1 .left) (c .before .before .before .before .if2 .left)) (c .before .before .put .ensures)
+returns-3 c = as-is (piece-lead _ _ _ _ (c .before .before .before .before .before .before .if1 .left) (c .before .before .before .before .if2 .left)) (c .before .before .put .ensures)
 
 pub lead-spec : {M : Type 1} → statement M
 lead-spec =

@@ -1,4 +1,4 @@
-use Rattle.writing_bridges.proofs.Bag.{mark-first, mark-further}
+use Rattle.writing_bridges.proofs.BondArrays.{mark-first, mark-further}
 use borrow.Author.Needs.{needs}
 use Rattle.writing_bridges.proofs.unused.mark.Statement.{statement}
 use Rattle.writing_bridges.proofs.unused.mark.Tie as tie
@@ -10,7 +10,7 @@ cast-result : tie.Need-cast-result
 cast-result c = search needs
 
 returns : tie.Need-returns
-returns c = mark-first _ _ (c .if1 .taken)
+returns c = mark-first _ _ (c .before .if1 .taken)
 
 returns-2 : tie.Need-returns-2
 returns-2 c = mark-further _ _ (c .if1 .left)

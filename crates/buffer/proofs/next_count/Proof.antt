@@ -1,0 +1,17 @@
+use native.Mathlib.Numerals.{add-one}
+use borrow.Author.Tests.{lt-ltb, le-ltb}
+use borrow.Author.Needs.{needs}
+use Rattle.buffer.proofs.next_count.Statement.{statement}
+use Rattle.buffer.proofs.next_count.Tie as tie
+
+add-result : tie.Need-add-result
+add-result c = search needs
+
+returns : tie.Need-returns
+returns c = simp (lt-ltb _ _ (c .if1 .taken)) (add-one _)
+
+returns-2 : tie.Need-returns-2
+returns-2 c = simp (le-ltb _ _ (c .if1 .left))
+
+pub next-count-spec : {M : Type 1} → statement M
+next-count-spec = tie.close (tie.spec add-result returns returns-2)

@@ -1,0 +1,61 @@
+-- What is claimed of reading beside when it refuses: an accepted text, row by row, and reading against the grammar
+use Prim.Native.Nat.{ℕ, _*_, _≤_, _<_}
+use mathlib.Core.Path.{_≡_}
+use mathlib.Core.Bool.{true}
+use mathlib.Core.Logic.{_⊎_}
+use mathlib.Core.List.{List}
+use lib.ListN.{length, getD}
+use lib.IntN.{ℤ, pos}
+use Rattle.valence.specs.Valence.{implied}
+use Rattle.reading_grammar.specs.Grammar.{Text}
+use Rattle.reading_grammar.specs.Place.{Place}
+use Rattle.reading_grammar.specs.declared.State.{State}
+use Rattle.reading_grammar.specs.Machine.{accepting}
+use Rattle.reading_grammar.specs.Fold.{going}
+use Rattle.table.specs.declared.Atom.{Atom}
+use Rattle.table.specs.Limits.{atomCells, bondCells}
+use Rattle.table.specs.Cells.{element, selected}
+use Rattle.table.specs.Rows.{atomRow}
+use Rattle.table_graph.specs.Graph.{bondSum, matchable}
+use Rattle.reading.specs.Memory.{Memory}
+use Rattle.reading.specs.Read.{ReadResult}
+use Rattle.reading.specs.Conditions.{bytesRead, Fits}
+
+-- the row with another count of hydrogens
+abbrev pub withHydrogens : Atom → ℤ → Atom
+withHydrogens x h = record { element = x .element; selected = x .selected; isotope = x .isotope; hydrogens = h; charge = x .charge; extension = x .extension }
+
+-- the hydrogens that an atom outside brackets gets: by its element, its selection and its bonds
+abbrev pub impliedAt : ReadResult → ℕ → ℤ
+impliedAt t a = pos (implied (element (t .atoms) a) (selected (t .atoms) a) (bondSum (t .bonds) (t .bondCount) a))
+
+-- the row of the atom a of an accepted text, given what stood in the table after its last byte
+pub record Given (μ : Memory) (t : ReadResult) (a : ℕ) : Type 0 where
+  pub outside : getD (μ .st .outside) a 0 ≡ 1 → atomRow (t .atoms) a ≡ withHydrogens (atomRow (μ .atoms) a) (impliedAt t a)
+  pub bracket : (getD (μ .st .outside) a 0 ≡ 1 → ⊥) → atomRow (t .atoms) a ≡ atomRow (μ .atoms) a
+
+module _ (s : List ℕ) (atoms bonds : List ℤ) where
+  -- an accepted text, the memory after its last byte, and the rows
+  pub record Accepted (t : ReadResult) : Type 0 where
+    pub fits : Fits s atoms bonds
+    pub state : State
+    pub memory : Memory
+    pub reached : bytesRead s atoms bonds ≡ going state memory
+    pub ends : accepting state ≡ true
+    pub counts : (t .atomCount ≡ memory .st .atoms) × (t .bondCount ≡ memory .st .bonds) × (t .bonds ≡ memory .bonds)
+    pub rows : (a : ℕ) → a < t .atomCount → Given memory t a
+    pub lengths : (length (t .atoms) ≡ length atoms) × (length (t .bonds) ≡ length bonds)
+    pub unused-atoms : (k : ℕ) → atomCells * t .atomCount ≤ k → getD (t .atoms) k (pos 0) ≡ pos 0
+    pub unused-bonds : (k : ℕ) → bondCells * t .bondCount ≤ k → getD (t .bonds) k (pos 0) ≡ pos 0
+    pub no-open-bridge : (r : ℕ) → getD (memory .st .opener) r 0 ≡ 0
+    pub matched : matchable (t .atoms) (t .bonds) (t .atomCount) (t .bondCount) ≡ true
+
+  pub record ReadsTexts (t : ReadResult) : Type 0 where
+    -- what passed 3 to 9 is a text
+    pub text : (t .code ≡ 0) ⊎ ((t .code ≡ 10) ⊎ (t .code ≡ 11)) → Text s
+    -- a text is not refused with 3
+    pub not-3 : Text s → t .code ≡ 3 → ⊥
+    -- 3 stands at the place of the grammar
+    pub place : t .code ≡ 3 → Place s (t .offset)
+    -- where no text can continue: 3 there, or one of 4 to 9 before
+    pub refused : (p : ℕ) → Place s p → ((t .code ≡ 3) × (t .offset ≡ p)) ⊎ ((4 ≤ t .code) × (t .code ≤ 9) × (t .offset < p))

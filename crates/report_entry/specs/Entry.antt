@@ -1,0 +1,66 @@
+-- Entry of the report (01, the program): what it says of a line, by the definitions of the public calls on zeroed buffers of the sizes that 01 asks
+use Prim.Native.Nat.{ℕ, _*_}
+use mathlib.Core.List.{List}
+use mathlib.Core.Bool.{Bool, true, false}
+use lib.ListN.{take, replicate}
+use lib.IntN.{ℤ, pos}
+use lib.Dec.{eqb}
+use Rattle.loops.specs.Loop.{pick}
+use Rattle.table.specs.Limits.{maxAtoms, maxBonds, atomCells, bondCells}
+use Rattle.ids.specs.Limits.{maxText}
+use Rattle.matching.specs.declared.Call.the-variants.{First}
+use Rattle.reading.specs.Read as read
+use Rattle.kekule.specs.Kekule.{Tables, callOn, kekulizedOf}
+use Rattle.writing.specs.Write as write
+use Rattle.report_lines.specs.Format.{acceptedLine, refusedLine}
+
+-- a refusal's code and offset; or the counts of atoms and bonds, the first matching ("placement") and the kekulized ("settled") text
+pub data Entry : Type 0 where
+  refusedAs : ℕ → ℕ → Entry
+  acceptedAs : ℕ → ℕ → List ℕ → List ℕ → Entry
+
+-- ---- a molecule that was read: n atoms and m bonds
+
+-- the row of the first matching
+unfoldable pub firstRow : List ℤ → List ℤ → ℕ → ℕ → List ℕ
+firstRow atoms bonds n m = callOn First atoms bonds n m (replicate maxBonds 0) .row
+
+-- the tables kekulized by it
+unfoldable pub kekuleOf : List ℤ → List ℤ → ℕ → ℕ → Tables
+kekuleOf atoms bonds n m = kekulizedOf atoms bonds n m (firstRow atoms bonds n m)
+
+-- their text
+unfoldable pub writtenOf : List ℤ → List ℤ → ℕ → ℕ → write.WriteResult
+writtenOf atoms bonds n m =
+    write.writeOf (kekuleOf atoms bonds n m .atoms) (kekuleOf atoms bonds n m .bonds) n m (replicate maxText 0) (replicate maxAtoms 0)
+
+-- "A writing refusal is reported with place 0 and counted as refused"
+abbrev pub ofWritten : ℕ → ℕ → List ℕ → write.WriteResult → Entry
+ofWritten n m row w = pick (eqb (w .code) 0) (acceptedAs n m (take m row) (take (w .size) (w .output))) (refusedAs (w .code) 0)
+
+unfoldable pub ofMolecule : List ℤ → List ℤ → ℕ → ℕ → Entry
+ofMolecule atoms bonds n m = ofWritten n m (firstRow atoms bonds n m) (writtenOf atoms bonds n m)
+
+-- ---- a line
+
+abbrev pub ofRead : read.ReadResult → Entry
+ofRead t = pick (eqb (t .code) 0) (ofMolecule (t .atoms) (t .bonds) (t .atomCount) (t .bondCount)) (refusedAs (t .code) (t .offset))
+
+unfoldable pub entryOf : List ℕ → Entry
+entryOf s = ofRead (read.readOf s (replicate (atomCells * maxAtoms) (pos 0)) (replicate (bondCells * maxBonds) (pos 0)))
+
+-- the line of the report, with its number
+abbrev pub lineFor : ℕ → Entry → List ℕ
+lineFor k (refusedAs code offset) = refusedLine k code offset
+lineFor k (acceptedAs atoms bonds row text) = acceptedLine k atoms bonds row text
+
+abbrev pub isAccepted : Entry → Bool
+isAccepted (refusedAs code offset) = false
+isAccepted (acceptedAs atoms bonds row text) = true
+
+-- "reports the first placement and the settled text": line number k of the report is a function of that line alone
+unfoldable pub lineOf : ℕ → List ℕ → List ℕ
+lineOf k s = lineFor k (entryOf s)
+
+unfoldable pub acceptedOf : List ℕ → Bool
+acceptedOf s = isAccepted (entryOf s)
