@@ -24,8 +24,8 @@ use table::Check;
 use table::MAX_ATOMS;
 use table::MAX_BONDS;
 
-// internal: the tables and a row of a length are as long as they have to be.
-pub fn roomy(atoms: &[i32], bonds: &[i32], len: usize) -> bool
+// The tables and a row of a length are as long as they have to be.
+fn roomy(atoms: &[i32], bonds: &[i32], len: usize) -> bool
     ensures { λ r. ⌜ r ≡ roomy (now (atoms .entry)) (now (bonds .entry)) len ⌝ }
 {
     (MAX_BONDS <= len) & table_validity::enough(atoms, bonds)

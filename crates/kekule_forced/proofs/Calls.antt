@@ -71,9 +71,13 @@ module _ (atoms bonds : List ℤ) (n m : ℕ) (row pairs : List ℕ) where
     unfolding firstForcedOn
     first-done f h = h ∙ simp (e, f)
 
--- the test of the buffers, by what `kekule::roomy` told
-pub listed-test : {atoms bonds : List ℤ} {len listed : ℕ} {r : Bool} → r ≡ roomy atoms bonds len → (r && leb maxBonds listed) ≡ roomyList atoms bonds len listed
-listed-test {listed = listed} e = ap (λ (b : Bool). b && leb maxBonds listed) e
+-- the test for the next, which has no list: a list that is long enough asks nothing
+pub row-test : (atoms bonds : List ℤ) (len : ℕ) {r : Bool} → r ≡ roomyList atoms bonds len maxBonds → r ≡ roomy atoms bonds len
+row-test atoms bonds len e = e ∙ and-true (roomy atoms bonds len)
+  where
+    and-true : (b : Bool) → (b && true) ≡ b
+    and-true true = refl
+    and-true false = refl
 
 -- the answer of the engine as an answer of the call
 pub told-as : {a : Answer} {f : Found} {row pairs : List ℕ} {k : ℕ} {o : ForcedOut} → f ≡ foundOf a → forcedOut (foundCode (foundOf a)) row k pairs ≡ o → forcedOut (foundCode f) row k pairs ≡ o

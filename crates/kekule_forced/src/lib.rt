@@ -9,7 +9,7 @@ ghost use Rattle.matching.specs.Model.{reply};
 ghost use Rattle.table_graph.specs.Graph.{matchingOf};
 ghost use Rattle.kekule_answers.specs.Answers.{foundOf, foundCode};
 ghost use Rattle.kekule.specs.Kekule.{out, callOn};
-ghost use Rattle.kekule_forced.specs.Forced.{forcedOf, forcedOut, withList, firstForcedOn};
+ghost use Rattle.kekule_forced.specs.Forced.{forcedOf, forcedOut, withList, roomyList, firstForcedOn};
 use ids::BondId;
 use kekule_answers::Found;
 use kekule_answers::found_of;
@@ -24,6 +24,13 @@ use table::MAX_BONDS;
 pub struct ForcedFirst {
     pub found: Found,
     pub count: usize,
+}
+
+// The tables, a row and a list of these lengths are as long as they have to be.
+fn roomy(atoms: &[i32], bonds: &[i32], len: usize, listed: usize) -> bool
+    ensures { λ r. ⌜ r ≡ roomyList (now (atoms .entry)) (now (bonds .entry)) len listed ⌝ }
+{
+    (MAX_BONDS <= len) & table_validity::enough(atoms, bonds) & (MAX_BONDS <= listed)
 }
 
 // The first matching of valid tables, and the forced list.
@@ -89,7 +96,7 @@ pub fn first_forced(
 ) -> ForcedFirst
     ensures { λ r. ⌜ forcedOut (foundCode (r .found)) (now (row .exit)) (r .count) (now (pairs .exit)) ≡ firstForcedOn (now (atoms .entry)) (now (bonds .entry)) n m (now (row .entry)) (now (pairs .entry)) ⌝ }
 {
-    if !(kekule::roomy(atoms, bonds, row.len()) & (MAX_BONDS <= pairs.len())) {
+    if !roomy(atoms, bonds, row.len(), pairs.len()) {
         return ForcedFirst {
             found: Found::Refused(Refusal::Short),
             count: 0,
@@ -117,7 +124,7 @@ pub fn first_forced(
 pub fn next_forced(atoms: &[i32], bonds: &[i32], n: usize, m: usize, row: &mut [u8]) -> Found
     ensures { λ r. ⌜ out r (now (row .exit)) ≡ callOn Call.Next (now (atoms .entry)) (now (bonds .entry)) n m (now (row .entry)) ⌝ }
 {
-    if !kekule::roomy(atoms, bonds, row.len()) {
+    if !roomy(atoms, bonds, row.len(), MAX_BONDS) {
         return Found::Refused(Refusal::Short);
     }
     if !table_validity::valid(atoms, bonds, n, m) {

@@ -37,7 +37,7 @@ pub never : (a : Bool) → a ≡ true → a ≡ false → ⊥
 never a h k = let z : _≡_ {A = ℕ} 0 1 = cc in omega arith
 
 -- the flags
-pub none-all : (need : List ℕ) → ((v : ℕ) → flagged need v ≡ false) → noneFlagged need ≡ true
+none-all : (need : List ℕ) → ((v : ℕ) → flagged need v ≡ false) → noneFlagged need ≡ true
 unfolding noneFlagged
 none-all [] h = refl
 none-all (k ∷ ks) h = rw (h 0) (none-all ks (λ v. h (suc v)))
@@ -73,7 +73,7 @@ or-false true b h = (cc, cc)
 or-false false b h = (refl, h)
 
 -- an end of a chosen bond wants nobody any more
-pub pair-touched : (b : Bond) (need : List ℕ) (v : ℕ) → touches b v ≡ true → flagged (pair b need) v ≡ false
+pair-touched : (b : Bond) (need : List ℕ) (v : ℕ) → touches b v ≡ true → flagged (pair b need) v ≡ false
 pair-touched b need v h =
     let z : getD (pair b need) v 0 ≡ 0 = or-cases (eqb (b .end1) v) (eqb (b .end2) v) h
     (λ e. stays-clear (set need (b .end1) 0) v (b .end2) (ap (λ (i : ℕ). getD (set need (b .end1) 0) i 0) (sym (eqb-true (b .end1) v e)) ∙ cleared need (b .end1)))
@@ -87,15 +87,15 @@ pair-other b need v h =
     (getD-set-other (set need (b .end1) 0) (b .end2) v 0 0 (λ e. eqb-false (b .end2) v (q .1) (sym e))
     ∙ getD-set-other need (b .end1) v 0 0 (λ e. eqb-false (b .end1) v (q .0) (sym e)))
 
-pub free-touched : (b : Bond) (need : List ℕ) (v : ℕ) → free b need ≡ true → touches b v ≡ true → flagged need v ≡ true
+free-touched : (b : Bond) (need : List ℕ) (v : ℕ) → free b need ≡ true → touches b v ≡ true → flagged need v ≡ true
 free-touched b need v f h = or-cases (eqb (b .end1) v) (eqb (b .end2) v) h
     (λ e. ap (flagged need) (sym (eqb-true (b .end1) v e)) ∙ and-right (b .elided) (flagged need (b .end1)) (and-left (b .elided && flagged need (b .end1)) (flagged need (b .end2)) f))
     (λ e. ap (flagged need) (sym (eqb-true (b .end2) v e)) ∙ and-right (b .elided && flagged need (b .end1)) (flagged need (b .end2)) f)
 
-pub touch1 : (b : Bond) → touches b (b .end1) ≡ true
+touch1 : (b : Bond) → touches b (b .end1) ≡ true
 touch1 b = rw (eq-eqb (b .end1) (b .end1) refl)
 
-pub touch2 : (b : Bond) → touches b (b .end2) ≡ true
+touch2 : (b : Bond) → touches b (b .end2) ≡ true
 touch2 b = rw (eq-eqb (b .end2) (b .end2) refl) (or-true (eqb (b .end1) (b .end2)))
   where
     or-true : (a : Bool) → (a || true) ≡ true

@@ -87,7 +87,7 @@ head-append : (z : Row) (A B : List Row) → true ≡ some? A → headOr z (A ++
 head-append z [] B e = cc
 head-append z (a ∷ A) B e = refl
 
-pub widen : {need row : List ℕ} {k m : ℕ} {A : List Row} {o : Sought} {need′ row′ : List ℕ} (B : List Row) → Tried need row k m A o need′ row′ → (o ≡ Absent → ⊥) → Tried need row k m (A ++ B) o need′ row′
+widen : {need row : List ℕ} {k m : ℕ} {A : List Row} {o : Sought} {need′ row′ : List ℕ} (B : List Row) → Tried need row k m A o need′ row′ → (o ≡ Absent → ⊥) → Tried need row k m (A ++ B) o need′ row′
 widen {need} {row} {k} {m} {A} B t n = record {
   same = t .same;
   front = t .front;

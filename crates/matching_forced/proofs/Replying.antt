@@ -12,7 +12,8 @@ use Rattle.matching.specs.declared.Answer.the-variants.{Given, Absent, Ended}
 use Rattle.matching.specs.Graph.{Bond, isMatching}
 use Rattle.matching.specs.Model.{reply, Shape, BondTables, Searched, allFrom, laterFrom, matchingFrom, part, bondsOf}
 use Rattle.matching.proofs.Enumeration.{first-matching, row-length}
-use Rattle.matching_search.proofs.Reply.{told-as, first-reply, next-reply, later-all, matching-all}
+use Rattle.matching.proofs.Graph.{matching-pairs}
+use Rattle.matching_search.proofs.Reply.{told-as, first-reply, next-reply, matching-all}
 use Rattle.matching_forced.specs.Forced.{forcedFrom, forcedList}
 use Rattle.matching_forced.specs.Steps.{ones, Filled, Roomy, FirstReply, allOf, laterOf, isOf}
 use Rattle.matching_forced.proofs.Turns.{left, list-absent, list-given}
@@ -102,7 +103,9 @@ module _ {ea eb el need row : List ℕ} (s : Shape ea eb el need row 0) {mid : L
   row-is = rw (same, bonds-long (tables-of s)) (sym (matching-all ea eb el need row) ∙ was)
 
   later-is : laterFrom ea eb el mid (part (length ea) row 0) 0 ≡ laterOf (bondsOf ea eb el) mid (take (length ea) row)
-  later-is = later-all ea eb el mid row ∙ rw (bonds-long (tables-of s))
+  later-is =
+      let z : length ea - 0 ≡ length ea = omega arith in
+      rw (z, matching-pairs mid (bondsOf ea eb el)) (rw (bonds-long (tables-of s)))
 
   pub next-told : {r : Bool} {need1 row1 row2 : List ℕ} → length row1 ≡ length row → row2 ≡ take (length ea) row1 ++ replicate (length row1 - length ea) 0
       → Searched mid row 0 (length ea) (laterOf (bondsOf ea eb el) mid (take (length ea) row)) r need1 row1 → {b : Bool} → r ≡ b

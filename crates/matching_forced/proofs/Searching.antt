@@ -21,11 +21,11 @@ use Rattle.matching.specs.Model.{Shape, BondTables, Ends, Searched, allFrom, fr
 use Rattle.matching.proofs.Enumeration.{first-matching, row-length}
 use Rattle.matching.proofs.Claims.{empty-iff}
 use Rattle.matching_search.proofs.Flags.{never, restore}
-use Rattle.matching_search.proofs.Reply.{all-zero}
+use Rattle.matching.proofs.Graph.{matching-pairs}
 use Rattle.matching_engine.specs.Tried.{Tried}
 use Rattle.matching_engine.specs.declared.Sought.{Sought}
 use Rattle.matching_engine.specs.declared.Sought.the-variants.{Found, Absent, GaveUp}
-use Rattle.matching_engine.proofs.Tried.{widen, then-blank, then-certified}
+use Rattle.matching_engine.proofs.Tried.{then-blank, then-certified}
 use Rattle.matching_forced.specs.Forced.{stuck, forces, forcedBond, forcedFrom, pairAt}
 use Rattle.matching_forced.specs.Steps.{backward, undone, ones, Ones, off, lowestFree, freeTotal, pairAll, allOf, takenOf, leftOf, Chosen, Roomy, Filled}
 use Rattle.matching_forced.proofs.Counts.{lowest-range}
@@ -58,6 +58,14 @@ bonds-off (a ∷ ea) [] el k h i l = absurd (omega arith)
 bonds-off (a ∷ ea) (b ∷ eb) [] k h i l = absurd (omega arith)
 bonds-off (a ∷ ea) (b ∷ eb) (e ∷ el) zero h i l = refl
 bonds-off (a ∷ ea) (b ∷ eb) (e ∷ el) (suc k) h i l = ap {B = List Bond} (λ x. record { end1 = a; end2 = b; elided = eqb e 1 } ∷ x) (bonds-off ea eb el k (omega arith) (omega arith) (omega arith))
+
+-- more rows behind those that were searched
+widen : {need row : List ℕ} {m : ℕ} {A : List Row} {o : Sought} {need′ row′ : List ℕ} (B : List Row) → Tried need row 0 m A o need′ row′ → (o ≡ Absent → ⊥) → Tried need row 0 m (A ++ B) o need′ row′
+widen {need} {row} {m} {A} {o} {need′} {row′} B t n = record { same = t .same; front = t .front; back = t .back; found = λ q. more A (t .found q); absent = λ q. absurd (n q) }
+  where
+    more : (A : List Row) → Searched need row 0 m A true need′ row′ → Searched need row 0 m (A ++ B) true need′ row′
+    more [] u = absurd (never (sym (u .told)))
+    more (a ∷ A) u = record { same = u .same; told = refl; wrote = u .wrote }
 
 -- ROWS FOUND, each changed by a step that leaves what stands behind the last bond
 differ : _≡_ {A = ℕ} 0 1 → ⊥
@@ -344,7 +352,9 @@ module _ {ea eb el need row : List ℕ} (s : Shape ea eb el need row 0) {el1 nee
 
 -- ALL MATCHINGS, as the certified search names them, and what follows on the answer of the search under a budget
 pub all-is : {ea eb el need : List ℕ} → BondTables ea eb el need 0 → allFrom ea eb el need 0 ≡ allOf (bondsOf ea eb el) need
-all-is {ea} {eb} {el} {need} t = all-zero ea eb el need ∙ ap (matchings (isMatching need (bondsOf ea eb el))) (sym (bonds-long t))
+all-is {ea} {eb} {el} {need} t =
+    let z : length ea - 0 ≡ length ea = omega arith in
+    ap (λ (p : Row → Bool). matchings p (length ea - 0)) (sym (matching-pairs need (bondsOf ea eb el))) ∙ ap (matchings (isMatching need (bondsOf ea eb el))) z ∙ ap (matchings (isMatching need (bondsOf ea eb el))) (sym (bonds-long t))
 
 module _ {ea eb el need row : List ℕ} (s : Shape ea eb el need row 0) {o : Sought} {need1 row1 : List ℕ} (t : Tried need row 0 (length ea) (allOf (bondsOf ea eb el) need) o need1 row1) where
   tried-from : Tried need row 0 (length ea) (allFrom ea eb el need 0) o need1 row1

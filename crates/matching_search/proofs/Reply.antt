@@ -41,10 +41,10 @@ matching-long p m e es h = row-length m e (and-left (isRow m e) (p e) (first-mat
 sub-zero : (m : ℕ) → m - 0 ≡ m
 sub-zero m = omega arith
 
-pub all-zero : (ea eb el need : List ℕ) → allFrom ea eb el need 0 ≡ matchings (isMatching need (bondsOf ea eb el)) (length ea)
+all-zero : (ea eb el need : List ℕ) → allFrom ea eb el need 0 ≡ matchings (isMatching need (bondsOf ea eb el)) (length ea)
 all-zero ea eb el need = rw (sub-zero (length ea), matching-pairs need (bondsOf ea eb el))
 
-pub later-all : (ea eb el need row : List ℕ)
+later-all : (ea eb el need row : List ℕ)
     → laterFrom ea eb el need (part (length ea) row 0) 0 ≡ matchings (λ s. isMatching need (bondsOf ea eb el) s && before (take (length ea) row) s) (length ea)
 later-all ea eb el need row = rw (sub-zero (length ea), matching-pairs need (bondsOf ea eb el))
 
