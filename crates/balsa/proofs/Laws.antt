@@ -5,6 +5,7 @@ use mathlib.Core.List.{List}
 use lib.IntN.{ℤ}
 use Rattle.kekule.specs.Kekule.{Out, rowOut, Tables, tablesOut}
 use Rattle.kekule.specs.Calls.{Replayed, replayOut}
+use Rattle.kekule_forced.specs.Forced.{ForcedOut, forcedOut}
 use Rattle.reader.specs.declared.ending.Answer.{Answer}
 use Rattle.reader.specs.declared.ending.Answer.the-variants.{Molecule, Refused}
 use Rattle.reader.specs.Ending.{told}
@@ -33,3 +34,6 @@ tables-law {atoms = atoms} {bonds} e g = ap (λ (k : ℕ). tablesOut k atoms bon
 
 pub replay-law : {c d : ℕ} {row codes : List ℕ} {r : Replayed} → c ≡ d → replayOut d row codes ≡ r → replayOut c row codes ≡ r
 replay-law {row = row} {codes} e g = ap (λ (k : ℕ). replayOut k row codes) e ∙ g
+
+pub forced-law : {c d k : ℕ} {row pairs : List ℕ} {o : ForcedOut} → c ≡ d → forcedOut d row k pairs ≡ o → forcedOut c row k pairs ≡ o
+forced-law {k = k} {row} {pairs} e g = ap (λ (x : ℕ). forcedOut x row k pairs) e ∙ g

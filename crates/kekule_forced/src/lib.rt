@@ -96,7 +96,8 @@ pub fn first_forced(
 ) -> ForcedFirst
     ensures { λ r. ⌜ forcedOut (foundCode (r .found)) (now (row .exit)) (r .count) (now (pairs .exit)) ≡ firstForcedOn (now (atoms .entry)) (now (bonds .entry)) n m (now (row .entry)) (now (pairs .entry)) ⌝ }
 {
-    if !roomy(atoms, bonds, row.len(), pairs.len()) {
+    let listed = pairs.len();
+    if !roomy(atoms, bonds, row.len(), listed) {
         return ForcedFirst {
             found: Found::Refused(Refusal::Short),
             count: 0,
