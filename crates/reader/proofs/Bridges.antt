@@ -1,7 +1,7 @@
 -- Bridges: a law for each way that one can go. Assumes nothing.
 use Prim.Native.Nat.{ℕ, zero, suc, _+_, _-_, _≤_, _<_}
 use native.Mathlib.Omega.{arith}
-use mathlib.Core.Path.{_≡_, refl, sym, ap, _∙_}
+use mathlib.Core.Path.{_≡_, refl, sym, ap, _∙_, subst}
 use mathlib.Core.Bool.{Bool, true, false, not}
 use mathlib.Core.List.{List, [], _∷_}
 use lib.ListN.{getD, set}
@@ -9,7 +9,8 @@ use lib.IntN.{ℤ}
 use lib.Dec.{eqb, leb}
 use Rattle.loops.specs.Loop.{pick}
 use Rattle.loops.proofs.Loops.{Left, left-pass, left-fail, left-end}
-use borrow.Author.Tests.{eq-eqb, ne-eqb, eqb-true, leb-false, lt-ltb}
+use borrow.Author.Tests.{eq-eqb, ne-eqb, eqb-true, eqb-false, le-leb, lt-leb, lt-ltb}
+use Rattle.ids.specs.declared.AtomId.{AtomId}
 use Rattle.refusal.specs.declared.Refusal.{Refusal}
 use Rattle.refusal.specs.declared.Refusal.the-variants.{ManyBonds, SelfBridge, RepeatedBond, SymbolClash}
 use Rattle.refusal.specs.Code.{codeOf}
@@ -18,15 +19,16 @@ use Rattle.table.specs.Limits.{maxAtoms, maxBonds}
 use Rattle.table.specs.Rows.{withBond, putBond}
 use Rattle.table.specs.declared.Bond.{Bond}
 use Rattle.reading_state.specs.declared.Fields.{Fields}
-use Rattle.reading_state.specs.State.{Steering, joined, bridged}
+use Rattle.reading_state.specs.declared.Opening.{Opening}
+use Rattle.reading_state.specs.State.{Steering, joined, bridged, openingOf}
 use Rattle.reading.specs.Memory.{Memory, nothing, symbol, kindOf, joins, joinedAlready, clash, meet, between, closeRefusal, moved}
 use Rattle.reading.specs.Act.{Acts, orRefuse, bridgeAct, bridgeBond}
 use Rattle.reading_fields.specs.Rest.{memory}
 use Rattle.reader.specs.declared.bridge.Why.{Why}
 use Rattle.reader.specs.declared.bridge.Closing.{Closing}
 use Rattle.reader.specs.Piece.{kindPending}
-use Rattle.reader.specs.Went.{Fair, Went, refusedAt}
-use Rattle.reader.specs.Bridge.{closingOf, Bridges}
+use Rattle.reader.specs.Outcome.{Bounded}
+use Rattle.reader.specs.Bridge.{Closes, BridgeJoins, Bridges}
 
 module _ (bonds : List ℤ) (a b : ℕ) {m i : ℕ} (l : Left (λ j. not (joins bonds a b j)) m i) where
   pub found : i < m → joins bonds a b i ≡ true → true ≡ joinedAlready bonds m a b
@@ -41,35 +43,29 @@ module _ (bonds : List ℤ) (a b : ℕ) {m i : ℕ} (l : Left (λ j. not (joins 
   none-found h = sym (ap not (left-end l h))
 
 -- ---- the refusals of a bridge that closes
-abbrev byClosing : ℕ → Memory → Closing → Acts
-byClosing p μ (Closing.Bond x) = keeps μ
-byClosing p μ (Closing.Refused r) = refuses (codeOf r) p
+module _ (bonds : List ℤ) (m u h j k : ℕ) where
+  pub closes-many : maxBonds ≤ m → Closes bonds m u h j k (Closing.Refused ManyBonds)
+  unfolding closeRefusal
+  closes-many l p μ = rw (le-leb maxBonds m l)
 
-close-act : (b : List ℤ) (m u h j k p : ℕ) (μ : Memory) → orRefuse (closeRefusal b m u h j k) p μ ≡ byClosing p μ (closingOf b m u h j k)
-unfolding closeRefusal closingOf
-close-act b m u h j k p μ = split (leb maxBonds m) (eqb u h) (joinedAlready b m u h) (clash j k)
-  where
-    split : (t v w x : Bool) → orRefuse (pick t 5 (pick v 7 (pick w 8 (pick x 9 0)))) p μ
-        ≡ byClosing p μ (pick t (Closing.Refused ManyBonds) (pick v (Closing.Refused SelfBridge) (pick w (Closing.Refused RepeatedBond) (pick x (Closing.Refused SymbolClash) (Closing.Bond (between u h (meet j k)))))))
-    split true v w x = refl
-    split false true w x = refl
-    split false false true x = refl
-    split false false false true = refl
-    split false false false false = refl
+  module _ (l : m < maxBonds) where
+    pub closes-self : u ≡ h → Closes bonds m u h j k (Closing.Refused SelfBridge)
+    unfolding closeRefusal
+    closes-self e p μ = rw (lt-leb maxBonds m l, eq-eqb u h e)
 
--- a bridge that closes with a bond: its row, and there is room
-closing-bond : (b : List ℤ) (m u h j k : ℕ) {x : Bond} → closingOf b m u h j k ≡ Closing.Bond x → (x ≡ between u h (meet j k)) × (m < maxBonds)
-unfolding closingOf
-closing-bond b m u h j k {x} e = split (leb maxBonds m) (eqb u h) (joinedAlready b m u h) (clash j k) refl e
-  where
-    split : (t v w y : Bool) → leb maxBonds m ≡ t
-        → pick t (Closing.Refused ManyBonds) (pick v (Closing.Refused SelfBridge) (pick w (Closing.Refused RepeatedBond) (pick y (Closing.Refused SymbolClash) (Closing.Bond (between u h (meet j k)))))) ≡ Closing.Bond x
-        → (x ≡ between u h (meet j k)) × (m < maxBonds)
-    split true v w y q e = absurd (let z : _≡_ {A = ℕ} 0 1 = cc in omega arith)
-    split false true w y q e = absurd (let z : _≡_ {A = ℕ} 0 1 = cc in omega arith)
-    split false false true y q e = absurd (let z : _≡_ {A = ℕ} 0 1 = cc in omega arith)
-    split false false false true q e = absurd (let z : _≡_ {A = ℕ} 0 1 = cc in omega arith)
-    split false false false false q e = (let d : between u h (meet j k) ≡ x = cc in sym d, leb-false maxBonds m q)
+    module _ (n : u ≡ h → ⊥) where
+      pub closes-again : true ≡ joinedAlready bonds m u h → Closes bonds m u h j k (Closing.Refused RepeatedBond)
+      unfolding closeRefusal
+      closes-again e p μ = rw (lt-leb maxBonds m l, ne-eqb u h n, ← e)
+
+      module _ (e : false ≡ joinedAlready bonds m u h) where
+        pub closes-clash : clash j k ≡ true → Closes bonds m u h j k (Closing.Refused SymbolClash)
+        unfolding closeRefusal
+        closes-clash c p μ = rw (lt-leb maxBonds m l, ne-eqb u h n, ← e, c)
+
+        pub closes-bond : {x : Bond} {y : ℕ} → clash j k ≡ false → y ≡ meet j k → x ≡ between u h y → Closes bonds m u h j k (Closing.Bond x)
+        unfolding closeRefusal
+        closes-bond c ey ex = (rw (lt-leb maxBonds m l, ne-eqb u h n, ← e, c), l, ex ∙ ap (between u h) ey)
 
 kind-kept : (k : ℕ) → kindOf (kindPending k) ≡ k
 kind-kept k = split (eqb k 0) refl
@@ -86,37 +82,77 @@ set-le (x ∷ l) zero v n h k (suc i) = k (suc i)
 set-le (x ∷ l) (suc r) v n h k zero = k zero
 set-le (x ∷ l) (suc r) v n h k (suc i) = set-le l r v n h (λ j. k (suc j)) i
 
-module _ (t : Steering) (r k p : ℕ) (b : List ℤ) (g : Fair t) where
+-- ---- where a number was opened
+module _ (t : Steering) (r : ℕ) {x : Opening} (ex : x ≡ openingOf t r) where
+  opened-free : x ≡ Opening.Free → getD (t .opener) r 0 ≡ 0
+  unfolding openingOf
+  opened-free e = split (eqb (getD (t .opener) r 0) 0) refl (sym ex ∙ e)
+    where
+      split : (y : Bool) → eqb (getD (t .opener) r 0) 0 ≡ y → pick y Opening.Free (Opening.At (record { 0 = getD (t .opener) r 0 - 1 }) (getD (t .symbol) r 0)) ≡ Opening.Free → getD (t .opener) r 0 ≡ 0
+      split true q h = eqb-true (getD (t .opener) r 0) 0 q
+      split false q h = absurd (let z : _≡_ {A = ℕ} 0 1 = cc in omega arith)
+
+  opened-at : {u : AtomId} {j : ℕ} → x ≡ Opening.At u j → (getD (t .opener) r 0 ≡ 0 → ⊥) × (u .0 ≡ getD (t .opener) r 0 - 1) × (j ≡ getD (t .symbol) r 0)
+  unfolding openingOf
+  opened-at {u} {j} e = split (eqb (getD (t .opener) r 0) 0) refl (sym ex ∙ e)
+    where
+      split : (y : Bool) → eqb (getD (t .opener) r 0) 0 ≡ y → pick y Opening.Free (Opening.At (record { 0 = getD (t .opener) r 0 - 1 }) (getD (t .symbol) r 0)) ≡ Opening.At u j
+          → (getD (t .opener) r 0 ≡ 0 → ⊥) × (u .0 ≡ getD (t .opener) r 0 - 1) × (j ≡ getD (t .symbol) r 0)
+      split true q h = absurd (let z : _≡_ {A = ℕ} 0 1 = cc in omega arith)
+      split false q h = (eqb-false (getD (t .opener) r 0) 0 q, cc, cc)
+
+  pub opened-small : {u : AtomId} {j : ℕ} → x ≡ Opening.At u j → Bounded t → u .0 < 65536
+  opened-small e g = omega (arith, opened-at e .1, g .opener r)
+
+module _ (t : Steering) (r k p : ℕ) (b : List ℤ) {x : Opening} (ex : x ≡ openingOf t r) where
   -- a bridge that opens
-  pub bridge-opens : {u : Steering} → getD (t .opener) r 0 ≡ 0 → u ≡ joined t r k p → Bridges t r k p b b (record { why = Why.Fine; at = p; st = u })
+  pub bridge-opens : {o′ : List ℕ} → x ≡ Opening.Free → o′ ≡ set (t .offset) r p → Bridges t r k p b b o′ Why.Fine
   unfolding bridgeAct joined
-  bridge-opens {u} z e = let q = eq-eqb (getD (t .opener) r 0) 0 z in
-      let d : u ≡ bridged t r (t .hub .0 + 1) k p (t .bonds) = e ∙ rw q in
-      record {
-        is = λ a i f. rw (q, kind-kept k, d);
-        fair = rw d (record { atoms = g .atoms; bonds = g .bonds; depth = g .depth; hub = g .hub; stack = g .stack; opener = set-le (t .opener) r (t .hub .0 + 1) (maxAtoms + 1) (omega (arith, g .hub)) (g .opener) }, refl);
-      }
+  bridge-opens e eo = let q = eq-eqb (getD (t .opener) r 0) 0 (opened-free t r ex e) in
+      record { is = λ a i f. rw (q, kind-kept k); offsets = eo ∙ rw q; bonds = λ l. rw q l }
 
-  module _ (n : getD (t .opener) r 0 ≡ 0 → ⊥) {c : Closing} (ec : c ≡ closingOf b (t .bonds) (getD (t .opener) r 0 - 1) (t .hub .0) (getD (t .symbol) r 0) k) where
-    act-closes : (a : List ℤ) (i : ℕ) (f : Fields) → bridgeAct r p (memory t a b (kindPending k) i f)
-        ≡ byClosing p (moved (joined t r k p) (bridgeBond r (memory t a b (kindPending k) i f))) c
+  module _ {u : AtomId} {j : ℕ} (e : x ≡ Opening.At u j) (c : Closing) (h : Closes b (t .bonds) (u .0) (t .hub .0) j k c) where
+    free? : eqb (getD (t .opener) r 0) 0 ≡ false
+    free? = ne-eqb (getD (t .opener) r 0) 0 (opened-at t r ex e .0)
+
+    -- the refusal that the action looks for, at the atom and with the symbol of the opening
+    refusal-at : closeRefusal b (t .bonds) (getD (t .opener) r 0 - 1) (t .hub .0) (getD (t .symbol) r 0) k ≡ closeRefusal b (t .bonds) (u .0) (t .hub .0) j k
+    refusal-at = rw (opened-at t r ex e .1, opened-at t r ex e .2)
+
+    act-closes : {n : ℕ} → closeRefusal b (t .bonds) (u .0) (t .hub .0) j k ≡ n → (a : List ℤ) (i : ℕ) (f : Fields) → bridgeAct r p (memory t a b (kindPending k) i f)
+        ≡ orRefuse n p (moved (joined t r k p) (bridgeBond r (memory t a b (kindPending k) i f)))
     unfolding bridgeAct
-    act-closes a i f = rw (ne-eqb (getD (t .opener) r 0) 0 n, kind-kept k, ec) (close-act b (t .bonds) (getD (t .opener) r 0 - 1) (t .hub .0) (getD (t .symbol) r 0) k p _)
+    act-closes z a i f = rw (free?, kind-kept k, refusal-at, z)
 
-    pub bridge-closes : {x : Bond} {b′ : List ℤ} {u : Steering} → c ≡ Closing.Bond x → b′ ≡ putBond b (t .bonds) x → u ≡ joined t r k p → Bridges t r k p b b′ (record { why = Why.Fine; at = p; st = u })
+    pub bridge-closes : {y : Bond} {b′ : List ℤ} {o′ : List ℕ} → c ≡ Closing.Bond y → b′ ≡ putBond b (t .bonds) y → o′ ≡ set (t .offset) r 0 → Bridges t r k p b b′ o′ Why.Fine
     unfolding joined putBond
-    bridge-closes {x} {b′} {u} e eb eu =
-        let w = closing-bond b (t .bonds) (getD (t .opener) r 0 - 1) (t .hub .0) (getD (t .symbol) r 0) k (sym ec ∙ e) in
-        let q = ne-eqb (getD (t .opener) r 0) 0 n in
-        let d : u ≡ bridged t r 0 0 0 (t .bonds + 1) = eu ∙ rw q in
-        let v : b′ ≡ withBond b (t .bonds) (between (getD (t .opener) r 0 - 1) (t .hub .0) (meet (getD (t .symbol) r 0) k)) = eb ∙ rw (lt-ltb (t .bonds) maxBonds (w .1), w .0) in
+    bridge-closes {y} {b′} ec eb eo =
+        let w = subst (Closes b (t .bonds) (u .0) (t .hub .0) j k) ec h in
+        let v : b′ ≡ withBond b (t .bonds) (between (getD (t .opener) r 0 - 1) (t .hub .0) (meet (getD (t .symbol) r 0) k)) = eb ∙ rw (lt-ltb (t .bonds) maxBonds (w .1), w .2, opened-at t r ex e .1, opened-at t r ex e .2) in
         record {
-          is = λ a i f. act-closes a i f ∙ ap (byClosing p (moved (joined t r k p) (bridgeBond r (memory t a b (kindPending k) i f)))) e ∙ rw (q, kind-kept k, d, v);
-          fair = rw d (record { atoms = g .atoms; bonds = omega (arith, w .1); depth = g .depth; hub = g .hub; stack = g .stack; opener = set-le (t .opener) r 0 (maxAtoms + 1) (omega arith) (g .opener) }, refl);
+          is = λ a i f. act-closes (w .0) a i f ∙ rw (kind-kept k, v);
+          offsets = eo ∙ rw free?;
+          bonds = λ l. rw free? (omega (arith, w .1));
         }
 
-    pub bridge-refused : {x : Refusal} {o : Went} → c ≡ Closing.Refused x → o ≡ refusedAt x p t → Bridges t r k p b b o
-    bridge-refused e eo = rw eo (record {
-      is = λ a i f. act-closes a i f ∙ ap (byClosing p (moved (joined t r k p) (bridgeBond r (memory t a b (kindPending k) i f)))) e;
-      fair = tt;
-    })
+    pub bridge-refused : {z : Refusal} (b′ : List ℤ) (o′ : List ℕ) → c ≡ Closing.Refused z → Bridges t r k p b b′ o′ (Why.Refused z p)
+    bridge-refused b′ o′ ec a i f = act-closes refl a i f ∙ subst (Closes b (t .bonds) (u .0) (t .hub .0) j k) ec h p (moved (joined t r k p) (bridgeBond r (memory t a b (kindPending k) i f)))
+
+-- ---- the state after a bridge
+module _ (t : Steering) (r k p : ℕ) where
+  pub bounded-joined : Bounded t → joined t r k p .bonds ≤ maxBonds → Bounded (joined t r k p)
+  unfolding joined
+  bounded-joined g l = split (eqb (getD (t .opener) r 0) 0) refl
+    where
+      split : (y : Bool) → eqb (getD (t .opener) r 0) 0 ≡ y → Bounded (joined t r k p)
+      split true q = rw q (record { atoms = g .atoms; bonds = g .bonds; depth = g .depth; hub = g .hub; stack = g .stack; opener = set-le (t .opener) r (t .hub .0 + 1) (maxAtoms + 1) (omega (arith, g .hub)) (g .opener) })
+      split false q = let m : t .bonds + 1 ≤ maxBonds = subst (λ (z : Bool). pick z (bridged t r (t .hub .0 + 1) k p (t .bonds)) (bridged t r 0 0 0 (t .bonds + 1)) .bonds ≤ maxBonds) q l in
+          rw q (record { atoms = g .atoms; bonds = m; depth = g .depth; hub = g .hub; stack = g .stack; opener = set-le (t .opener) r 0 (maxAtoms + 1) (omega arith) (g .opener) })
+
+  pub joined-deep : joined t r k p .depth ≡ t .depth
+  unfolding joined
+  joined-deep = split (eqb (getD (t .opener) r 0) 0)
+    where
+      split : (y : Bool) → pick y (bridged t r (t .hub .0 + 1) k p (t .bonds)) (bridged t r 0 0 0 (t .bonds + 1)) .depth ≡ t .depth
+      split true = refl
+      split false = refl

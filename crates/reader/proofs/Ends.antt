@@ -44,8 +44,8 @@ use Rattle.reading_fields.proofs.Bytes.{there}
 use Rattle.reader.specs.declared.piece.Joint.{Joint}
 use Rattle.reader.specs.declared.bridge.Why.{Why}
 use Rattle.reader.specs.declared.ending.Answer as reply
-use Rattle.reader.specs.Went.{Fair, Went, refusedAt, PastFine, Past, Goes, Stops, Sequenced}
-use Rattle.reader.specs.Ending.{told, hydrogensBy, hydrogenatedBy, endedOf, answerOf, Unread, TextGoes, TextRead}
+use Rattle.reader.specs.Outcome.{Bounded, Outcome, refusedAt, PastFine, Past, Goes, Stops, Sequenced}
+use Rattle.reader.specs.Ending.{told, hydrogensBy, hydrogenatedBy, endedOf, answerOf, TextGoes, TextRead}
 use Rattle.reader.proofs.Branches.{close-down}
 
 -- ---- the whole text
@@ -55,9 +55,9 @@ unfolding answer rest read feed act step next modeAct started
 start-dot [] a b h = absurd (omega arith)
 start-dot (x ∷ s) a b h = refl
 
-pub fair-started : {u : Steering} → u ≡ started → Fair u
+pub bounded-started : {u : Steering} → u ≡ started → Bounded u
 unfolding started
-fair-started e = rw e (record { atoms = omega arith; bonds = omega arith; depth = omega arith; hub = omega arith; stack = zeros-le maxDepth maxAtoms; opener = zeros-le bridges (maxAtoms + 1) })
+bounded-started e = rw e (record { atoms = omega arith; bonds = omega arith; depth = omega arith; hub = omega arith; stack = zeros-le maxDepth maxAtoms; opener = zeros-le bridges (maxAtoms + 1) })
   where
     zeros-le : (k n i : ℕ) → getD (replicate k 0) i 0 ≤ n
     zeros-le zero n i = omega arith
@@ -65,16 +65,15 @@ fair-started e = rw e (record { atoms = omega arith; bonds = omega arith; depth 
     zeros-le (suc k) n (suc i) = zeros-le k n i
 
 -- a new state with arrays of zeros
-pub unread-started : {st : State} {h u k p x : List ℕ} → Unread h u k p x
-    → steering st (replicate maxDepth 0) (replicate bridges 0) (replicate bridges 0) (replicate bridges 0) (replicate maxAtoms 0) ≡ started → steering st h u k p x ≡ started
-unread-started n e = rw (n .hubs, n .openers, n .symbols, n .offsets, n .outsides) e
+pub new-started : {st : State} {p x : List ℕ} → p ≡ replicate bridges 0 → x ≡ replicate maxAtoms 0 → steering st (replicate bridges 0) (replicate maxAtoms 0) ≡ started → steering st p x ≡ started
+new-started ep ex e = rw (ep, ex) e
 
 pub text-empty : (s : List ℕ) (a b : List ℤ) {u : Steering} → length s ≡ 0 → u ≡ started → TextRead s a b a b (record { why = Why.Fine; at = 0; st = u })
 unfolding answer read accepting
-text-empty [] a b e q = record { is = (0, blank, fair-started q, rw q) }
+text-empty [] a b e q = record { is = (0, blank, bounded-started q, rw q) }
 text-empty (x ∷ s) a b e q = absurd (omega arith)
 
-module _ (s : List ℕ) (a b : List ℤ) (h : length s ≡ 0 → ⊥) {u : Steering} (eu : u ≡ started) {a′ b′ : List ℤ} {o : Went} (g : Sequenced s 0 Joint.Elided u a b a′ b′ o) where
+module _ (s : List ℕ) (a b : List ℤ) (h : length s ≡ 0 → ⊥) {u : Steering} (eu : u ≡ started) {a′ b′ : List ℤ} {o : Outcome} (g : Sequenced s 0 Joint.Elided u a b a′ b′ o) where
   positive : 0 < length s
   positive = split (length s) h
     where
@@ -103,7 +102,7 @@ module _ (s : List ℕ) (a b : List ℤ) (h : length s ≡ 0 → ⊥) {u : Steer
     reached = let y = subst (λ (z : Why). Goes s 0 dot nothing u a b z (o .at) (o .st) a′ b′) w (g .goes) 0 blank in (y .tens, y .draft, begun-at ∙ y .is)
 
     -- a `)` that closes nothing
-    pub text-wrong : {x : Went} → o .at < length s → x ≡ refusedAt Grammar (o .at) (o .st) → TextRead s a b a′ b′ x
+    pub text-wrong : {x : Outcome} → o .at < length s → x ≡ refusedAt Grammar (o .at) (o .st) → TextRead s a b a′ b′ x
     text-wrong l ex = rw ex (record { is = reached .2 ∙ rest-down-stop s (o .at) (seq plain) (memory (o .st) a′ b′ nothing (reached .0) (reached .1)) (there s (o .at)) l (close-down (getD s (o .at) 0) closing) flat })
       where
         closing : getD s (o .at) 0 ≡ 41
@@ -120,7 +119,7 @@ module _ (s : List ℕ) (a b : List ℤ) (h : length s ≡ 0 → ⊥) {u : Steer
     pub text-read : length s ≤ o .at → TextRead s a b a′ b′ o
     text-read l = record {
       is = subst⁻¹ (λ (z : Why). TextGoes s a b a′ b′ z (o .st)) w
-          (reached .0, reached .1, past .fair, reached .2 ∙ ends-flat (memory (o .st) a′ b′ nothing (reached .0) (reached .1)) flat l);
+          (reached .0, reached .1, past .bounded, reached .2 ∙ ends-flat (memory (o .st) a′ b′ nothing (reached .0) (reached .1)) flat l);
     }
 
 -- ---- hydrogens
@@ -226,7 +225,7 @@ module _ (s : List ℕ) (a b : List ℤ) where
     unfolding readOf
     told-long l ex ey = rw (ex, ey, h, lt-leb (length s) maxText l)
 
-    module _ (l : length s ≤ maxText) {a₁ b₁ : List ℤ} (ea : a₁ ≡ zeros a) (eb : b₁ ≡ zeros b) {x y : List ℤ} {o : Went} (g : TextRead s a₁ b₁ x y o) where
+    module _ (l : length s ≤ maxText) {a₁ b₁ : List ℤ} (ea : a₁ ≡ zeros a) (eb : b₁ ≡ zeros b) {x y : List ℤ} {o : Outcome} (g : TextRead s a₁ b₁ x y o) where
       whole : readOf s a b ≡ byAnswer a b (answerOf s a₁ b₁)
       unfolding readOf readFrom answer
       whole = rw (h, le-leb (length s) maxText l, ea, eb) (finished-by (length s) a b (read act 0 (going start (beginning (zeros a) (zeros b))) s))
@@ -237,11 +236,11 @@ module _ (s : List ℕ) (a b : List ℤ) where
           rw (zeros-as a x ea lx ex, zeros-as b y eb ly ey) (sym (whole ∙ ap (byAnswer a b) (subst (λ (z : Why). TextGoes s a₁ b₁ x y z (o .st)) w (g .is))))
 
       module _ (w : o .why ≡ Why.Fine) where
-        fine : (i : ℕ) × (f : Fields) × Fair (o .st) × (answerOf s a₁ b₁ ≡ good (memory (o .st) x y nothing i f))
+        fine : (i : ℕ) × (f : Fields) × Bounded (o .st) × (answerOf s a₁ b₁ ≡ good (memory (o .st) x y nothing i f))
         fine = subst (λ (z : Why). TextGoes s a₁ b₁ x y z (o .st)) w (g .is)
 
-        pub text-fair : Fair (o .st)
-        text-fair = fine .2
+        pub text-bounded : Bounded (o .st)
+        text-bounded = fine .2
 
         pub text-valid : Valid (hydrogenated (o .st .outside) y (o .st .bonds) (o .st .atoms) x) y (o .st .atoms) (o .st .bonds)
         unfolding answer

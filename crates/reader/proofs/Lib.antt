@@ -1,7 +1,6 @@
 pub mod Pieces
 pub mod Atoms
 pub mod Bridges
-pub mod Turns
-pub mod Sequences
 pub mod Branches
+pub mod Turns
 pub mod Ends

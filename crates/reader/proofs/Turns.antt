@@ -1,24 +1,26 @@
--- The loop over the pieces of a chain: a reading that stood where the chain begins stands where the next piece begins. Assumes nothing.
+-- The loop over the pieces of a sequence: a reading that stood where the sequence begins stands where the next piece begins. Assumes nothing.
 use Prim.Native.Nat.{ℕ, _≤_, _<_}
 use native.Mathlib.Omega.{arith}
 use mathlib.Core.Path.{_≡_, refl, ap, _∙_, subst, subst⁻¹}
 use mathlib.Core.Bool.{Bool, true, false}
-use mathlib.Core.List.{List, []}
-use lib.ListN.{length, getD}
+use mathlib.Core.List.{List}
+use lib.ListN.{length, getD, set}
 use lib.IntN.{ℤ}
+use lib.Dec.{eqb}
+use Rattle.loops.specs.Loop.{pick}
 use Rattle.refusal.specs.declared.Refusal.{Refusal}
-use Rattle.refusal.specs.declared.Refusal.the-variants.{Grammar}
+use Rattle.refusal.specs.declared.Refusal.the-variants.{Grammar, DeepBranch}
 use Rattle.refusal.specs.Code.{codeOf}
 use Rattle.reading_grammar.specs.declared.Last.the-variants.{Plain as plain}
 use Rattle.reading_grammar.specs.declared.Mode.{Mode}
 use Rattle.reading_grammar.specs.declared.Mode.the-variants.{Seq as seq, Dot as dot}
 use Rattle.reading_grammar.specs.Fold.{Answer, bad}
 use Rattle.table.specs.Limits.{maxAtoms}
-use Rattle.reading_state.specs.State.{Steering, steering}
+use Rattle.reading_state.specs.State.{Steering, steering, extended, joined}
 use Rattle.reading_state.specs.declared.State.{State}
 use Rattle.reading_state.specs.declared.Fields.{Fields}
-use Rattle.reading_state.specs.Limits.{bridges}
-use Rattle.reading.specs.Memory.{Memory, Pending, nothing, extended}
+use Rattle.reading_state.specs.Limits.{bridges, maxDepth}
+use Rattle.reading.specs.Memory.{Memory, Pending, nothing}
 use Rattle.reading.specs.Act.{bridgeAct}
 use Rattle.reading_fields.specs.Rest.{rest, memory}
 use Rattle.reader.specs.declared.piece.Joint.{Joint}
@@ -26,17 +28,19 @@ use Rattle.reader.specs.declared.piece.Piece.{Piece}
 use Rattle.reader.specs.declared.atom.Added.{Added}
 use Rattle.reader.specs.declared.bridge.Why.{Why}
 use Rattle.reader.specs.Piece.{pendingOf, kindPending, startMode, startPending, afterBridge, Seen, SeenAtom, SeenBridge, SeenBranch, SeenEnd, SeenWrong}
-use Rattle.reader.specs.Added.{Reaches, Adds}
-use Rattle.reader.specs.Went.{Fair, Went, refusedAt, GoesOn}
-use Rattle.reader.specs.Bridge.{Bridged, FairAfter, Bridges}
-use Rattle.reader.specs.Chain.{ChainEnds, Chained}
+use Rattle.reader.specs.Added.{Reaches, bondsAfter, Adds}
+use Rattle.reader.specs.Outcome.{Bounded, Outcome, refusedAt, GoesOn, Goes, PastFine, Past, Stops, Sequenced, Branched, Closable}
+use Rattle.reader.specs.Bridge.{BridgeJoins, Bridges}
+use Rattle.reader.proofs.Bridges.{bounded-joined, joined-deep}
+use Rattle.reader.proofs.Branches.{deep-refused}
 
--- fair without the arrays that a chain or a bridge is not lent
-pub fair-chain : {st : State} {h u k p x : List ℕ} → Fair (steering st h u k p x) → Fair (steering st [] u k p x)
-fair-chain g = record { atoms = g .atoms; bonds = g .bonds; depth = g .depth; hub = g .hub; stack = λ i. omega arith; opener = g .opener }
+-- bounded, whatever the arrays beside the state are
+pub bounded-beside : {st : State} {p x p′ x′ : List ℕ} → Bounded (steering st p x) → Bounded (steering st p′ x′)
+bounded-beside g = record { atoms = g .atoms; bonds = g .bonds; depth = g .depth; hub = g .hub; stack = g .stack; opener = g .opener }
 
-pub fair-bridge : {st : State} {h u k p x : List ℕ} → Fair (steering st h u k p x) → Fair (steering st [] u k p [])
-fair-bridge g = record { atoms = g .atoms; bonds = g .bonds; depth = g .depth; hub = g .hub; stack = λ i. omega arith; opener = g .opener }
+pub closable-beside : (w : Why) (st : State) (p x p′ x′ : List ℕ) → Closable w (steering st p x) → Closable w (steering st p′ x′)
+closable-beside Why.Fine st p x p′ x′ h = (h .0, bounded-beside (h .1))
+closable-beside (Why.Refused c e) st p x p′ x′ h = tt
 
 -- the machine rests only where it is not fresh
 resting-older : (f : Bool) → startMode f ≡ seq plain → f ≡ false
@@ -48,53 +52,53 @@ at-rest : {s : List ℕ} {x : Answer Memory} {p q : ℕ} {m : Mode} {k : Pending
 at-rest {s} {x} {p} {q} {m} {k} {u} {a} {b} e n l y =
     subst (λ (z : Pending). Reaches s x q (seq plain) z u a b) l (subst (λ (z : Mode). Reaches s x q z k u a b) n (subst⁻¹ (λ (z : ℕ). Reaches s x z m k u a b) e y))
 
--- the reading where a chain begins
-abbrev begun : List ℕ → Joint → ℕ → Bool → Steering → List ℤ → List ℤ → ℕ → Fields → Answer Memory
-begun s j p f t a b i d = rest s p (startMode f) (memory t a b (startPending f j) i d)
+-- the reading where a sequence begins
+abbrev begun : List ℕ → Joint → ℕ → Steering → List ℤ → List ℤ → ℕ → Fields → Answer Memory
+begun s j p t a b i d = rest s p dot (memory t a b (pendingOf j) i d)
 
 -- ---- what holds at each turn of the loop, from p₀ in t with the tables a₀, b₀ on
-pub record Turn (s : List ℕ) (j : Joint) (p₀ : ℕ) (f₀ : Bool) (t : Steering) (a₀ b₀ : List ℤ) (p : ℕ) (f : Bool) (u : Steering) (a b : List ℤ) : Type 0 where
-  pub stands : (i : ℕ) (d : Fields) → Reaches s (begun s j p₀ f₀ t a₀ b₀ i d) p (startMode f) (startPending f j) u a b
+pub record Turn (s : List ℕ) (j : Joint) (p₀ : ℕ) (t : Steering) (a₀ b₀ : List ℤ) (p : ℕ) (f : Bool) (u : Steering) (a b : List ℤ) : Type 0 where
+  pub stands : (i : ℕ) (d : Fields) → Reaches s (begun s j p₀ t a₀ b₀ i d) p (startMode f) (startPending f j) u a b
   pub within : p ≤ length s
   pub later : p₀ ≤ p
-  pub moved : f₀ ≡ true → f ≡ false → p₀ < p
-  pub fair : Fair u
+  pub moved : f ≡ false → p₀ < p
+  pub bounded : Bounded u
   pub deep : u .depth ≡ t .depth
   pub long-a : length a ≡ length a₀
   pub long-b : length b ≡ length b₀
 
-module _ {s : List ℕ} {j : Joint} {p₀ : ℕ} {f₀ : Bool} {t : Steering} {a₀ b₀ : List ℤ} where
-  pub turn-start : p₀ ≤ length s → Fair t → Turn s j p₀ f₀ t a₀ b₀ p₀ f₀ t a₀ b₀
+module _ {s : List ℕ} {j : Joint} {p₀ : ℕ} {t : Steering} {a₀ b₀ : List ℤ} where
+  pub turn-start : p₀ ≤ length s → Bounded t → Turn s j p₀ t a₀ b₀ p₀ true t a₀ b₀
   turn-start l g = record {
     stands = λ i d. record { tens = i; draft = d; is = refl };
     within = l;
     later = omega arith;
-    moved = λ e n. let z : _≡_ {A = ℕ} 0 1 = cc in absurd (omega arith);
-    fair = g;
+    moved = λ e. let z : _≡_ {A = ℕ} 0 1 = cc in absurd (omega arith);
+    bounded = g;
     deep = refl;
     long-a = refl;
     long-b = refl;
   }
 
-  refused-chain : {a b : List ℤ} {u : Steering} {o : Went} {c : Refusal} {p : ℕ} → o ≡ refusedAt c p u → ((i : ℕ) (d : Fields) → begun s j p₀ f₀ t a₀ b₀ i d ≡ bad (codeOf c) p) → Chained s p₀ j f₀ t a₀ b₀ a b o
-  refused-chain e h = rw e (record { goes = h; ends = tt })
+  refused-sequence : {a b : List ℤ} {u : Steering} {o : Outcome} {c : Refusal} {p : ℕ} → o ≡ refusedAt c p u → ((i : ℕ) (d : Fields) → begun s j p₀ t a₀ b₀ i d ≡ bad (codeOf c) p) → Sequenced s p₀ j t a₀ b₀ a b o
+  refused-sequence e h = rw e (record { goes = h; past = tt; stops = tt })
 
-  module _ {p : ℕ} {f : Bool} {u : Steering} {a b : List ℤ} (v : Turn s j p₀ f₀ t a₀ b₀ p f u a b) (r : Piece) (h : Seen s p (startMode f) (startPending f j) r) where
+  module _ {p : ℕ} {f : Bool} {u : Steering} {a b : List ℤ} (v : Turn s j p₀ t a₀ b₀ p f u a b) (r : Piece) (h : Seen s p (startMode f) (startPending f j) r) where
     -- ---- after an atom
     module _ {k : Joint} {q : ℕ} (e : r ≡ Piece.Atom k q) where
       atom-seen : SeenAtom s p (startMode f) (startPending f j) k q
       atom-seen = subst (Seen s p (startMode f) (startPending f j)) e h
 
-      atom-stands : (i : ℕ) (d : Fields) → Reaches s (begun s j p₀ f₀ t a₀ b₀ i d) q dot (pendingOf k) u a b
+      atom-stands : (i : ℕ) (d : Fields) → Reaches s (begun s j p₀ t a₀ b₀ i d) q dot (pendingOf k) u a b
       atom-stands i d = let y = v .stands i d in record { tens = y .tens; draft = y .draft; is = y .is ∙ atom-seen .is u a b (y .tens) (y .draft) }
 
       pub atom-lies : q ≤ length s
       atom-lies = atom-seen .within
 
-      module _ (a′ b′ : List ℤ) (y : Added) (g : Adds s q k (u .hub) (u .atoms) (u .bonds) a b a′ b′ y) where
-        module _ {o l m : ℕ} (ey : y ≡ Added.Atom o l m) where
-          atom-added : Adds s q k (u .hub) (u .atoms) (u .bonds) a b a′ b′ (Added.Atom o l m)
-          atom-added = subst (Adds s q k (u .hub) (u .atoms) (u .bonds) a b a′ b′) ey g
+      module _ (a′ b′ : List ℤ) (y : Added) (g : Adds s q k u a b a′ b′ y) where
+        module _ {o m : ℕ} {w : Bool} (ey : y ≡ Added.Atom o w m) where
+          atom-added : Adds s q k u a b a′ b′ (Added.Atom o w m)
+          atom-added = subst (Adds s q k u a b a′ b′) ey g
 
           pub atom-in : m ≤ length s
           atom-in = atom-added .within
@@ -105,27 +109,27 @@ module _ {s : List ℕ} {j : Joint} {p₀ : ℕ} {f₀ : Bool} {t : Steering} {a
           pub atom-room : u .atoms < maxAtoms
           atom-room = atom-added .atoms
 
-          pub turn-atom : length a′ ≡ length a → length b′ ≡ length b → Turn s j p₀ f₀ t a₀ b₀ m false (extended u o l) a′ b′
-          turn-atom ka kb = let w = atom-added in record {
-            stands = λ i d. let y = atom-stands i d in let c = w .is u (refl, refl, refl) (y .tens) (y .draft) in record { tens = c .tens; draft = c .draft; is = y .is ∙ c .is };
+          pub turn-atom : {u′ : Steering} → u′ ≡ extended u o (bondsAfter u w) → length a′ ≡ length a → length b′ ≡ length b → Turn s j p₀ t a₀ b₀ m false u′ a′ b′
+          turn-atom eu ka kb = let w = atom-added in rw eu (record {
+            stands = λ i d. let y = atom-stands i d in let c = w .is (y .tens) (y .draft) in record { tens = c .tens; draft = c .draft; is = y .is ∙ c .is };
             within = atom-in;
             later = omega (arith, v .later, atom-later);
-            moved = λ x n. omega (arith, v .later, atom-later);
-            fair = record { atoms = omega (arith, atom-room); bonds = w .bonds (v .fair .bonds); depth = v .fair .depth; hub = omega (arith, atom-room); stack = v .fair .stack; opener = v .fair .opener };
+            moved = λ n. omega (arith, v .later, atom-later);
+            bounded = record { atoms = omega (arith, atom-room); bonds = w .bonds (v .bounded .bonds); depth = v .bounded .depth; hub = omega (arith, atom-room); stack = v .bounded .stack; opener = v .bounded .opener };
             deep = v .deep;
             long-a = ka ∙ v .long-a;
             long-b = kb ∙ v .long-b;
-          }
+          })
 
-        pub end-atom : {c : Refusal} {m : ℕ} {o : Went} → y ≡ Added.Refused c m → o ≡ refusedAt c m u → Chained s p₀ j f₀ t a₀ b₀ a′ b′ o
-        end-atom ey eo = refused-chain eo (λ i d. let w = subst (Adds s q k (u .hub) (u .atoms) (u .bonds) a b a′ b′) ey g in let z = atom-stands i d in z .is ∙ w .is u (refl, refl, refl) (z .tens) (z .draft))
+        pub end-atom : {c : Refusal} {m : ℕ} {o : Outcome} → y ≡ Added.Refused c m → o ≡ refusedAt c m u → Sequenced s p₀ j t a₀ b₀ a′ b′ o
+        end-atom ey eo = refused-sequence eo (λ i d. let w = subst (Adds s q k u a b a′ b′) ey g in let z = atom-stands i d in z .is ∙ w .is (z .tens) (z .draft))
 
     -- ---- after a bridge
     module _ {n k q m : ℕ} (e : r ≡ Piece.Bridge n k q m) where
       bridge-seen : SeenBridge s p (startMode f) (startPending f j) n k q m
       bridge-seen = subst (Seen s p (startMode f) (startPending f j)) e h
 
-      bridge-stands : (i : ℕ) (d : Fields) → (i′ : ℕ) × (d′ : Fields) × (begun s j p₀ f₀ t a₀ b₀ i d ≡ afterBridge s m (bridgeAct n q (memory u a b (kindPending k) i′ d′)))
+      bridge-stands : (i : ℕ) (d : Fields) → (i′ : ℕ) × (d′ : Fields) × (begun s j p₀ t a₀ b₀ i d ≡ afterBridge s m (bridgeAct n q (memory u a b (kindPending k) i′ d′)))
       bridge-stands i d = let y = v .stands i d in let z = bridge-seen .is u a b (y .tens) (y .draft) in (z .0, y .draft, y .is ∙ z .1)
 
       pub bridge-lies : (n < bridges) × (q < m) × (m ≤ length s)
@@ -134,50 +138,87 @@ module _ {s : List ℕ} {j : Joint} {p₀ : ℕ} {f₀ : Bool} {t : Steering} {a
       pub bridge-later : p < m
       bridge-later = omega (arith, bridge-seen .later, bridge-seen .long)
 
-      module _ {b′ : List ℤ} {o : Went} (g : Bridges u n k q b b′ o) where
-        module _ (w : o .why ≡ Why.Fine) where
-          bridged : Bridged u n k q b b′ Why.Fine (o .st)
-          bridged = subst (λ (z : Why). Bridged u n k q b b′ z (o .st)) w (g .is)
+      module _ (b′ : List ℤ) (o′ : List ℕ) (w : Why) (g : Bridges u n k q b b′ o′ w) where
+        bridge-joins : w ≡ Why.Fine → BridgeJoins u n k q b b′ o′
+        bridge-joins ew = subst (Bridges u n k q b b′ o′) ew g
 
-          still-fair : Fair (o .st) × (o .st .depth ≡ u .depth)
-          still-fair = subst (λ (z : Why). FairAfter u z (o .st)) w (g .fair)
+        pub turn-bridge : w ≡ Why.Fine → {st : State} {x : List ℕ} → steering st (set (u .offset) n (pick (eqb (getD (u .opener) n 0) 0) q 0)) x ≡ joined u n k q → length b′ ≡ length b → Turn s j p₀ t a₀ b₀ m false (steering st o′ x) a b′
+        turn-bridge ew {st} {x} eu kb = let y = bridge-joins ew in
+            let e : steering st o′ x ≡ joined u n k q = ap (λ (z : List ℕ). steering st z x) (y .offsets) ∙ eu in rw e (record {
+              stands = λ i d. let z = bridge-stands i d in record { tens = z .0; draft = z .1; is = z .2 ∙ ap (afterBridge s m) (y .is a (z .0) (z .1)) };
+              within = bridge-lies .2;
+              later = omega (arith, v .later, bridge-later);
+              moved = λ n. omega (arith, v .later, bridge-later);
+              bounded = bounded-joined u n k q (v .bounded) (y .bonds (v .bounded .bonds));
+              deep = joined-deep u n k q ∙ v .deep;
+              long-a = v .long-a;
+              long-b = kb ∙ v .long-b;
+            })
 
-          pub turn-bridge : length b′ ≡ length b → Turn s j p₀ f₀ t a₀ b₀ m false (o .st) a b′
-          turn-bridge kb = record {
-            stands = λ i d. let y = bridge-stands i d in record { tens = y .0; draft = y .1; is = y .2 ∙ ap (afterBridge s m) (bridged a (y .0) (y .1)) };
-            within = bridge-lies .2;
-            later = omega (arith, v .later, bridge-later);
-            moved = λ x n. omega (arith, v .later, bridge-later);
-            fair = still-fair .0;
-            deep = still-fair .1 ∙ v .deep;
-            long-a = v .long-a;
-            long-b = kb ∙ v .long-b;
-          }
+        pub end-bridge : {c : Refusal} {x y : ℕ} {z : Steering} → w ≡ Why.Refused c x → Sequenced s p₀ j t a₀ b₀ a b′ (record { why = w; at = y; st = z })
+        end-bridge {c} {x} {y} {z} ew = rw ew (record {
+          goes = λ i d. let z = bridge-stands i d in z .2 ∙ ap (afterBridge s m) (subst (Bridges u n k q b b′ o′) ew g a (z .0) (z .1));
+          past = tt;
+          stops = tt;
+        })
 
-        pub end-bridge : {c : Refusal} {x : ℕ} → o .why ≡ Why.Refused c x → Chained s p₀ j f₀ t a₀ b₀ a b′ o
-        end-bridge {c} {x} w = record {
-          goes = λ i d. let y = bridge-stands i d in
-              let z : begun s j p₀ f₀ t a₀ b₀ i d ≡ bad (codeOf c) x = y .2 ∙ ap (afterBridge s m) (subst (λ (z : Why). Bridged u n k q b b′ z (o .st)) w (g .is) a (y .0) (y .1)) in
-              subst⁻¹ (λ (z : Why). GoesOn s (begun s j p₀ f₀ t a₀ b₀ i d) z (o .at) (o .st) a b′) w z;
-          ends = subst⁻¹ (λ (z : Why). ChainEnds s p₀ f₀ t z (o .at) (o .st)) w tt;
+    -- ---- after a branch
+    module _ {q : ℕ} (e : r ≡ Piece.Branch q) where
+      branch-seen : SeenBranch s p (startMode f) (startPending f j) q
+      branch-seen = subst (Seen s p (startMode f) (startPending f j)) e h
+
+      branch-stands : (i : ℕ) (d : Fields) → Reaches s (begun s j p₀ t a₀ b₀ i d) q (seq plain) nothing u a b
+      branch-stands i d = at-rest (branch-seen .here) (branch-seen .mode) (branch-seen .joint) (v .stands i d)
+
+      pub branch-moved : p₀ < q
+      branch-moved = omega (arith, branch-seen .here, v .moved (resting-older f (branch-seen .mode)))
+
+      pub branch-lies : q ≡ p
+      branch-lies = branch-seen .here
+
+      pub branch-in : q < length s
+      branch-in = omega (arith, branch-seen .here, branch-seen .within)
+
+      pub branch-byte : getD s q 0 ≡ 40
+      branch-byte = ap (λ (z : ℕ). getD s z 0) (branch-seen .here) ∙ branch-seen .byte
+
+      pub end-deep : {o : Outcome} → maxDepth ≤ u .depth → o ≡ refusedAt DeepBranch q u → Sequenced s p₀ j t a₀ b₀ a b o
+      end-deep l eo = refused-sequence eo (λ i d. let y = branch-stands i d in y .is ∙ deep-refused s q u a b branch-in branch-byte l (y .tens) (y .draft))
+
+      module _ {a′ b′ : List ℤ} {o : Outcome} (g : Branched s q u a b a′ b′ o) where
+        pub branch-past : o .why ≡ Why.Fine → PastFine s q u (o .at) (o .st)
+        branch-past w = subst (λ (z : Why). Past s q u z (o .at) (o .st)) w (g .past)
+
+        pub turn-branch : o .why ≡ Why.Fine → length a′ ≡ length a → length b′ ≡ length b → Turn s j p₀ t a₀ b₀ (o .at) false (o .st) a′ b′
+        turn-branch w ka kb = let y = branch-past w in record {
+          stands = λ i d. let z = branch-stands i d in let c = subst (λ (z : Why). Goes s q (seq plain) nothing u a b z (o .at) (o .st) a′ b′) w (g .goes) (z .tens) (z .draft) in
+              record { tens = c .tens; draft = c .draft; is = z .is ∙ c .is };
+          within = y .within;
+          later = omega (arith, branch-moved, y .later);
+          moved = λ n. omega (arith, branch-moved, y .later);
+          bounded = y .bounded;
+          deep = y .deep ∙ v .deep;
+          long-a = ka ∙ v .long-a;
+          long-b = kb ∙ v .long-b;
         }
 
-    -- ---- at the end of the chain
-    pub end-wrong : {q : ℕ} {o : Went} → r ≡ Piece.Wrong q → o ≡ refusedAt Grammar q u → Chained s p₀ j f₀ t a₀ b₀ a b o
+        pub end-branch : {c : Refusal} {x : ℕ} → o .why ≡ Why.Refused c x → Sequenced s p₀ j t a₀ b₀ a′ b′ o
+        end-branch {c} {x} w = record {
+          goes = subst⁻¹ (λ (z : Why). Goes s p₀ dot (pendingOf j) t a₀ b₀ z (o .at) (o .st) a′ b′) w
+              (λ i d. let y = branch-stands i d in y .is ∙ subst (λ (z : Why). Goes s q (seq plain) nothing u a b z (o .at) (o .st) a′ b′) w (g .goes) (y .tens) (y .draft));
+          past = subst⁻¹ (λ (z : Why). Past s p₀ t z (o .at) (o .st)) w tt;
+          stops = subst⁻¹ (λ (z : Why). Stops s z (o .at)) w tt;
+        }
+
+    -- ---- at the end of the sequence
+    pub end-wrong : {q : ℕ} {o : Outcome} → r ≡ Piece.Wrong q → o ≡ refusedAt Grammar q u → Sequenced s p₀ j t a₀ b₀ a b o
     end-wrong {q} e eo = let w : SeenWrong s p (startMode f) (startPending f j) q = subst (Seen s p (startMode f) (startPending f j)) e h in
-        refused-chain eo (λ i d. let y = v .stands i d in y .is ∙ w .is u a b (y .tens) (y .draft))
+        refused-sequence eo (λ i d. let y = v .stands i d in y .is ∙ w .is u a b (y .tens) (y .draft))
 
-    -- it stops at q, where the machine rests
-    ended : {q : ℕ} → q ≡ p → startMode f ≡ seq plain → startPending f j ≡ nothing → ((getD s q 0 ≡ 40 → ⊥) → (getD s q 0 ≡ 41 → ⊥) → q ≡ length s) → Chained s p₀ j f₀ t a₀ b₀ a b (record { why = Why.Fine; at = q; st = u })
-    ended e m k stops = record {
-      goes = λ i d. at-rest e m k (v .stands i d);
-      ends = record { later = omega (arith, e, v .later); moved = λ x. omega (arith, e, v .moved x (resting-older f m)); within = omega (arith, e, v .within); fair = v .fair; deep = v .deep; stops = stops };
-    }
-
-    pub end-branch : {q : ℕ} → r ≡ Piece.Branch q → Chained s p₀ j f₀ t a₀ b₀ a b (record { why = Why.Fine; at = q; st = u })
-    end-branch {q} e = let w : SeenBranch s p (startMode f) (startPending f j) q = subst (Seen s p (startMode f) (startPending f j)) e h in
-        ended (w .here) (w .mode) (w .joint) (λ n m. absurd (n (ap (λ (z : ℕ). getD s z 0) (w .here) ∙ w .byte)))
-
-    pub end-fine : {q : ℕ} → r ≡ Piece.End q → Chained s p₀ j f₀ t a₀ b₀ a b (record { why = Why.Fine; at = q; st = u })
+    pub end-fine : {q : ℕ} → r ≡ Piece.End q → Sequenced s p₀ j t a₀ b₀ a b (record { why = Why.Fine; at = q; st = u })
     end-fine {q} e = let w : SeenEnd s p (startMode f) (startPending f j) q = subst (Seen s p (startMode f) (startPending f j)) e h in
-        ended (w .here) (w .mode) (w .joint) (λ n m. w .here ∙ w .stops (λ z. m (ap (λ (y : ℕ). getD s y 0) (w .here) ∙ z)))
+        record {
+          goes = λ i d. at-rest (w .here) (w .mode) (w .joint) (v .stands i d);
+          past = record { later = omega (arith, w .here, v .moved (resting-older f (w .mode))); within = omega (arith, w .here, v .within); bounded = v .bounded; deep = v .deep };
+          stops = λ n. w .here ∙ w .stops (λ z. n (ap (λ (y : ℕ). getD s y 0) (w .here) ∙ z));
+        }

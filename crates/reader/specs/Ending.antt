@@ -3,26 +3,25 @@ use Prim.Native.Nat.{ℕ}
 use mathlib.Core.Path.{_≡_}
 use mathlib.Core.Bool.{Bool}
 use mathlib.Core.List.{List}
-use lib.ListN.{getD, set, replicate}
+use lib.ListN.{getD, set}
 use lib.IntN.{ℤ, pos}
 use lib.Dec.{eqb}
 use Rattle.loops.specs.Loop.{pick, run}
 use Rattle.refusal.specs.Code.{codeOf}
 use Rattle.valence.specs.Valence.{implied}
 use Rattle.reading_grammar.specs.Fold.{Answer, good, bad, answer}
-use Rattle.table.specs.Limits.{maxAtoms, HYDROGENS}
+use Rattle.table.specs.Limits.{HYDROGENS}
 use Rattle.table.specs.Cells.{atomPlace, element, selected}
 use Rattle.table_graph.specs.Graph.{matchable}
 use Rattle.reading_state.specs.State.{Steering}
 use Rattle.reading_state.specs.declared.Fields.{Fields}
-use Rattle.reading_state.specs.Limits.{maxDepth, bridges}
 use Rattle.reading.specs.Memory.{Memory, nothing, blank}
 use Rattle.reading.specs.Act.{act}
 use Rattle.reading.specs.Read.{Told, beginning, hydrogenated, ended}
 use Rattle.reading_fields.specs.Rest.{memory}
 use Rattle.reader.specs.declared.bridge.Why.{Why}
 use Rattle.reader.specs.declared.ending.Answer as reply
-use Rattle.reader.specs.Went.{Fair, Went}
+use Rattle.reader.specs.Outcome.{Bounded, Outcome}
 
 -- 0 with the counts, or the refusal's code with its offset and counts of 0; and both tables
 abbrev pub told : reply.Answer → List ℤ → List ℤ → Told
@@ -50,18 +49,10 @@ endedOf t a b = ended (memory t a b nothing 0 blank)
 abbrev pub answerOf : List ℕ → List ℤ → List ℤ → Answer Memory
 answerOf s a b = answer act (beginning a b) s
 
--- the arrays that are lent with a state in which nothing is read yet
-pub record Unread (h u k p x : List ℕ) : Type 0 where
-  pub hubs : h ≡ replicate maxDepth 0
-  pub openers : u ≡ replicate bridges 0
-  pub symbols : k ≡ replicate bridges 0
-  pub offsets : p ≡ replicate bridges 0
-  pub outsides : x ≡ replicate maxAtoms 0
-
 -- the text was read whole: the machine is content with this state and these tables, or refuses as told
 abbrev pub TextGoes : List ℕ → List ℤ → List ℤ → List ℤ → List ℤ → Why → Steering → Type 0
-TextGoes s a b a′ b′ Why.Fine u = (i : ℕ) × (f : Fields) × Fair u × (answerOf s a b ≡ good (memory u a′ b′ nothing i f))
+TextGoes s a b a′ b′ Why.Fine u = (i : ℕ) × (f : Fields) × Bounded u × (answerOf s a b ≡ good (memory u a′ b′ nothing i f))
 TextGoes s a b a′ b′ (Why.Refused r p) u = answerOf s a b ≡ bad (codeOf r) p
 
-pub record TextRead (s : List ℕ) (a b a′ b′ : List ℤ) (o : Went) : Type 0 where
+pub record TextRead (s : List ℕ) (a b a′ b′ : List ℤ) (o : Outcome) : Type 0 where
   pub is : TextGoes s a b a′ b′ (o .why) (o .st)

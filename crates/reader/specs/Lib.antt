@@ -1,6 +1,5 @@
 pub mod Piece
 pub mod Added
-pub mod Went
+pub mod Outcome
 pub mod Bridge
-pub mod Chain
 pub mod Ending

@@ -1,4 +1,4 @@
--- What looking at bytes promises of the next piece
+-- auxiliary: what looking at bytes promises of the next piece
 use Prim.Native.Nat.{ℕ, _≤_, _<_}
 use mathlib.Core.Path.{_≡_}
 use mathlib.Core.List.{List}

@@ -6,12 +6,13 @@ ghost use Rattle.table.specs.Limits.{maxBonds};
 ghost use Rattle.reading_state.specs.Limits.{bridges, maxText};
 ghost use Rattle.reading_state.specs.State.{steering};
 ghost use Rattle.reading.specs.Memory.{joins, joinedAlready, meet, between};
-ghost use Rattle.reader.specs.Went.{Fair, went, refusedAt};
-ghost use Rattle.reader.specs.Bridge.{closingOf, Bridges};
+ghost use Rattle.reader.specs.Outcome.{Bounded, outcome, refusedAt};
+ghost use Rattle.reader.specs.Bridge.{Closes, Bridges};
 use crate::atom::bond_of;
 use ids::AtomId;
 use ids::BondId;
 use reading_state::BRIDGES;
+use reading_state::Opening;
 use reading_state::State;
 use refusal::Refusal;
 use table::Bond;
@@ -42,14 +43,14 @@ pub enum Closing {
 
 // internal: a refusal at an offset.
 pub fn refuse(r: Refusal, at: usize, st: State) -> Out
-    ensures { λ o. ⌜ ((h u k p x : List ℕ) → went o h u k p x ≡ refusedAt r at (steering st h u k p x)) ⌝ }
+    ensures { λ o. ⌜ ((p x : List ℕ) → outcome o p x ≡ refusedAt r at (steering st p x)) ⌝ }
 {
     let why = Why::Refused(r, at);
     Out { why, at, st }
 }
 
 // Whether a bond joins two atoms.
-fn joins(bonds: &[i32], i: BondId, a: AtomId, b: AtomId) -> bool
+fn joins(bonds: &[i32], a: AtomId, b: AtomId, i: BondId) -> bool
     requires { ⌜ i .0 < maxBonds ⌝ }
     ensures { λ r. ⌜ r ≡ joins (now (bonds .entry)) (a .0) (b .0) (i .0) ⌝ }
 {
@@ -61,14 +62,14 @@ fn joins(bonds: &[i32], i: BondId, a: AtomId, b: AtomId) -> bool
     ((x == a.0) & (y == b.0)) | ((x == b.0) & (y == a.0))
 }
 
-// Whether one of m bonds joins two atoms.
-fn joined_already(bonds: &[i32], m: usize, a: AtomId, b: AtomId) -> bool
-    requires { ⌜ m ≤ maxBonds ⌝ }
-    ensures { λ r. ⌜ r ≡ joinedAlready (now (bonds .entry)) m (a .0) (b .0) ⌝ }
+// Whether one of the bonds before m joins two atoms.
+fn joined_already(bonds: &[i32], m: BondId, a: AtomId, b: AtomId) -> bool
+    requires { ⌜ m .0 ≤ maxBonds ⌝ }
+    ensures { λ r. ⌜ r ≡ joinedAlready (now (bonds .entry)) (m .0) (a .0) (b .0) ⌝ }
 {
     let mut i = 0;
-    while i < m {
-        if joins(bonds, BondId(i), a, b) {
+    while i < m.0 {
+        if joins(bonds, a, b, BondId(i)) {
             return true;
         }
         i += 1;
@@ -97,12 +98,12 @@ fn meet(j: u8, k: u8) -> u8
     k
 }
 
-// The bridge that was opened at the atom u with the symbol j, and closes at the hub with k; m bonds stand.
-fn close_at(bonds: &[i32], m: usize, u: AtomId, hub: AtomId, j: u8, k: u8) -> Closing
+// The bridge that was opened at the atom u with the symbol j, and closes at the hub with k; m is the number that its bond gets.
+fn close_at(bonds: &[i32], m: BondId, u: AtomId, hub: AtomId, j: u8, k: u8) -> Closing
     requires { ⌜ (u .0 < 65536) × (hub .0 < 65536) ⌝ }
-    ensures { λ r. ⌜ r ≡ closingOf (now (bonds .entry)) m (u .0) (hub .0) j k ⌝ }
+    ensures { λ r. ⌜ Closes (now (bonds .entry)) (m .0) (u .0) (hub .0) j k r ⌝ }
 {
-    if MAX_BONDS <= m {
+    if MAX_BONDS <= m.0 {
         return Closing::Refused(Refusal::ManyBonds);
     }
     if u.0 == hub.0 {
@@ -117,44 +118,32 @@ fn close_at(bonds: &[i32], m: usize, u: AtomId, hub: AtomId, j: u8, k: u8) -> Cl
     Closing::Bond(between(u, hub, meet(j, k)))
 }
 
-// internal: a bridge with its number, the kind of its symbol, and the offset of its digit or `%`.
+// internal: before a bridge joins, with its number, the kind of its symbol, and the offset of its digit or `%`: the offset of one that opens, the bond of one that closes, or its refusal.
 pub fn bridge(
     st: State,
     number: usize,
     kind: u8,
     at: usize,
     bonds: &mut [i32],
-    openers: &mut [u16; BRIDGES],
-    symbols: &mut [u8; BRIDGES],
     offsets: &mut [u16; BRIDGES],
-) -> Out
-    requires { ⌜ Fair (steering st [] (now openers) (now symbols) (now offsets) []) ⌝ }
+) -> Why
+    requires { ⌜ Bounded (steering st [] []) ⌝ }
     requires { ⌜ number < bridges ⌝ }
     requires { ⌜ at ≤ maxText ⌝ }
-    ensures { λ r. ⌜ ((h x : List ℕ) → Fair (steering st h (now (openers .entry)) (now (symbols .entry)) (now (offsets .entry)) x) → Bridges (steering st h (now (openers .entry)) (now (symbols .entry)) (now (offsets .entry)) x) number kind at (now (bonds .entry)) (now (bonds .exit)) (went r h (now (openers .exit)) (now (symbols .exit)) (now (offsets .exit)) x)) ⌝ }
+    ensures { λ r. ⌜ ((x : List ℕ) → Bridges (steering st (now (offsets .entry)) x) number kind at (now (bonds .entry)) (now (bonds .exit)) (now (offsets .exit)) r) ⌝ }
 {
-    let fine = Why::Fine;
-    let u = openers[number] as usize;
-    if u == 0 {
-        let opened = st.join(number, kind, at, openers, symbols, offsets);
-        return Out {
-            why: fine,
-            at,
-            st: opened,
-        };
-    }
-    let m = st.bonds;
-    let c = close_at(bonds, m, AtomId(u - 1), st.hub, symbols[number], kind);
-    match c {
+    let opening = st.opening(number);
+    let Opening::At(u, j) = opening else {
+        offsets[number] = at as u16;
+        return Why::Fine;
+    };
+    offsets[number] = 0;
+    let m = BondId(st.bonds);
+    match close_at(bonds, m, u, st.hub, j, kind) {
         Closing::Bond(x) => {
-            put_bond(bonds, BondId(m), x);
-            let closed = st.join(number, kind, at, openers, symbols, offsets);
-            Out {
-                why: fine,
-                at,
-                st: closed,
-            }
+            put_bond(bonds, m, x);
+            Why::Fine
         }
-        Closing::Refused(r) => refuse(r, at, st),
+        Closing::Refused(r) => Why::Refused(r, at),
     }
 }

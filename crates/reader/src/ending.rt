@@ -1,6 +1,5 @@
 // After the last byte: open bridges, hydrogens, and whether a matching exists.
 ghost use mathlib.Core.Path.{_≡_};
-ghost use mathlib.Core.List.{List};
 ghost use mathlib.Core.Bool.{true};
 ghost use lib.ListN.{getD};
 ghost use Rattle.reading_state.specs.Limits.{bridges};
@@ -121,7 +120,6 @@ fn complete(
 // internal: what a text that was read whole answers: 10, 11 or the molecule.
 pub fn end(
     st: State,
-    openers: &[u16; BRIDGES],
     offsets: &[u16; BRIDGES],
     outsides: &[u8; MAX_ATOMS],
     atoms: &mut [i32],
@@ -129,9 +127,10 @@ pub fn end(
 ) -> Answer
     requires { ⌜ (st .atoms ≤ maxAtoms) × (st .bonds ≤ maxBonds) ⌝ }
     requires { ⌜ Valid (hydrogenated (now outsides) (now bonds) (st .bonds) (st .atoms) (now atoms)) (now bonds) (st .atoms) (st .bonds) ⌝ }
-    ensures { λ r. ⌜ ((h k : List ℕ) → told r (now (atoms .exit)) (now (bonds .exit)) ≡ endedOf (steering st h (now (openers .entry)) k (now (offsets .entry)) (now (outsides .entry))) (now (atoms .entry)) (now (bonds .entry))) ⌝ }
+    ensures { λ r. ⌜ told r (now (atoms .exit)) (now (bonds .exit)) ≡ endedOf (steering st (now (offsets .entry)) (now (outsides .entry))) (now (atoms .entry)) (now (bonds .entry)) ⌝ }
 {
-    let p = leftmost(openers, offsets);
+    let openers = st.openers;
+    let p = leftmost(&openers, offsets);
     if p < MAX_TEXT {
         clear(atoms);
         clear(bonds);

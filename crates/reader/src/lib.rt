@@ -1,19 +1,20 @@
 // Reading a text into an atom table and a bond table.
 ghost use mathlib.Core.Path.{_≡_};
 ghost use Prim.Native.Nat.{_≤_};
-ghost use lib.ListN.{length};
-ghost use Rattle.reading_state.specs.Limits.{maxText};
+ghost use lib.ListN.{length, replicate};
+ghost use Rattle.table.specs.Limits.{maxAtoms};
+ghost use Rattle.reading_state.specs.Limits.{maxText, bridges};
 ghost use Rattle.reading.specs.Read.{readOf};
-ghost use Rattle.reader.specs.Went.{went};
-ghost use Rattle.reader.specs.Ending.{told, Unread, TextRead};
+ghost use Rattle.reader.specs.Outcome.{outcome};
+ghost use Rattle.reader.specs.Ending.{told, TextRead};
 use crate::bridge::Out;
 use crate::bridge::Why;
 use crate::bridge::refuse;
 use crate::ending::Answer;
 use crate::piece::Joint;
+use crate::piece::Start;
 use crate::sequence::sequence;
 use reading_state::BRIDGES;
-use reading_state::MAX_DEPTH;
 use reading_state::MAX_TEXT;
 use reading_state::State;
 use refusal::Refusal;
@@ -26,20 +27,17 @@ pub mod ending;
 pub mod piece;
 pub mod sequence;
 
-// The whole text, into zeroed tables, with zeroed arrays for the state: empty, or one sequence.
+// The whole text, into zeroed tables, with zeroed arrays beside the state: empty, or one sequence.
 fn read_text(
     text: &[u8],
     atoms: &mut [i32],
     bonds: &mut [i32],
-    hubs: &mut [u16; MAX_DEPTH],
-    openers: &mut [u16; BRIDGES],
-    symbols: &mut [u8; BRIDGES],
-    offsets: &mut [u16; BRIDGES],
     outsides: &mut [u8; MAX_ATOMS],
+    offsets: &mut [u16; BRIDGES],
 ) -> Out
     requires { ⌜ length (now text) ≤ maxText ⌝ }
-    requires { ⌜ Unread (now hubs) (now openers) (now symbols) (now offsets) (now outsides) ⌝ }
-    ensures { λ r. ⌜ TextRead (now (text .entry)) (now (atoms .entry)) (now (bonds .entry)) (now (atoms .exit)) (now (bonds .exit)) (went r (now (hubs .exit)) (now (openers .exit)) (now (symbols .exit)) (now (offsets .exit)) (now (outsides .exit))) ⌝ }
+    requires { ⌜ (now offsets ≡ replicate bridges 0) × (now outsides ≡ replicate maxAtoms 0) ⌝ }
+    ensures { λ r. ⌜ TextRead (now (text .entry)) (now (atoms .entry)) (now (bonds .entry)) (now (atoms .exit)) (now (bonds .exit)) (outcome r (now (offsets .exit)) (now (outsides .exit))) ⌝ }
 {
     let st = State::new();
     if text.len() == 0 {
@@ -50,19 +48,9 @@ fn read_text(
             st,
         };
     }
-    let o = sequence(
-        text,
-        0,
-        Joint::Elided,
-        st,
-        atoms,
-        bonds,
-        hubs,
-        openers,
-        symbols,
-        offsets,
-        outsides,
-    );
+    let none = Joint::Elided;
+    let start = Start { joint: none, at: 0 };
+    let o = sequence(text, start, st, atoms, bonds, outsides, offsets);
     let w = o.why;
     let Why::Fine = w else {
         return o;
@@ -88,26 +76,14 @@ pub fn read(text: &[u8], atoms: &mut [i32], bonds: &mut [i32]) -> Answer
     if MAX_TEXT < text.len() {
         return Answer::Refused(Refusal::LongText, MAX_TEXT);
     }
-    let mut hubs = [0u16; MAX_DEPTH];
-    let mut openers = [0u16; BRIDGES];
-    let mut symbols = [0u8; BRIDGES];
-    let mut offsets = [0u16; BRIDGES];
     let mut outsides = [0u8; MAX_ATOMS];
-    let o = read_text(
-        text,
-        atoms,
-        bonds,
-        &mut hubs,
-        &mut openers,
-        &mut symbols,
-        &mut offsets,
-        &mut outsides,
-    );
+    let mut offsets = [0u16; BRIDGES];
+    let o = read_text(text, atoms, bonds, &mut outsides, &mut offsets);
     let w = o.why;
     match w {
         Why::Fine => {
             let st = o.st;
-            ending::end(st, &openers, &offsets, &outsides, atoms, bonds)
+            ending::end(st, &offsets, &outsides, atoms, bonds)
         }
         Why::Refused(r, p) => {
             clear(atoms);

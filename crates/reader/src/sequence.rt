@@ -1,23 +1,21 @@
-// Chains of atoms and bridges; sequences and branches, each of whose readers calls the other, and the unread byte count falls.
+// Sequences and branches, each of whose readers calls the other, and the unread byte count falls.
 ghost use mathlib.Core.Path.{_≡_};
 ghost use mathlib.Core.List.{List, []};
 ghost use Prim.Native.Nat.{ℕ, _≤_, _<_};
 ghost use lib.ListN.{length, getD};
-ghost use Rattle.reading_state.specs.Limits.{maxText};
+ghost use Rattle.reading_state.specs.Limits.{maxText, maxDepth};
 ghost use Rattle.reading_state.specs.State.{steering};
-ghost use Rattle.reader.specs.Went.{Fair, went, Sequenced, Branched};
-ghost use Rattle.reader.specs.Chain.{Chained};
+ghost use Rattle.reader.specs.Outcome.{Bounded, outcome, Sequenced, Branched, Closable, branchEnded};
 use crate::atom::Added;
 use crate::atom::atom_at;
 use crate::bridge::Out;
 use crate::bridge::Why;
 use crate::bridge::bridge;
 use crate::bridge::refuse;
-use crate::piece::Joint;
 use crate::piece::Piece;
+use crate::piece::Start;
 use crate::piece::joint_at;
 use crate::piece::piece_at;
-use ids::AtomId;
 use reading_fields::byte::peek;
 use reading_state::BRIDGES;
 use reading_state::MAX_DEPTH;
@@ -25,116 +23,67 @@ use reading_state::State;
 use refusal::Refusal;
 use table::MAX_ATOMS;
 
-// Where a chain begins: an offset, the joint before it, and whether it is fresh: it begins with an atom after the joint, else with any piece.
-struct Head(usize, Joint, bool);
-
-// Atoms and bridges from a head on, up to a `(`, a `)` or the end of the text.
-fn chain(
+// internal: an atom after a joint, and any number of pieces.
+pub fn sequence(
     s: &[u8],
-    head: Head,
-    mut st: State,
+    start: Start,
+    from: State,
     atoms: &mut [i32],
     bonds: &mut [i32],
-    openers: &mut [u16; BRIDGES],
-    symbols: &mut [u8; BRIDGES],
-    offsets: &mut [u16; BRIDGES],
     outsides: &mut [u8; MAX_ATOMS],
+    offsets: &mut [u16; BRIDGES],
 ) -> Out
-    requires { ⌜ Fair (steering st [] (now openers) (now symbols) (now offsets) (now outsides)) ⌝ }
-    requires { ⌜ head .0 ≤ length (now s) ⌝ }
+    requires { ⌜ Bounded (steering from [] []) ⌝ }
+    requires { ⌜ start .at ≤ length (now s) ⌝ }
     requires { ⌜ length (now s) ≤ maxText ⌝ }
-    ensures { λ r. ⌜ ((h : List ℕ) → Fair (steering st h (now (openers .entry)) (now (symbols .entry)) (now (offsets .entry)) (now (outsides .entry))) → Chained (now (s .entry)) (head .0) (head .1) (head .2) (steering st h (now (openers .entry)) (now (symbols .entry)) (now (offsets .entry)) (now (outsides .entry))) (now (atoms .entry)) (now (bonds .entry)) (now (atoms .exit)) (now (bonds .exit)) (went r h (now (openers .exit)) (now (symbols .exit)) (now (offsets .exit)) (now (outsides .exit)))) ⌝ }
+    ensures { λ r. ⌜ Sequenced (now (s .entry)) (start .at) (start .joint) (steering from (now (offsets .entry)) (now (outsides .entry))) (now (atoms .entry)) (now (bonds .entry)) (now (atoms .exit)) (now (bonds .exit)) (outcome r (now (offsets .exit)) (now (outsides .exit))) ⌝ }
 {
-    let mut at = head.0;
-    let joint = head.1;
-    let mut fresh = head.2;
+    let joint = start.joint;
+    let mut at = start.at;
+    let mut st = from;
+    let mut fresh = true;
     loop {
         let piece = piece_at(s, at, joint, fresh);
         fresh = false;
         match piece {
-            Piece::Atom(j, q) => {
-                let n = st.atoms;
-                match atom_at(s, q, j, st.hub, n, st.bonds, atoms, bonds) {
-                    Added::Atom(outside, m, p) => {
-                        let h = AtomId(n);
-                        st.hub = h;
-                        st.atoms = n + 1;
-                        st.bonds = m;
-                        outsides[n] = outside;
-                        at = p;
-                    }
-                    Added::Refused(r, e) => return refuse(r, e, st),
+            Piece::Atom(j, q) => match atom_at(s, q, j, st, atoms, bonds) {
+                Added::Atom(outside, bonded, p) => {
+                    let n = st.atoms;
+                    outsides[n] = outside;
+                    let t = st.extend(bonded);
+                    st = t;
+                    at = p;
                 }
-            }
-            Piece::Bridge(r, k, q, p) => {
-                let o = bridge(st, r, k, q, bonds, openers, symbols, offsets);
-                let w = o.why;
-                let Why::Fine = w else {
-                    return o;
+                Added::Refused(r, e) => return refuse(r, e, st),
+            },
+            Piece::Bridge(number, kind, q, p) => {
+                let why = bridge(st, number, kind, q, bonds, offsets);
+                let Why::Fine = why else {
+                    return Out { why, at: q, st };
                 };
-                st = o.st;
+                let t = st.join(number, kind);
+                st = t;
                 at = p;
             }
-            Piece::Branch(at) | Piece::End(at) => {
+            Piece::Branch(q) => {
+                if MAX_DEPTH <= st.depth {
+                    return refuse(Refusal::DeepBranch, q, st);
+                }
+                let o = branch(s, q, st, atoms, bonds, outsides, offsets);
+                let t = o.st;
+                st = t;
+                at = o.at;
+                let why = o.why;
+                let Why::Fine = why else {
+                    return Out { why, at, st };
+                };
+            }
+            Piece::End(at) => {
                 let fine = Why::Fine;
                 return Out { why: fine, at, st };
             }
             Piece::Wrong(q) => return refuse(Refusal::Grammar, q, st),
         }
-    }
-}
-
-// internal: an atom at an offset after a joint, and any number of pieces.
-pub fn sequence(
-    s: &[u8],
-    at: usize,
-    joint: Joint,
-    st: State,
-    atoms: &mut [i32],
-    bonds: &mut [i32],
-    hubs: &mut [u16; MAX_DEPTH],
-    openers: &mut [u16; BRIDGES],
-    symbols: &mut [u8; BRIDGES],
-    offsets: &mut [u16; BRIDGES],
-    outsides: &mut [u8; MAX_ATOMS],
-) -> Out
-    requires { ⌜ Fair (steering st (now hubs) (now openers) (now symbols) (now offsets) (now outsides)) ⌝ }
-    requires { ⌜ at ≤ length (now s) ⌝ }
-    requires { ⌜ length (now s) ≤ maxText ⌝ }
-    ensures { λ r. ⌜ Sequenced (now (s .entry)) at joint (steering st (now (hubs .entry)) (now (openers .entry)) (now (symbols .entry)) (now (offsets .entry)) (now (outsides .entry))) (now (atoms .entry)) (now (bonds .entry)) (now (atoms .exit)) (now (bonds .exit)) (went r (now (hubs .exit)) (now (openers .exit)) (now (symbols .exit)) (now (offsets .exit)) (now (outsides .exit))) ⌝ }
-{
-    let p = Head(at, joint, true);
-    let mut o = chain(s, p, st, atoms, bonds, openers, symbols, offsets, outsides);
-    loop {
-        let w = o.why;
-        let Why::Fine = w else {
-            return o;
-        };
-        let q = o.at;
-        if peek(s, q) != 40 {
-            return o;
-        }
-        let t = o.st;
-        let b = branch(
-            s,
-            q,
-            t,
-            atoms,
-            bonds,
-            hubs,
-            openers,
-            symbols,
-            offsets,
-            outsides,
-        );
-        let v = b.why;
-        let Why::Fine = v else {
-            return b;
-        };
-        let u = b.st;
-        let none = Joint::Elided;
-        let p = Head(b.at, none, false);
-        o = chain(s, p, u, atoms, bonds, openers, symbols, offsets, outsides);
     }
 }
 
@@ -145,52 +94,42 @@ pub fn branch(
     st: State,
     atoms: &mut [i32],
     bonds: &mut [i32],
-    hubs: &mut [u16; MAX_DEPTH],
-    openers: &mut [u16; BRIDGES],
-    symbols: &mut [u8; BRIDGES],
-    offsets: &mut [u16; BRIDGES],
     outsides: &mut [u8; MAX_ATOMS],
+    offsets: &mut [u16; BRIDGES],
 ) -> Out
-    requires { ⌜ Fair (steering st (now hubs) (now openers) (now symbols) (now offsets) (now outsides)) ⌝ }
+    requires { ⌜ Bounded (steering st [] []) ⌝ }
+    requires { ⌜ st .depth < maxDepth ⌝ }
     requires { ⌜ at < length (now s) ⌝ }
     requires { ⌜ getD (now s) at 0 ≡ 40 ⌝ }
     requires { ⌜ length (now s) ≤ maxText ⌝ }
-    ensures { λ r. ⌜ Branched (now (s .entry)) at (steering st (now (hubs .entry)) (now (openers .entry)) (now (symbols .entry)) (now (offsets .entry)) (now (outsides .entry))) (now (atoms .entry)) (now (bonds .entry)) (now (atoms .exit)) (now (bonds .exit)) (went r (now (hubs .exit)) (now (openers .exit)) (now (symbols .exit)) (now (offsets .exit)) (now (outsides .exit))) ⌝ }
+    ensures { λ r. ⌜ Branched (now (s .entry)) at (steering st (now (offsets .entry)) (now (outsides .entry))) (now (atoms .entry)) (now (bonds .entry)) (now (atoms .exit)) (now (bonds .exit)) (outcome r (now (offsets .exit)) (now (outsides .exit))) ⌝ }
 {
-    let d = st.depth;
-    if MAX_DEPTH <= d {
-        return refuse(Refusal::DeepBranch, at, st);
-    }
-    let inner = st.open(hubs);
+    let inner = st.open();
     let start = joint_at(s, at + 1);
-    let joint = start.joint;
-    let o = sequence(
-        s,
-        start.at,
-        joint,
-        inner,
-        atoms,
-        bonds,
-        hubs,
-        openers,
-        symbols,
-        offsets,
-        outsides,
-    );
+    let o = sequence(s, start, inner, atoms, bonds, outsides, offsets);
+    end_branch(s, o)
+}
+
+// The end of a branch: it closes at its `)`, and the hub is again what it was.
+fn end_branch(s: &[u8], o: Out) -> Out
+    requires { ⌜ length (now s) ≤ maxText ⌝ }
+    requires { ⌜ Closable (o .why) (steering (o .st) [] []) ⌝ }
+    ensures { λ r. ⌜ ((p x : List ℕ) → outcome r p x ≡ branchEnded (now (s .entry)) (outcome o p x)) ⌝ }
+{
     let w = o.why;
     let Why::Fine = w else {
         return o;
     };
     let e = o.at;
     let t = o.st;
-    if peek(s, e) == 41 {
-        let back = t.close(hubs);
-        let fine = Why::Fine;
-        return Out {
-            why: fine,
-            at: e + 1,
-            st: back,
-        };
+    if peek(s, e) != b')' {
+        return refuse(Refusal::Grammar, e, t);
     }
-    refuse(Refusal::Grammar, e, t)
+    let back = t.close();
+    let fine = Why::Fine;
+    Out {
+        why: fine,
+        at: e + 1,
+        st: back,
+    }
 }

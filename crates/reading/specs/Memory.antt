@@ -12,6 +12,7 @@ use Rattle.table.specs.Limits.{maxAtoms, maxBonds}
 use Rattle.table.specs.Cells.{end1, end2}
 use Rattle.table.specs.Rows.{withAtom, withBond}
 use Rattle.reading_state.specs.State.{Steering}
+pub use Rattle.reading_state.specs.State.{extended}
 use Rattle.reading_state.specs.declared.Fields.{Fields}
 
 -- what stands before the next atom or bridge: nothing, a dot, or a bond symbol of a kind
@@ -71,21 +72,6 @@ abbrev pub between : ℕ → ℕ → ℕ → Bond
 between a b k = pick (ltb a b) (bondRow a b k) (bondRow b a k)
 
 -- ---- a new atom
-
--- one atom more, which is the hub; x: 1 if it stands outside brackets
-abbrev pub extended : Steering → ℕ → ℕ → Steering
-extended s x m =
-    record {
-      hub = record { 0 = s .atoms };
-      atoms = s .atoms + 1;
-      bonds = m;
-      depth = s .depth;
-      stack = s .stack;
-      opener = s .opener;
-      symbol = s .symbol;
-      offset = s .offset;
-      outside = set (s .outside) (s .atoms) x;
-    }
 
 -- the next atom is bonded to the hub: it is not the first, and no dot stands before it
 abbrev pub bonded : Memory → Bool

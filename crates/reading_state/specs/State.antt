@@ -8,6 +8,7 @@ use Rattle.ids.specs.declared.AtomId.{AtomId}
 use Rattle.table.specs.Limits.{maxAtoms}
 use Rattle.reading_state.specs.Limits.{maxDepth, bridges}
 use Rattle.reading_state.specs.declared.State.{State}
+use Rattle.reading_state.specs.declared.Opening.{Opening}
 
 pub record Steering : Type 0 where
   -- the atom to which the next one is joined
@@ -26,17 +27,17 @@ pub record Steering : Type 0 where
   -- 1 for each atom that stood outside brackets
   pub outside : List ℕ
 
--- the code's state and the five arrays that are lent with it
-abbrev pub steering : State → List ℕ → List ℕ → List ℕ → List ℕ → List ℕ → Steering
-steering s h u k p x =
+-- the code's state, and the two arrays that are lent beside it: the offsets of openings, and which atoms stood outside brackets
+abbrev pub steering : State → List ℕ → List ℕ → Steering
+steering s p x =
     record {
       hub = s .hub;
       atoms = s .atoms;
       bonds = s .bonds;
       depth = s .depth;
-      stack = h;
-      opener = u;
-      symbol = k;
+      stack = s .hubs;
+      opener = s .openers;
+      symbol = s .symbols;
       offset = p;
       outside = x;
     }
@@ -54,6 +55,21 @@ started =
       symbol = replicate bridges 0;
       offset = replicate bridges 0;
       outside = replicate maxAtoms 0;
+    }
+
+-- one atom more, which is the hub; x: 1 if it stands outside brackets; m: the bonds then
+abbrev pub extended : Steering → ℕ → ℕ → Steering
+extended s x m =
+    record {
+      hub = record { 0 = s .atoms };
+      atoms = s .atoms + 1;
+      bonds = m;
+      depth = s .depth;
+      stack = s .stack;
+      opener = s .opener;
+      symbol = s .symbol;
+      offset = s .offset;
+      outside = set (s .outside) (s .atoms) x;
     }
 
 -- "(": the hub is remembered
@@ -85,6 +101,10 @@ closed s =
       offset = s .offset;
       outside = s .outside;
     }
+
+-- where a bridge number was opened: nowhere, or at an atom with a symbol of a kind
+unfoldable pub openingOf : Steering → ℕ → Opening
+openingOf s r = pick (eqb (getD (s .opener) r 0) 0) Opening.Free (Opening.At (record { 0 = getD (s .opener) r 0 - 1 }) (getD (s .symbol) r 0))
 
 -- a bridge number with another opener (the atom and one; 0: free), symbol and offset, and a bond count
 abbrev pub bridged : Steering → ℕ → ℕ → ℕ → ℕ → ℕ → Steering

@@ -20,7 +20,7 @@ same-length-2 : tie.Need-same-length-2
 same-length-2 c = search needs
 
 returns : tie.Need-returns
-returns c = λ h k. ended-open _ _ _ (c .before .before .before .before .before .before .before .leftmost .ensures) (c .before .before .before .before .before .before .if1 .taken) (c .before .before .before .before .clear .ensures) (c .before .clear2 .ensures)
+returns c = ended-open _ _ _ (c .before .before .before .before .before .before .before .leftmost .ensures) (c .before .before .before .before .before .before .if1 .taken) (c .before .before .before .before .clear .ensures) (c .before .clear2 .ensures)
 
 complete-requires : tie.Need-complete-requires
 complete-requires c κs = search needs
@@ -34,7 +34,7 @@ same-length-4 c = search needs
 returns-2 : tie.Need-returns-2
 returns-2 c =
     let e = c .before .before .complete .ensures in
-    λ h k. ended-matched _ _ _ (c .before .before .before .before .before .before .leftmost .ensures) (c .before .before .before .before .before .if1 .left) (e .hydrogens) (sym (e .matched) ∙ c .if2 .taken)
+    ended-matched _ _ _ (c .before .before .before .before .before .before .leftmost .ensures) (c .before .before .before .before .before .if1 .left) (e .hydrogens) (sym (e .matched) ∙ c .if2 .taken)
 
 clear-requires-3 : tie.Need-clear-requires-3
 clear-requires-3 c κs = search needs
@@ -51,7 +51,7 @@ same-length-6 c = search needs
 returns-3 : tie.Need-returns-3
 returns-3 c =
     let e = c .before .before .before .before .before .before .before .before .complete .ensures in
-    λ h k. ended-unmatched _ _ _ (c .before .before .before .before .before .before .before .before .before .before .before .before .leftmost .ensures) (c .before .before .before .before .before .before .before .before .before .before .before .if1 .left) (e .hydrogens) (sym (e .matched) ∙ c .before .before .before .before .before .before .if2 .left) (c .before .before .before .before .clear3 .ensures) (c .before .clear4 .ensures)
+    ended-unmatched _ _ _ (c .before .before .before .before .before .before .before .before .before .before .before .before .leftmost .ensures) (c .before .before .before .before .before .before .before .before .before .before .before .if1 .left) (e .hydrogens) (sym (e .matched) ∙ c .before .before .before .before .before .before .if2 .left) (c .before .before .before .before .clear3 .ensures) (c .before .clear4 .ensures)
 
 pub end-spec : {M : Type 1} → statement M
 end-spec =

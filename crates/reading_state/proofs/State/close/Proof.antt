@@ -10,8 +10,8 @@ sub-d c = search needs
 mul-h : tie.Need-mul-h
 mul-h c = search needs
 
-element-copy-out-h : tie.Need-element-copy-out-h
-element-copy-out-h c = search needs
+array-read-h : tie.Need-array-read-h
+array-read-h c = search needs
 
 cast-hubs : tie.Need-cast-hubs
 cast-hubs c = search needs
@@ -19,14 +19,13 @@ cast-hubs c = search needs
 mul-hubs : tie.Need-mul-hubs
 mul-hubs c = search needs
 
-element-write-hubs : tie.Need-element-write-hubs
-element-write-hubs c = search needs
+array-write-hubs : tie.Need-array-write-hubs
+array-write-hubs c = search needs
 
 returns : tie.Need-returns
 unfolding closed
-returns c = λ u k p x. refl
+returns c = λ p x. refl
 
 pub close-spec : {M : Type 1} → statement M
 close-spec =
-    tie.close
-    (tie.spec sub-d mul-h element-copy-out-h cast-hubs mul-hubs element-write-hubs returns)
+    tie.close (tie.spec sub-d mul-h array-read-h cast-hubs mul-hubs array-write-hubs returns)

@@ -7,8 +7,8 @@ use Rattle.reading_state.proofs.State.join.Tie as tie
 mul-if1 : tie.Need-mul-if1
 mul-if1 c = search needs
 
-element-copy-out-if1 : tie.Need-element-copy-out-if1
-element-copy-out-if1 c = search needs
+array-read-if1 : tie.Need-array-read-if1
+array-read-if1 c = search needs
 
 add-openers : tie.Need-add-openers
 add-openers c = search needs
@@ -19,66 +19,46 @@ cast-openers c = search needs
 mul-openers : tie.Need-mul-openers
 mul-openers c = search needs
 
-element-write-openers : tie.Need-element-write-openers
-element-write-openers c = search needs
+array-write-openers : tie.Need-array-write-openers
+array-write-openers c = search needs
 
-element-write-symbols : tie.Need-element-write-symbols
-element-write-symbols c = search needs
-
-cast-offsets : tie.Need-cast-offsets
-cast-offsets c = search needs
-
-mul-offsets : tie.Need-mul-offsets
-mul-offsets c = search needs
-
-element-write-offsets : tie.Need-element-write-offsets
-element-write-offsets c = search needs
+array-write-symbols : tie.Need-array-write-symbols
+array-write-symbols c = search needs
 
 returns : tie.Need-returns
 unfolding joined
-returns c = λ h x. simp (eq-eqb _ _ (c .if1 .taken))
+returns c = λ p x i. simp (eq-eqb _ _ (c .if1 .taken))
 
 mul-openers-2 : tie.Need-mul-openers-2
 mul-openers-2 c = search needs
 
-element-write-openers-2 : tie.Need-element-write-openers-2
-element-write-openers-2 c = search needs
+array-write-openers-2 : tie.Need-array-write-openers-2
+array-write-openers-2 c = search needs
 
-element-write-symbols-2 : tie.Need-element-write-symbols-2
-element-write-symbols-2 c = search needs
-
-mul-offsets-2 : tie.Need-mul-offsets-2
-mul-offsets-2 c = search needs
-
-element-write-offsets-2 : tie.Need-element-write-offsets-2
-element-write-offsets-2 c = search needs
+array-write-symbols-2 : tie.Need-array-write-symbols-2
+array-write-symbols-2 c = search needs
 
 add-self : tie.Need-add-self
 add-self c = search needs
 
 returns-2 : tie.Need-returns-2
 unfolding joined
-returns-2 c = λ h x. simp (ne-eqb _ _ (c .if1 .left))
+returns-2 c = λ p x i. simp (ne-eqb _ _ (c .before .if1 .left))
 
 pub join-spec : {M : Type 1} → statement M
 join-spec =
     tie.close
     (tie.spec
     mul-if1
-    element-copy-out-if1
+    array-read-if1
     add-openers
     cast-openers
     mul-openers
-    element-write-openers
-    element-write-symbols
-    cast-offsets
-    mul-offsets
-    element-write-offsets
+    array-write-openers
+    array-write-symbols
     returns
     mul-openers-2
-    element-write-openers-2
-    element-write-symbols-2
-    mul-offsets-2
-    element-write-offsets-2
+    array-write-openers-2
+    array-write-symbols-2
     add-self
     returns-2)

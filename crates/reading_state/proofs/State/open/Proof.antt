@@ -10,15 +10,15 @@ cast-hubs c = search needs
 mul-hubs : tie.Need-mul-hubs
 mul-hubs c = search needs
 
-element-write-hubs : tie.Need-element-write-hubs
-element-write-hubs c = search needs
+array-write-hubs : tie.Need-array-write-hubs
+array-write-hubs c = search needs
 
 add-self : tie.Need-add-self
 add-self c = search needs
 
 returns : tie.Need-returns
 unfolding opened
-returns c = λ u k p x. refl
+returns c = λ p x. refl
 
 pub open-spec : {M : Type 1} → statement M
-open-spec = tie.close (tie.spec cast-hubs mul-hubs element-write-hubs add-self returns)
+open-spec = tie.close (tie.spec cast-hubs mul-hubs array-write-hubs add-self returns)
