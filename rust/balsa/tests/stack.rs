@@ -1,10 +1,10 @@
-//! Reading needs no more than 64 KiB of stack: a thread that has no more reads what nests and searches deepest.
+//! Reading needs no more than 192 KiB of stack: a thread that has no more reads what nests and searches deepest.
 
 use balsa::tables::{self, Counts, ATOM_TABLE, BOND_TABLE};
 use balsa::Code;
 use std::thread;
 
-const STACK: usize = 64 * 1024;
+const STACK: usize = 192 * 1024;
 
 /// 56 hexagons in a parallelogram.
 const HEXAGONS: &str = "c1cc2cc3cc4cc5cc6cc7ccc8c9c7c7c6c6c5c5c4c4c3c3c2c(c1)cc1c3c2c4c3c5c4c6c5c7c6c9c7c(c8)cc8c9c7c7c6c6c5c5c4c4c3c3c2c(c1)cc1c3c2c4c3c5c4c6c5c7c6c9c7c(c8)cc8c9c7c7c6c6c5c5c4c4c3c3c2c(c1)cc1c3c2c4c3c5c4c6c5c7c6c9c7c(c8)cc8c9c7c7c6c6c5c5c4c4c3c3c2c(c1)ccc3cc4cc5cc6cc7cc9ccc8";
