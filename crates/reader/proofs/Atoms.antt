@@ -1,5 +1,5 @@
 -- One atom more: a law for each way that it can go. Assumes nothing.
-use Prim.Native.Nat.{ℕ, _+_, _≤_, _<_}
+use Prim.Native.Nat.{ℕ, _≤_, _<_}
 use native.Mathlib.Omega.{arith}
 use mathlib.Core.Path.{_≡_, refl, sym, ap, _∙_, subst}
 use mathlib.Core.Bool.{Bool, true, false, _&&_}
@@ -19,7 +19,7 @@ use Rattle.table.specs.Limits.{maxAtoms, maxBonds}
 use Rattle.table.specs.Rows.{withAtom, putAtom, withBond, putBond}
 use Rattle.table.specs.declared.Atom.{Atom}
 use Rattle.table.specs.declared.Bond.{Bond}
-use Rattle.reading_state.specs.State.{Steering, extended}
+use Rattle.reading_state.specs.State.{Steering, withNextAtom}
 use Rattle.reading_state.specs.declared.Fields.{Fields}
 use Rattle.reading.specs.Memory.{Memory, nothing, kindOf, bondRow, begun, described, drafted}
 use Rattle.reading.specs.Act.{modeAct, atomAct}
@@ -61,13 +61,13 @@ module _ (n m : ℕ) (w : Bool) where
 
 -- the memory after an atom that is not bonded, and after one that is
 unbonded-memory : (j : Joint) (t : Steering) (a b : List ℤ) {a′ : List ℤ} (y : Atom) (o i : ℕ) (f g : Fields) → bondedBy (t .atoms) j ≡ false → a′ ≡ withAtom a (t .atoms) y
-    → drafted g (described y (begun o (memory t a b (pendingOf j) i f))) ≡ memory (extended t o (bondsAfter t false)) a′ b nothing i g
+    → drafted g (described y (begun o (memory t a b (pendingOf j) i f))) ≡ memory (withNextAtom t o (bondsAfter t false)) a′ b nothing i g
 unfolding begun
 unbonded-memory j t a b y o i f g hb ea = rw (hb, ea)
 
 bonded-memory : (j : Joint) (t : Steering) (a b : List ℤ) {a′ b′ : List ℤ} (y : Atom) (o i : ℕ) (f g : Fields) → bondedBy (t .atoms) j ≡ true → a′ ≡ withAtom a (t .atoms) y
     → b′ ≡ withBond b (t .bonds) (bondRow (t .hub .0) (t .atoms) (kindOf (pendingOf j)))
-    → drafted g (described y (begun o (memory t a b (pendingOf j) i f))) ≡ memory (extended t o (bondsAfter t true)) a′ b′ nothing i g
+    → drafted g (described y (begun o (memory t a b (pendingOf j) i f))) ≡ memory (withNextAtom t o (bondsAfter t true)) a′ b′ nothing i g
 unfolding begun
 bonded-memory j t a b y o i f g hb ea eb = rw (hb, ea, eb)
 

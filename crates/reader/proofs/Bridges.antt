@@ -6,29 +6,27 @@ use mathlib.Core.Bool.{Bool, true, false, not}
 use mathlib.Core.List.{List, [], _∷_}
 use lib.ListN.{getD, set}
 use lib.IntN.{ℤ}
-use lib.Dec.{eqb, leb}
+use lib.Dec.{eqb}
 use Rattle.loops.specs.Loop.{pick}
 use Rattle.loops.proofs.Loops.{Left, left-pass, left-fail, left-end}
 use borrow.Author.Tests.{eq-eqb, ne-eqb, eqb-true, eqb-false, le-leb, lt-leb, lt-ltb}
 use Rattle.ids.specs.declared.AtomId.{AtomId}
 use Rattle.refusal.specs.declared.Refusal.{Refusal}
 use Rattle.refusal.specs.declared.Refusal.the-variants.{ManyBonds, SelfBridge, RepeatedBond, SymbolClash}
-use Rattle.refusal.specs.Code.{codeOf}
-use Rattle.reading_grammar.specs.Fold.{keeps, refuses}
 use Rattle.table.specs.Limits.{maxAtoms, maxBonds}
 use Rattle.table.specs.Rows.{withBond, putBond}
 use Rattle.table.specs.declared.Bond.{Bond}
 use Rattle.reading_state.specs.declared.Fields.{Fields}
 use Rattle.reading_state.specs.declared.Opening.{Opening}
 use Rattle.reading_state.specs.State.{Steering, joined, bridged, openingOf}
-use Rattle.reading.specs.Memory.{Memory, nothing, symbol, kindOf, joins, joinedAlready, clash, meet, between, closeRefusal, moved}
-use Rattle.reading.specs.Act.{Acts, orRefuse, bridgeAct, bridgeBond}
+use Rattle.reading.specs.Memory.{nothing, symbol, kindOf, joins, joinedAlready, clash, meet, between, closeRefusal, moved}
+use Rattle.reading.specs.Act.{orRefuse, bridgeAct, bridgeBond}
 use Rattle.reading_fields.specs.Rest.{memory}
 use Rattle.reader.specs.declared.bridge.Why.{Why}
 use Rattle.reader.specs.declared.bridge.Closing.{Closing}
 use Rattle.reader.specs.Piece.{kindPending}
 use Rattle.reader.specs.Outcome.{Bounded}
-use Rattle.reader.specs.Bridge.{Closes, BridgeJoins, Bridges}
+use Rattle.reader.specs.Bridge.{Closes, Bridges}
 
 module _ (bonds : List ℤ) (a b : ℕ) {m i : ℕ} (l : Left (λ j. not (joins bonds a b j)) m i) where
   pub found : i < m → joins bonds a b i ≡ true → true ≡ joinedAlready bonds m a b

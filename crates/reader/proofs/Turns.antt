@@ -16,7 +16,7 @@ use Rattle.reading_grammar.specs.declared.Mode.{Mode}
 use Rattle.reading_grammar.specs.declared.Mode.the-variants.{Seq as seq, Dot as dot}
 use Rattle.reading_grammar.specs.Fold.{Answer, bad}
 use Rattle.table.specs.Limits.{maxAtoms}
-use Rattle.reading_state.specs.State.{Steering, steering, extended, joined}
+use Rattle.reading_state.specs.State.{Steering, steering, withNextAtom, joined}
 use Rattle.reading_state.specs.declared.State.{State}
 use Rattle.reading_state.specs.declared.Fields.{Fields}
 use Rattle.reading_state.specs.Limits.{bridges, maxDepth}
@@ -29,7 +29,7 @@ use Rattle.reader.specs.declared.atom.Added.{Added}
 use Rattle.reader.specs.declared.bridge.Why.{Why}
 use Rattle.reader.specs.Piece.{pendingOf, kindPending, startMode, startPending, afterBridge, Seen, SeenAtom, SeenBridge, SeenBranch, SeenEnd, SeenWrong}
 use Rattle.reader.specs.Added.{Reaches, bondsAfter, Adds}
-use Rattle.reader.specs.Outcome.{Bounded, Outcome, refusedAt, GoesOn, Goes, PastFine, Past, Stops, Sequenced, Branched, Closable}
+use Rattle.reader.specs.Outcome.{Bounded, Outcome, refusedAt, Goes, PastFine, Past, Stops, Sequenced, Branched, Closable}
 use Rattle.reader.specs.Bridge.{BridgeJoins, Bridges}
 use Rattle.reader.proofs.Bridges.{bounded-joined, joined-deep}
 use Rattle.reader.proofs.Branches.{deep-refused}
@@ -109,7 +109,7 @@ module _ {s : List ℕ} {j : Joint} {p₀ : ℕ} {t : Steering} {a₀ b₀ : Lis
           pub atom-room : u .atoms < maxAtoms
           atom-room = atom-added .atoms
 
-          pub turn-atom : {u′ : Steering} → u′ ≡ extended u o (bondsAfter u w) → length a′ ≡ length a → length b′ ≡ length b → Turn s j p₀ t a₀ b₀ m false u′ a′ b′
+          pub turn-atom : {u′ : Steering} → u′ ≡ withNextAtom u o (bondsAfter u w) → length a′ ≡ length a → length b′ ≡ length b → Turn s j p₀ t a₀ b₀ m false u′ a′ b′
           turn-atom eu ka kb = let w = atom-added in rw eu (record {
             stands = λ i d. let y = atom-stands i d in let c = w .is (y .tens) (y .draft) in record { tens = c .tens; draft = c .draft; is = y .is ∙ c .is };
             within = atom-in;

@@ -15,7 +15,7 @@ use Rattle.reading_grammar.specs.declared.Mode.{Mode}
 use Rattle.reading_grammar.specs.declared.Mode.the-variants.{Seq as seq, Dot as dot}
 use Rattle.reading_grammar.specs.Fold.{Answer, bad, keeps, refuses}
 use Rattle.table.specs.Limits.{maxAtoms, maxBonds}
-use Rattle.reading_state.specs.State.{Steering, extended}
+use Rattle.reading_state.specs.State.{Steering, withNextAtom}
 use Rattle.reading_state.specs.declared.Fields.{Fields}
 use Rattle.reading.specs.Memory.{Memory, Pending, nothing, afterDot, bonded}
 use Rattle.reading.specs.Act.{atomAct, firstByte}
@@ -60,7 +60,7 @@ pub record AddsAtom (s : List ℕ) (at : ℕ) (j : Joint) (t : Steering) (a b a�
   pub later : at < p
   pub atoms : t .atoms < maxAtoms
   pub bonds : t .bonds ≤ maxBonds → bondsAfter t w ≤ maxBonds
-  pub is : (i : ℕ) (f : Fields) → Reaches s (rest s at dot (memory t a b (pendingOf j) i f)) p (seq plain) nothing (extended t o (bondsAfter t w)) a′ b′
+  pub is : (i : ℕ) (f : Fields) → Reaches s (rest s at dot (memory t a b (pendingOf j) i f)) p (seq plain) nothing (withNextAtom t o (bondsAfter t w)) a′ b′
 
 pub record AddsNot (s : List ℕ) (at : ℕ) (j : Joint) (t : Steering) (a b : List ℤ) (r : Refusal) (p : ℕ) : Type 0 where
   pub is : (i : ℕ) (f : Fields) → rest s at dot (memory t a b (pendingOf j) i f) ≡ bad (codeOf r) p

@@ -3,3 +3,4 @@ pub mod Added
 pub mod Outcome
 pub mod Bridge
 pub mod Ending
+pub mod Completed

@@ -9,7 +9,7 @@ use lib.Seq.{getD-set-same, getD-set-other}
 use Rattle.table.specs.Limits.{maxAtoms}
 use Rattle.reading_state.specs.Limits.{maxDepth, bridges}
 use Rattle.reading_state.specs.State.{Steering, started, opened, closed, bridged}
-use Rattle.reading.specs.Memory.{extended}
+use Rattle.reading.specs.Memory.{withNextAtom}
 use Rattle.reading.proofs.Sane.{Steers}
 
 -- what holds of a value, and of every cell, holds of every cell after the value is written
@@ -59,7 +59,7 @@ module _ {i : ℕ} {s : Steering} (w : Steers i s) where
       }
 
   -- one atom more
-  pub extended-steering : (x m : ℕ) → Steers (suc i) (extended s x m)
+  pub extended-steering : (x m : ℕ) → Steers (suc i) (withNextAtom s x m)
   extended-steering x m =
       record {
         stack-length = w .stack-length;

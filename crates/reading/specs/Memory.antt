@@ -12,7 +12,7 @@ use Rattle.table.specs.Limits.{maxAtoms, maxBonds}
 use Rattle.table.specs.Cells.{end1, end2}
 use Rattle.table.specs.Rows.{withAtom, withBond}
 use Rattle.reading_state.specs.State.{Steering}
-pub use Rattle.reading_state.specs.State.{extended}
+pub use Rattle.reading_state.specs.State.{withNextAtom}
 use Rattle.reading_state.specs.declared.Fields.{Fields}
 
 -- what stands before the next atom or bridge: nothing, a dot, or a bond symbol of a kind
@@ -81,7 +81,7 @@ bonded μ = not (eqb (μ .st .atoms) 0) && not (afterDot (μ .pending))
 unfoldable pub begun : ℕ → Memory → Memory
 begun x μ =
     record {
-      st = extended (μ .st) x (pick (bonded μ) (μ .st .bonds + 1) (μ .st .bonds));
+      st = withNextAtom (μ .st) x (pick (bonded μ) (μ .st .bonds + 1) (μ .st .bonds));
       atoms = μ .atoms;
       bonds = pick (bonded μ) (withBond (μ .bonds) (μ .st .bonds) (bondRow (μ .st .hub .0) (μ .st .atoms) (kindOf (μ .pending)))) (μ .bonds);
       pending = nothing;

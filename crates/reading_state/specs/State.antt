@@ -58,8 +58,8 @@ started =
     }
 
 -- one atom more, which is the hub; x: 1 if it stands outside brackets; m: the bonds then
-abbrev pub extended : Steering → ℕ → ℕ → Steering
-extended s x m =
+abbrev pub withNextAtom : Steering → ℕ → ℕ → Steering
+withNextAtom s x m =
     record {
       hub = record { 0 = s .atoms };
       atoms = s .atoms + 1;

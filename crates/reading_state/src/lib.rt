@@ -8,7 +8,7 @@ ghost use lib.Dec.{eqb};
 ghost use Rattle.loops.specs.Loop.{pick};
 ghost use Rattle.table.specs.Limits.{maxAtoms};
 ghost use Rattle.reading_state.specs.Limits.{maxDepth, bridges};
-ghost use Rattle.reading_state.specs.State.{steering, started, extended, opened, closed, openingOf, joined};
+ghost use Rattle.reading_state.specs.State.{steering, started, withNextAtom, opened, closed, openingOf, joined};
 
 // The most bytes of a text.
 pub const MAX_TEXT: usize = 4096;
@@ -71,7 +71,7 @@ impl State {
     pub fn extend(mut self, bonded: bool) -> Self
         requires { ⌜ self .atoms < 65536 ⌝ }
         requires { ⌜ self .bonds < 65536 ⌝ }
-        ensures { λ r. ⌜ ((p x : List ℕ) (o : ℕ) → steering r p (set x (self .atoms) o) ≡ extended (steering self p x) o (pick bonded (self .bonds + 1) (self .bonds))) ⌝ }
+        ensures { λ r. ⌜ ((p x : List ℕ) (o : ℕ) → steering r p (set x (self .atoms) o) ≡ withNextAtom (steering self p x) o (pick bonded (self .bonds + 1) (self .bonds))) ⌝ }
     {
         let n = self.atoms;
         let next = AtomId(n);

@@ -1,6 +1,6 @@
 -- `joins`: a bond whose second end is neither atom joins none; else both ends decide.
 use Prim.Native.Nat.{ℕ}
-use mathlib.Core.Path.{_≡_, refl, _∙_}
+use mathlib.Core.Path.{_≡_, refl}
 use mathlib.Core.Bool.{Bool, true, false, not, _&&_, _||_}
 use mathlib.Core.List.{List}
 use lib.IntN.{ℤ}

@@ -3,7 +3,7 @@ use native.Mathlib.Omega.{arith}
 use borrow.Author.Needs.{needs}
 use lib.ListN.{getD}
 use Rattle.loops.proofs.Loops.{Edited, edited-start, edited-step, edited-end}
-use Rattle.reader.specs.Ending.{hydrogensBy, hydrogenatedBy}
+use Rattle.reader.specs.Completed.{hydrogensBy, hydrogenatedBy}
 use Rattle.reader.proofs.ending.hydrogenate.Statement.{statement}
 use Rattle.reader.proofs.ending.hydrogenate.Tie as tie
 
