@@ -11,7 +11,7 @@ use Rattle.kekule.specs.Calls.{Replayed, replayed}
 use Rattle.reader.specs.declared.ending.Answer.{Answer}
 use Rattle.reader.specs.declared.ending.Answer.the-variants.{Molecule, Refused}
 use Rattle.reader.specs.Ending.{told}
-use Rattle.reading.specs.Read.{Told}
+use Rattle.reading.specs.Read.{ReadResult}
 use Rattle.writer.specs.declared.Written.{Written}
 use Rattle.writer.specs.declared.Written.the-variants.{Text, Refused as writeRefused}
 use Rattle.writer.specs.Told.{told as writer-told}
@@ -20,11 +20,11 @@ use Rattle.balsa.specs.declared.ReadReply.{ReadReply}
 use Rattle.balsa.specs.declared.WriteReply.{WriteReply}
 use Rattle.balsa.specs.Capi.{readReplyOf, readOut, writeReplyOf, writeOut, checkCode, rowOut, rowOutOf, tablesOut, tablesOutOf, replayOut, replayOutOf}
 
-pub read-law : (a : Answer) {r : ReadReply} {atoms bonds : List ℤ} {t : Told} → r ≡ readReplyOf a → told a atoms bonds ≡ t → readOut r atoms bonds ≡ t
+pub read-law : (a : Answer) {r : ReadReply} {atoms bonds : List ℤ} {t : ReadResult} → r ≡ readReplyOf a → told a atoms bonds ≡ t → readOut r atoms bonds ≡ t
 read-law (Molecule n m) {atoms = atoms} {bonds} e g = ap (λ (k : ReadReply). readOut k atoms bonds) e ∙ g
 read-law (Refused c p) {atoms = atoms} {bonds} e g = ap (λ (k : ReadReply). readOut k atoms bonds) e ∙ g
 
-pub write-law : (w : Written) {r : WriteReply} {out ren : List ℕ} {t : write.Told} → r ≡ writeReplyOf w → writer-told w out ren ≡ t → writeOut r out ren ≡ t
+pub write-law : (w : Written) {r : WriteReply} {out ren : List ℕ} {t : write.WriteResult} → r ≡ writeReplyOf w → writer-told w out ren ≡ t → writeOut r out ren ≡ t
 write-law (Text k) {out = out} {ren} e g = ap (λ (x : WriteReply). writeOut x out ren) e ∙ g
 write-law (writeRefused c) {out = out} {ren} e g = ap (λ (x : WriteReply). writeOut x out ren) e ∙ g
 

@@ -7,7 +7,7 @@ use Rattle.table.specs.declared.Check.{Check}
 use Rattle.table.specs.declared.Check.the-variants.{Fine, Refused}
 use Rattle.reader.specs.declared.ending.Answer.{Answer}
 use Rattle.reader.specs.declared.ending.Answer.the-variants.{Molecule, Refused as readRefused}
-use Rattle.reading.specs.Read.{Told}
+use Rattle.reading.specs.Read.{ReadResult}
 use Rattle.writer.specs.declared.Written.{Written}
 use Rattle.writer.specs.declared.Written.the-variants.{Text, Refused as writeRefused}
 use Rattle.writing.specs.Write as write
@@ -23,7 +23,7 @@ readReplyOf (Molecule n m) = record { code = 0; place = 0; atoms = n; bonds = m 
 readReplyOf (readRefused r p) = record { code = codeOf r; place = p; atoms = 0; bonds = 0 }
 
 -- the same with both tables, as the definition of reading tells it
-abbrev pub readOut : ReadReply → List ℤ → List ℤ → Told
+abbrev pub readOut : ReadReply → List ℤ → List ℤ → ReadResult
 readOut r atoms bonds = record { code = r .code; offset = r .place; atomCount = r .atoms; bondCount = r .bonds; atoms = atoms; bonds = bonds }
 
 -- an answer of the writer in plain numbers
@@ -32,7 +32,7 @@ writeReplyOf (Text k) = record { code = 0; length = k }
 writeReplyOf (writeRefused r) = record { code = codeOf r; length = 0 }
 
 -- the same with the output and the renumbering, as the definition of writing tells it
-abbrev pub writeOut : WriteReply → List ℕ → List ℕ → write.Told
+abbrev pub writeOut : WriteReply → List ℕ → List ℕ → write.WriteResult
 writeOut r out ren = record { code = r .code; size = r .length; output = out; numbers = ren }
 
 abbrev pub checkCode : Check → ℕ

@@ -2,7 +2,7 @@
 ghost use mathlib.Core.List.{[], _∷_};
 ghost use Rattle.buffer.specs.Pen.{pen, Wrote};
 
-// The next byte: laid where there is room, else counted as one too many. The place after it.
+// internal: the next byte: laid where there is room, else counted as one too many. The place after it.
 pub fn put(out: &mut [u8], at: usize, b: u8) -> usize
     ensures { λ r. ⌜ Wrote (b ∷ []) (pen (now (out .entry)) at) (pen (now (out .exit)) r) ⌝ }
 {
@@ -13,7 +13,7 @@ pub fn put(out: &mut [u8], at: usize, b: u8) -> usize
     out.len() + 1
 }
 
-// The next bytes. The place after them.
+// internal: the next bytes. The place after them.
 pub fn put_all(out: &mut [u8], at: usize, s: &[u8]) -> usize
     ensures { λ r. ⌜ Wrote (now (s .entry)) (pen (now (out .entry)) at) (pen (now (out .exit)) r) ⌝ }
 {

@@ -23,7 +23,7 @@ use Rattle.reading.specs.Bracket.{symbolled}
 use Rattle.reading.specs.Act.{atomAct, bridgeAct, branchAct, modeAct, act}
 use Rattle.reading.specs.Read.{hydrogenated, leftmost, ended, readFrom, readOf}
 use Rattle.writing_walk.specs.Walk.{forestOf, renumbered, unused, write}
-use Rattle.writing.specs.Spell.{decimal, hydrogenBytes, sizeBytes, bracketBytes, unbracketed, atomBytes, kindBytes, bridgeBytes, restBytes, tokensBytes}
+use Rattle.writing.specs.Spell.{decimal, hydrogenBytes, sizeBytes, bracketBytes, withoutBrackets, spelledAtom, kindBytes, bridgeBytes, restBytes, tokensBytes}
 use Rattle.writing.specs.Write.{tokens, textOf}
 use Rattle.examples.specs.Said.{Said, said, accepted, refused}
 
@@ -61,5 +61,5 @@ expected =
     []
 
 pub marked-texts : map said texts ≡ expected
-unfolding texts expected each run upTo among listed starts sameBytes symbols letters marks indexFrom numberOf selectedOf letterOf bare bytesOf selectedBytes order targets firstTarget firstRoom implied delocalized nonzero digits several bondSymbols signs step next accepting resting atomOr bridgeOr closing extending charging hydrating symbolOr feed read rows passing isMatching eachOnce degree chosenInduced number withAtom withBond enough touches share bondSum started opened closed joined symbolKind begun joins joinedAlready closeRefusal symbolled atomAct bridgeAct branchAct modeAct act hydrogenated leftmost matchable ended readFrom readOf forestOf renumbered unused write decimal hydrogenBytes sizeBytes bracketBytes unbracketed atomBytes kindBytes bridgeBytes restBytes tokensBytes tokens textOf
+unfolding texts expected each run upTo among listed starts sameBytes symbols letters marks indexFrom numberOf selectedOf letterOf bare bytesOf selectedBytes order targets firstTarget firstRoom implied delocalized nonzero digits several bondSymbols signs step next accepting resting atomOr bridgeOr closing extending charging hydrating symbolOr feed read rows passing isMatching eachOnce degree chosenInduced number withAtom withBond enough touches share bondSum started opened closed joined symbolKind begun joins joinedAlready closeRefusal symbolled atomAct bridgeAct branchAct modeAct act hydrogenated leftmost matchable ended readFrom readOf forestOf renumbered unused write decimal hydrogenBytes sizeBytes bracketBytes withoutBrackets spelledAtom kindBytes bridgeBytes restBytes tokensBytes tokens textOf
 marked-texts = refl

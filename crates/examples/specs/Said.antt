@@ -9,7 +9,7 @@ use Rattle.loops.specs.Loop.{pick}
 use Rattle.matching.specs.Enumeration.{Row, matchings}
 use Rattle.table.specs.Limits.{maxAtoms, maxBonds, atomCells, bondCells}
 use Rattle.table_graph.specs.Graph.{matchingOf}
-use Rattle.reading.specs.Read.{Told, readOf}
+use Rattle.reading.specs.Read.{ReadResult, readOf}
 use Rattle.writing.specs.Write.{textOf}
 
 pub record Said : Type 0 where
@@ -26,7 +26,7 @@ refused c p = record { code = c; offset = p; atoms = []; bonds = []; rows = []; 
 abbrev pub accepted : List ℤ → List ℤ → List Row → List ℕ → Said
 accepted atoms bonds rows text = record { code = 0; offset = 0; atoms = atoms; bonds = bonds; rows = rows; text = text }
 
-abbrev pub view : Told → Said
+abbrev pub view : ReadResult → Said
 view t =
     pick (eqb (t .code) 0)
     (accepted (take (atomCells * t .atomCount) (t .atoms)) (take (bondCells * t .bondCount) (t .bonds))

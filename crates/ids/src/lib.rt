@@ -1,4 +1,4 @@
-// The numbers of atoms and bonds, and how many there are at most.
+// The numbers of atoms and bonds, and the limits that the papers set.
 
 // The number of an atom: atoms count from 0 as they begin (01, The text).
 pub struct AtomId(pub usize);
@@ -11,3 +11,12 @@ pub const MAX_ATOMS: usize = 200;
 
 // 01, The tables: at most this many bonds.
 pub const MAX_BONDS: usize = 250;
+
+// 01, When a call says no, 2 and 16: the most bytes of a text.
+pub const MAX_TEXT: usize = 4096;
+
+// 01, When a call says no, 6 and 15: the most branches that are open inside one another.
+pub const MAX_DEPTH: usize = 64;
+
+// 01, The text: bridge numbers are 1 to 99; each is below this.
+pub const BRIDGES: usize = 100;

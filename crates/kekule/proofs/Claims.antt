@@ -9,7 +9,7 @@ use lib.ListN.{length, take, replicate}
 use lib.IntN.{ℤ}
 use Rattle.loops.specs.Loop.{pick}
 use Rattle.loops.proofs.Loops.{length-upTo}
-use Rattle.refusal.specs.declared.Refusal.the-variants.{Short, NoMatching, Invalid}
+use Rattle.refusal.specs.declared.Refusal.the-variants.{Short, Unmatchable, Invalid}
 use Rattle.table.specs.Valid.{Valid, valid}
 use Rattle.table.proofs.Valid.{facts-back}
 use Rattle.matching.specs.Enumeration.{Row, matchings, cursorAt, fill, given, zeroed, orZeroed, rowCall}
@@ -28,7 +28,7 @@ use Rattle.kekule.specs.Kekule.{Out, out, outOf, roomy, callOn}
 use Rattle.kekule.specs.Calls.{repliesOf}
 
 -- only the answer "absent" is told as 11
-absent : (a : Answer) → foundOf a ≡ Refused NoMatching → a ≡ Absent
+absent : (a : Answer) → foundOf a ≡ Refused Unmatchable → a ≡ Absent
 absent answerGiven e = cc
 absent Absent e = refl
 absent answerRefused e = cc
@@ -47,16 +47,16 @@ module _ {atoms bonds : List ℤ} {n m : ℕ} (v : Valid atoms bonds n m) (row :
   graph-length = length-upTo (bondOf bonds) 0 m
 
   -- asking for the first gives a matching exactly if the molecule has one, else 11
-  pub first-matchable : callOn First atoms bonds n m row .found ≡ pick (matchable atoms bonds n m) Given (Refused NoMatching)
+  pub first-matchable : callOn First atoms bonds n m row .found ≡ pick (matchable atoms bonds n m) Given (Refused Unmatchable)
   unfolding matchable rowCall
   first-matchable = valid-found First ∙ go (matchings (matchingOf atoms bonds n m) m)
     where
-      go : (es : List Row) → foundOf (orZeroed (length row) Absent es .answer) ≡ pick (some? es) Given (Refused NoMatching)
+      go : (es : List Row) → foundOf (orZeroed (length row) Absent es .answer) ≡ pick (some? es) Given (Refused Unmatchable)
       go [] = refl
       go (r ∷ es) = refl
 
   -- 11 exactly if no set of induced bonds has each delocalized atom as an end of exactly one
-  pub first-none-iff : (callOn First atoms bonds n m row .found ≡ Refused NoMatching) ↔ ((S : ℕ → Bool) → Pairs (delocalizedFlags atoms bonds n m) (graphOf bonds m) S → ⊥)
+  pub first-none-iff : (callOn First atoms bonds n m row .found ≡ Refused Unmatchable) ↔ ((S : ℕ → Bool) → Pairs (delocalizedFlags atoms bonds n m) (graphOf bonds m) S → ⊥)
   first-none-iff =
       let p = matchingOf atoms bonds n m in
       let sets = empty-iff (delocalizedFlags atoms bonds n m) (graphOf bonds m) in (
@@ -78,11 +78,11 @@ module _ {atoms bonds : List ℤ} {n m : ℕ} (v : Valid atoms bonds n m) (row :
       outs len (r ∷ es) = ap (λ (l : List Out). out Given (fill len r) ∷ l) (outs len es)
 
 -- asking for the next never gives 11, whatever the tables and the row
-pub next-never-none : (atoms bonds : List ℤ) (n m : ℕ) (row : List ℕ) → callOn Next atoms bonds n m row .found ≡ Refused NoMatching → ⊥
+pub next-never-none : (atoms bonds : List ℤ) (n m : ℕ) (row : List ℕ) → callOn Next atoms bonds n m row .found ≡ Refused Unmatchable → ⊥
 unfolding callOn
 next-never-none atoms bonds n m row = go (roomy atoms bonds (length row)) (valid atoms bonds n m)
   where
-    go : (x y : Bool) → pick x (pick y (outOf (rowCall (matchingOf atoms bonds n m) m Next row)) (out (Refused Invalid) (replicate (length row) 0))) (out (Refused Short) row) .found ≡ Refused NoMatching → ⊥
+    go : (x y : Bool) → pick x (pick y (outOf (rowCall (matchingOf atoms bonds n m) m Next row)) (out (Refused Invalid) (replicate (length row) 0))) (out (Refused Short) row) .found ≡ Refused Unmatchable → ⊥
     go false y e = let z : _≡_ {A = ℕ} 0 1 = cc in omega arith
     go true false e = let z : _≡_ {A = ℕ} 0 1 = cc in omega arith
     go true true e = let p = matchingOf atoms bonds n m in next-present p m row (absent (rowCall p m Next row .answer) e)

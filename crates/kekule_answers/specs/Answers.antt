@@ -2,7 +2,7 @@
 use Prim.Native.Nat.{ℕ, zero, suc}
 use mathlib.Core.Bool.{Bool, false, true}
 use Rattle.refusal.specs.Code.{codeOf}
-use Rattle.refusal.specs.declared.Refusal.the-variants.{NoMatching, NotMatching}
+use Rattle.refusal.specs.declared.Refusal.the-variants.{Unmatchable, NotMatching}
 use Rattle.matching.specs.declared.Answer.{Answer}
 use Rattle.matching.specs.declared.Answer.the-variants.{Given as answerGiven, Absent, Refused as answerRefused, Ended}
 use Rattle.matching.specs.declared.Call.{Call}
@@ -15,7 +15,7 @@ use Rattle.kekule_answers.specs.declared.Asked.the-variants.{Yes, No, Re
 -- an answer of the enumeration (01: of the book): 11 without a matching, 12 where the row is none, "end" after the last
 abbrev pub foundOf : Answer → Found
 foundOf answerGiven = Given
-foundOf Absent = Refused NoMatching
+foundOf Absent = Refused Unmatchable
 foundOf answerRefused = Refused NotMatching
 foundOf Ended = End
 

@@ -38,7 +38,7 @@ pub fn found_of(a: Answer) -> Found
 {
     match a {
         Answer::Given => Found::Given,
-        Answer::Absent => Found::Refused(Refusal::NoMatching),
+        Answer::Absent => Found::Refused(Refusal::Unmatchable),
         Answer::Refused => Found::Refused(Refusal::NotMatching),
         Answer::Ended => Found::End,
     }

@@ -1,4 +1,4 @@
--- A reason why no matching is left (Tutte): each atom has a label; 0 marks the cut, and no free bond joins two other labels
+-- auxiliary: a reason why no matching is left (Tutte), for the certified search: each atom has a label; 0 marks the cut, and no free bond joins two other labels
 use mathlib.Core.Bool.{Bool, true, false, _&&_, _||_, not}
 use mathlib.Core.List.{List, [], _∷_}
 use Prim.Native.Nat.{ℕ, zero, suc}

@@ -1,4 +1,4 @@
--- A molecule as its matchings see it: the bonds, each with its ends and whether it is elided, and a flag for each atom: 1 if it is delocalized
+-- 01, Hydrogens and kept atoms: a molecule as its matchings ("placements") see it: the bonds, each with its ends and whether it is elided, and a flag for each atom: 1 if it is delocalized
 use mathlib.Core.Path.{_≡_}
 use mathlib.Core.Bool.{Bool, true, false, _&&_, _||_, not}
 use mathlib.Core.List.{List, [], _∷_}

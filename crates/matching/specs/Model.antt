@@ -1,4 +1,4 @@
--- Matchings as a search meets them. Bonds stand in three tables: first ends, second ends, and 1 for an elided bond.
+-- auxiliary: matchings as a search meets them, for the contracts of the engines. Bonds stand in three tables: first ends, second ends, and 1 for an elided bond.
 -- need has a 1 for each delocalized atom that has no partner yet.
 use mathlib.Core.Path.{_≡_}
 use mathlib.Core.Bool.{Bool, true, false, _&&_}
@@ -36,11 +36,11 @@ bondsOf (a ∷ ea) (b ∷ eb) (e ∷ el) = record { end1 = a; end2 = b; elided =
 abbrev pub bondsFrom : List ℕ → List ℕ → List ℕ → ℕ → List Bond
 bondsFrom ea eb el k = bondsOf (drop k ea) (drop k eb) (drop k el)
 
-abbrev pub bondAt : List ℕ → List ℕ → List ℕ → ℕ → Bond
-bondAt ea eb el k = record { end1 = getD ea k 0; end2 = getD eb k 0; elided = eqb (getD el k 0) 1 }
+abbrev pub tableBond : List ℕ → List ℕ → List ℕ → ℕ → Bond
+tableBond ea eb el k = record { end1 = getD ea k 0; end2 = getD eb k 0; elided = eqb (getD el k 0) 1 }
 
 abbrev pub freeAt : List ℕ → List ℕ → List ℕ → List ℕ → ℕ → Bool
-freeAt ea eb el need k = free (bondAt ea eb el k) need
+freeAt ea eb el need k = free (tableBond ea eb el k) need
 
 -- both ends of the bond k get the number x
 abbrev pub markAt : List ℕ → List ℕ → List ℕ → ℕ → ℕ → List ℕ
@@ -81,7 +81,7 @@ reply a row = record { answer = a; row = row }
 -- What the contracts of the searches ask and promise.
 
 -- the tables of bonds go together, and the ends are atoms
-pub record Tables (ea eb el need : List ℕ) (k : ℕ) : Type 0 where
+pub record BondTables (ea eb el need : List ℕ) (k : ℕ) : Type 0 where
   pub second : length eb ≡ length ea
   pub third : length el ≡ length ea
   pub upto : k ≤ length ea

@@ -15,7 +15,7 @@ ghost use lib.ListN.{length, take, drop, replicate, getD};
 ghost use Rattle.loops.specs.Loop.{run};
 ghost use Rattle.matching.specs.Graph.{countIf};
 ghost use Rattle.matching.specs.Limits.{maxAtoms};
-ghost use Rattle.matching.specs.Model.{Shape, Tables, Searched, Ends, allFrom, freeAt, bondAt, bondsFrom};
+ghost use Rattle.matching.specs.Model.{Shape, BondTables, Searched, Ends, allFrom, freeAt, tableBond, bondsFrom};
 ghost use Rattle.matching.specs.Cut.{cnt, odds, fine, allFine, flips, marks};
 
 // 1 for an atom v without a partner in the cut, else 0.
@@ -97,7 +97,7 @@ fn odd_labels(odd: &[bool]) -> usize
 // The bond k has an end in the cut, or joins two atoms of one label.
 fn is_fine(ea: &[u16], eb: &[u16], lab: &[usize], k: BondId) -> bool
     requires { ⌜ Ends (now ea) (now eb) (now lab) (k .0) ⌝ }
-    ensures { λ r. ⌜ r ≡ fine (now (lab .entry)) (bondAt (now (ea .entry)) (now (eb .entry)) [] (k .0)) ⌝ }
+    ensures { λ r. ⌜ r ≡ fine (now (lab .entry)) (tableBond (now (ea .entry)) (now (eb .entry)) [] (k .0)) ⌝ }
 {
     let first = matching_search::end_of(ea, k);
     let second = matching_search::end_of(eb, k);
@@ -112,7 +112,7 @@ fn is_fine(ea: &[u16], eb: &[u16], lab: &[usize], k: BondId) -> bool
 fn passes(ea: &[u16], eb: &[u16], el: &[u8], need: &[u8], lab: &[usize], k: BondId) -> bool
     requires { ⌜ Ends (now ea) (now eb) (now need) (k .0) ⌝ }
     requires { ⌜ (k .0 < length (now el)) × (length (now need) ≤ length (now lab)) ⌝ }
-    ensures { λ r. ⌜ r ≡ (not (freeAt (now (ea .entry)) (now (eb .entry)) (now (el .entry)) (now (need .entry)) (k .0)) || fine (now (lab .entry)) (bondAt (now (ea .entry)) (now (eb .entry)) (now (el .entry)) (k .0))) ⌝ }
+    ensures { λ r. ⌜ r ≡ (not (freeAt (now (ea .entry)) (now (eb .entry)) (now (el .entry)) (now (need .entry)) (k .0)) || fine (now (lab .entry)) (tableBond (now (ea .entry)) (now (eb .entry)) (now (el .entry)) (k .0))) ⌝ }
 {
     if matching_search::choosable(ea, eb, el, need, k) {
         return is_fine(ea, eb, lab, k);
@@ -122,7 +122,7 @@ fn passes(ea: &[u16], eb: &[u16], el: &[u8], need: &[u8], lab: &[usize], k: Bond
 
 // All bonds from k on pass.
 fn all_fine(ea: &[u16], eb: &[u16], el: &[u8], need: &[u8], lab: &[usize], k: BondId) -> bool
-    requires { ⌜ Tables (now ea) (now eb) (now el) (now need) (k .0) ⌝ }
+    requires { ⌜ BondTables (now ea) (now eb) (now el) (now need) (k .0) ⌝ }
     requires { ⌜ length (now need) ≤ length (now lab) ⌝ }
     ensures { λ r. ⌜ r ≡ allFine (now (need .entry)) (now (lab .entry)) (bondsFrom (now (ea .entry)) (now (eb .entry)) (now (el .entry)) (k .0)) ⌝ }
 {
@@ -138,7 +138,7 @@ fn all_fine(ea: &[u16], eb: &[u16], el: &[u8], need: &[u8], lab: &[usize], k: Bo
 
 // The labels show that the bonds from k on have no matching.
 fn barred(ea: &[u16], eb: &[u16], el: &[u8], need: &[u8], lab: &[usize], k: BondId) -> bool
-    requires { ⌜ Tables (now ea) (now eb) (now el) (now need) (k .0) ⌝ }
+    requires { ⌜ BondTables (now ea) (now eb) (now el) (now need) (k .0) ⌝ }
     ensures { λ r. ⌜ (r ≡ true → allFrom (now (ea .entry)) (now (eb .entry)) (now (el .entry)) (now (need .entry)) (k .0) ≡ []) ⌝ }
 {
     if lab.len() < need.len() {
@@ -163,7 +163,7 @@ fn barred_by(
     lab: &[usize; MAX_ATOMS],
     k: BondId,
 ) -> bool
-    requires { ⌜ Tables (now ea) (now eb) (now el) (now need) (k .0) ⌝ }
+    requires { ⌜ BondTables (now ea) (now eb) (now el) (now need) (k .0) ⌝ }
     ensures { λ r. ⌜ (r ≡ true → allFrom (now (ea .entry)) (now (eb .entry)) (now (el .entry)) (now (need .entry)) (k .0) ≡ []) ⌝ }
 {
     barred(ea, eb, el, need, lab, k)
@@ -178,7 +178,7 @@ fn hopeless(
     k: BondId,
     mate: &mut [usize; MAX_ATOMS],
 ) -> bool
-    requires { ⌜ Tables (now ea) (now eb) (now el) (now need) (k .0) ⌝ }
+    requires { ⌜ BondTables (now ea) (now eb) (now el) (now need) (k .0) ⌝ }
     ensures { λ r. ⌜ (r ≡ true → allFrom (now (ea .entry)) (now (eb .entry)) (now (el .entry)) (now (need .entry)) (k .0) ≡ []) ⌝ }
 {
     let mut lab = [OUTSIDE; MAX_ATOMS];

@@ -19,7 +19,7 @@ use Rattle.matching_search.proofs.Choice.{at-end, all-step, with-one, with-zero
 use Rattle.matching_certified.proofs.Reason.{given-up}
 use Rattle.matching_engine.specs.declared.Sought.{Sought}
 use Rattle.matching_engine.specs.declared.Sought.the-variants.{Found, Absent, GaveUp}
-use Rattle.matching_engine.specs.Tried.{Tried, withBond, Lasts}
+use Rattle.matching_engine.specs.Tried.{Tried, pairedBond, Lasts}
 
 differ : _≡_ {A = ℕ} 0 1 → ⊥
 differ e = omega arith
@@ -49,7 +49,7 @@ not-absent o k e = ⊎-elim (λ q. omega arith) (λ q. omega arith) (subst (λ (
 
 -- the ways of `choose`
 pub not-chosen : {ea eb el need row : List ℕ} {k : ℕ} {f : Bool} → Shape ea eb el need row k → f ≡ freeAt ea eb el need k → f ≡ false
-    → Tried need row k (length ea) (withBond ea eb el need k) Absent need row
+    → Tried need row k (length ea) (pairedBond ea eb el need k) Absent need row
 not-chosen s e n = record {
   same = refl;
   front = refl;
@@ -63,12 +63,12 @@ spent = record { same = refl; front = refl; back = refl; found = λ q. absurd (d
 
 pub chosen : {ea eb el need row : List ℕ} {k : ℕ} {f : Bool} → Shape ea eb el need row k → k < length ea → f ≡ freeAt ea eb el need k → f ≡ true
     → {mid need1 row1 need2 : List ℕ} {o : Sought} → mid ≡ markAt ea eb need k 0 → Tried mid (set row k 1) (k + 1) (length ea) (allFrom ea eb el mid (k + 1)) o need1 row1
-    → need2 ≡ markAt ea eb need1 k 1 → Tried need row k (length ea) (withBond ea eb el need k) o need2 row1
+    → need2 ≡ markAt ea eb need1 k 1 → Tried need row k (length ea) (pairedBond ea eb el need k) o need2 row1
 chosen {ea} {eb} {el} {need} {row} {k} {f} s h e y {mid} {need1} {row1} {need2} {o} marked t unmarked =
     let free : freeAt ea eb el need k ≡ true = sym e ∙ y in
     let same′ : need2 ≡ need = unmarked ∙ ap (λ (l : List ℕ). markAt ea eb l k 1) (t .same ∙ marked) ∙ restore ea eb el need k free in
     let all : allFrom ea eb el mid (k + 1) ≡ allFrom ea eb el (markAt ea eb need k 0) (k + 1) = ap (λ (l : List ℕ). allFrom ea eb el l (k + 1)) marked in
-    let with : map (λ r. 1 ∷ r) (allFrom ea eb el mid (k + 1)) ≡ withBond ea eb el need k = ap (map (λ r. 1 ∷ r)) all ∙ rw free in
+    let with : map (λ r. 1 ∷ r) (allFrom ea eb el mid (k + 1)) ≡ pairedBond ea eb el need k = ap (map (λ r. 1 ∷ r)) all ∙ rw free in
     record {
       same = same′;
       front = front-set row row1 k 1 (t .front);
@@ -131,11 +131,11 @@ module _ {ea eb el need row₀ : List ℕ} {k i : ℕ} {need′ row : List ℕ} 
   pub lasts-along : {last : List ℕ} → Lasts ea eb el need last → Lasts ea eb el need′ last
   lasts-along {last} l = subst (λ (n : List ℕ). Lasts ea eb el n last) (sym (a .flags)) l
 
-  module _ (h : i < length ea) {o : Sought} {need1 row1 : List ℕ} (t : Tried need′ row i (length ea) (withBond ea eb el need′ i) o need1 row1) where
-    tried : Tried need row i (length ea) (withBond ea eb el need i) o need1 row1
-    tried = subst (λ (n : List ℕ). Tried n row i (length ea) (withBond ea eb el n i) o need1 row1) (a .flags) t
+  module _ (h : i < length ea) {o : Sought} {need1 row1 : List ℕ} (t : Tried need′ row i (length ea) (pairedBond ea eb el need′ i) o need1 row1) where
+    tried : Tried need row i (length ea) (pairedBond ea eb el need i) o need1 row1
+    tried = subst (λ (n : List ℕ). Tried n row i (length ea) (pairedBond ea eb el n i) o need1 row1) (a .flags) t
 
-    parts : allFrom ea eb el need i ≡ withBond ea eb el need i ++ map (λ r. 0 ∷ r) (allFrom ea eb el need (i + 1))
+    parts : allFrom ea eb el need i ≡ pairedBond ea eb el need i ++ map (λ r. 0 ∷ r) (allFrom ea eb el need (i + 1))
     parts = all-step ea eb el need i (freeAt ea eb el need i) h (omega (arith, s .second)) (omega (arith, s .third)) refl
 
     pub flags-after : need1 ≡ need

@@ -1,4 +1,4 @@
--- What the contracts of the search under a budget ask and promise
+-- auxiliary: what the contracts of the search under a budget ask and promise
 use mathlib.Core.Path.{_≡_}
 use mathlib.Core.Bool.{true, false}
 use mathlib.Core.List.{List, [], _∷_, map}
@@ -7,7 +7,7 @@ use lib.ListN.{length, take, drop, getD}
 use Rattle.loops.specs.Loop.{pick}
 use Rattle.matching.specs.Enumeration.{Row}
 use Rattle.matching.specs.Graph.{flagged, touches}
-use Rattle.matching.specs.Model.{Searched, allFrom, freeAt, markAt, bondAt}
+use Rattle.matching.specs.Model.{Searched, allFrom, freeAt, markAt, tableBond}
 use Rattle.matching_engine.specs.declared.Sought.{Sought}
 use Rattle.matching_engine.specs.declared.Sought.the-variants.{Found, Absent}
 
@@ -20,8 +20,8 @@ pub record Tried (need row : List ℕ) (k m : ℕ) (fs : List Row) (o : Sought) 
   pub absent : o ≡ Absent → fs ≡ []
 
 -- the matchings of the bonds from k on that choose the bond k
-abbrev pub withBond : List ℕ → List ℕ → List ℕ → List ℕ → ℕ → List Row
-withBond ea eb el need k = map (λ s. 1 ∷ s) (pick (freeAt ea eb el need k) (allFrom ea eb el (markAt ea eb need k 0) (k + 1)) [])
+abbrev pub pairedBond : List ℕ → List ℕ → List ℕ → List ℕ → ℕ → List Row
+pairedBond ea eb el need k = map (λ s. 1 ∷ s) (pick (freeAt ea eb el need k) (allFrom ea eb el (markAt ea eb need k 0) (k + 1)) [])
 
 -- the numbers at the atoms, after the bond k
 abbrev pub noted : List ℕ → List ℕ → List ℕ → List ℕ → ℕ → List ℕ → List ℕ
@@ -29,7 +29,7 @@ noted ea eb el need k last = pick (freeAt ea eb el need k) (markAt ea eb last k 
 
 -- from the number that last has for an atom, no free bond ends at it
 pub record Lasts (ea eb el need last : List ℕ) : Type 0 where
-  pub none : (v j : ℕ) → v < length last → getD last v 0 ≤ j → j < length ea → freeAt ea eb el need j ≡ true → touches (bondAt ea eb el j) v ≡ false
+  pub none : (v j : ℕ) → v < length last → getD last v 0 ≤ j → j < length ea → freeAt ea eb el need j ≡ true → touches (tableBond ea eb el j) v ≡ false
 
 -- the atom v has no partner, and by its number no free bond from `from` on
 pub record Stranded (need last : List ℕ) (v from : ℕ) : Type 0 where

@@ -12,8 +12,8 @@ ghost use Prim.Native.Nat.{ℕ, _+_, _<_};
 ghost use lib.ListN.{length, take, set};
 ghost use Rattle.matching.specs.Enumeration.{rowFirst, rowNext};
 ghost use Rattle.matching.specs.Graph.{isMatching};
-ghost use Rattle.matching.specs.Model.{Shape, Tables, Searched, Ends, allFrom, laterFrom, matchingFrom, part, bondsOf, reply};
-ghost use Rattle.matching_engine.specs.Tried.{Tried, withBond, Lasts, noted, Stranded, Taken};
+ghost use Rattle.matching.specs.Model.{Shape, BondTables, Searched, Ends, allFrom, laterFrom, matchingFrom, part, bondsOf, reply};
+ghost use Rattle.matching_engine.specs.Tried.{Tried, pairedBond, Lasts, noted, Stranded, Taken};
 
 // How many bonds the plain search may choose before it gives up.
 const BUDGET: usize = 400;
@@ -50,7 +50,7 @@ fn note_bond(ea: &[u16], eb: &[u16], el: &[u8], need: &[u8], last: &mut [usize],
 
 // One more than the number of the last bond that can be chosen at each atom.
 fn fill_lasts(ea: &[u16], eb: &[u16], el: &[u8], need: &[u8], last: &mut [usize])
-    requires { ⌜ Tables (now ea) (now eb) (now el) (now need) 0 ⌝ }
+    requires { ⌜ BondTables (now ea) (now eb) (now el) (now need) 0 ⌝ }
     ensures { λ _. ⌜ Lasts (now (ea .entry)) (now (eb .entry)) (now (el .entry)) (now (need .entry)) (now (last .exit)) ⌝ }
 {
     let mut j: usize = 0;
@@ -74,7 +74,7 @@ fn stranded(need: &[u8], last: &[usize], v: AtomId, from: usize) -> bool
 
 // An end of the bond k is stranded behind it.
 fn dead_end(ea: &[u16], eb: &[u16], el: &[u8], need: &[u8], last: &[usize], k: BondId) -> bool
-    requires { ⌜ Tables (now ea) (now eb) (now el) (now need) (k .0 + 1) ⌝ }
+    requires { ⌜ BondTables (now ea) (now eb) (now el) (now need) (k .0 + 1) ⌝ }
     requires { ⌜ Lasts (now ea) (now eb) (now el) (now need) (now last) ⌝ }
     ensures { λ r. ⌜ (r ≡ true → allFrom (now (ea .entry)) (now (eb .entry)) (now (el .entry)) (now (need .entry)) (k .0 + 1) ≡ []) ⌝ }
 {
@@ -108,7 +108,7 @@ fn choose(
 ) -> Sought
     requires { ⌜ Shape (now ea) (now eb) (now el) (now need) (now row) (k .0) ⌝ }
     requires { ⌜ (k .0 < length (now ea)) × Lasts (now ea) (now eb) (now el) (now need) (now last) ⌝ }
-    ensures { λ r. ⌜ Tried (now (need .entry)) (now (row .entry)) (k .0) (length (now (ea .entry))) (withBond (now (ea .entry)) (now (eb .entry)) (now (el .entry)) (now (need .entry)) (k .0)) r (now (need .exit)) (now (row .exit)) ⌝ }
+    ensures { λ r. ⌜ Tried (now (need .entry)) (now (row .entry)) (k .0) (length (now (ea .entry))) (pairedBond (now (ea .entry)) (now (eb .entry)) (now (el .entry)) (now (need .entry)) (k .0)) r (now (need .exit)) (now (row .exit)) ⌝ }
 {
     if !matching_search::choosable(ea, eb, el, need, k) {
         return Sought::Absent;

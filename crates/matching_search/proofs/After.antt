@@ -8,7 +8,7 @@ use lib.ListN.{length, getD, set, take-append-drop}
 use lib.Seq.{set-getD}
 use Rattle.matching.specs.Graph.{Bond}
 use Rattle.matching.specs.Enumeration.{Row, rows, passing, consIf, matchings, before}
-use Rattle.matching.specs.Model.{pairsUp, part, matchingFrom, bondsFrom, some?, Shape, written, Searched, allFrom, laterFrom, bondAt, freeAt, markAt}
+use Rattle.matching.specs.Model.{pairsUp, part, matchingFrom, bondsFrom, some?, Shape, written, Searched, allFrom, laterFrom, tableBond, freeAt, markAt}
 use Rattle.matching.proofs.Enumeration.{after, after-one, after-zero}
 use Rattle.matching_search.proofs.Flags.{restore}
 use Rattle.matching_search.proofs.Choice.{less-one, bonds-end, bonds-step, none-map, with-one, with-zero, left-front, left-back, here, here2, here3, in-row}
@@ -19,23 +19,23 @@ module _ {ea eb el need row : List ℕ} {k : ℕ} (s : Shape ea eb el need row k
   rest = part (length ea) row (k + 1)
 
   later-step : (x : ℕ) → getD row k 0 ≡ x
-      → laterFrom ea eb el need (part (length ea) row k) k ≡ matchings (after (pairsUp (bondAt ea eb el k ∷ bondsFrom ea eb el (k + 1)) need) (x ∷ rest)) (suc (length ea - (k + 1)))
+      → laterFrom ea eb el need (part (length ea) row k) k ≡ matchings (after (pairsUp (tableBond ea eb el k ∷ bondsFrom ea eb el (k + 1)) need) (x ∷ rest)) (suc (length ea - (k + 1)))
   later-step x g =
       ap (λ (r : Row). laterFrom ea eb el need r k) (part-step (length ea) row k (here s more) (in-row s more))
       ∙ ap (λ (n : ℕ). matchings (after (pairsUp (bondsFrom ea eb el k) need) (getD row k 0 ∷ rest)) n) (less-one (length ea) k (here s more))
       ∙ ap (λ (l : List Bond). matchings (after (pairsUp l need) (getD row k 0 ∷ rest)) (suc (length ea - (k + 1))))
       (bonds-step ea eb el k (here s more) (here2 s more) (here3 s more))
-      ∙ ap (λ (y : ℕ). matchings (after (pairsUp (bondAt ea eb el k ∷ bondsFrom ea eb el (k + 1)) need) (y ∷ rest)) (suc (length ea - (k + 1)))) g
+      ∙ ap (λ (y : ℕ). matchings (after (pairsUp (tableBond ea eb el k ∷ bondsFrom ea eb el (k + 1)) need) (y ∷ rest)) (suc (length ea - (k + 1)))) g
 
   later-one : freeAt ea eb el need k ≡ true → getD row k 0 ≡ 1
       → laterFrom ea eb el need (part (length ea) row k) k
       ≡ map (λ s. 1 ∷ s) (laterFrom ea eb el (markAt ea eb need k 0) rest (k + 1)) ++ map (λ s. 0 ∷ s) (allFrom ea eb el need (k + 1))
   unfolding pairsUp
-  later-one f g = later-step 1 g ∙ after-one (pairsUp (bondAt ea eb el k ∷ bondsFrom ea eb el (k + 1)) need) (length ea - (k + 1)) rest ∙ rw f
+  later-one f g = later-step 1 g ∙ after-one (pairsUp (tableBond ea eb el k ∷ bondsFrom ea eb el (k + 1)) need) (length ea - (k + 1)) rest ∙ rw f
 
   later-zero : getD row k 0 ≡ 0 → laterFrom ea eb el need (part (length ea) row k) k ≡ map (λ s. 0 ∷ s) (laterFrom ea eb el need rest (k + 1))
   unfolding pairsUp
-  later-zero g = later-step 0 g ∙ after-zero (pairsUp (bondAt ea eb el k ∷ bondsFrom ea eb el (k + 1)) need) (length ea - (k + 1)) rest
+  later-zero g = later-step 0 g ∙ after-zero (pairsUp (tableBond ea eb el k ∷ bondsFrom ea eb el (k + 1)) need) (length ea - (k + 1)) rest
 
   -- the ways of `later`
   same-digit : (x : ℕ) → getD row k 0 ≡ x → row ≡ set row k x

@@ -9,7 +9,7 @@ use lib.ListN.{length, take, drop, set, replicate, drop-of-length-le, take-appen
 use lib.Seq.{drop-cons, take-suc-set, drop-set-lt, take-at, drop-at, length-take-le}
 use Rattle.matching.specs.Graph.{Bond, noneFlagged}
 use Rattle.matching.specs.Enumeration.{Row, consIf, matchings}
-use Rattle.matching.specs.Model.{pairsUp, bondsOf, bondsFrom, some?, headOr, Shape, Ends, written, Searched, allFrom, bondAt, freeAt, markAt}
+use Rattle.matching.specs.Model.{pairsUp, bondsOf, bondsFrom, some?, headOr, Shape, Ends, written, Searched, allFrom, tableBond, freeAt, markAt}
 use Rattle.matching.proofs.Enumeration.{found}
 use Rattle.matching.proofs.Graph.{matchings-bond, matchings-end}
 use Rattle.matching_search.proofs.Flags.{restore}
@@ -45,7 +45,7 @@ at-end {ea} {eb} {el} {need} {row} {k} s h e =
     }
 
 -- one bond more
-pub bonds-step : (ea eb el : List ℕ) (k : ℕ) → k < length ea → k < length eb → k < length el → bondsFrom ea eb el k ≡ bondAt ea eb el k ∷ bondsFrom ea eb el (k + 1)
+pub bonds-step : (ea eb el : List ℕ) (k : ℕ) → k < length ea → k < length eb → k < length el → bondsFrom ea eb el k ≡ tableBond ea eb el k ∷ bondsFrom ea eb el (k + 1)
 unfolding bondsOf
 bonds-step ea eb el k h i j = rw (add-one, drop-cons ea k 0 h, drop-cons eb k 0 i, drop-cons el k 0 j)
 
@@ -56,8 +56,8 @@ pub all-step : (ea eb el need : List ℕ) (k : ℕ) (f : Bool) → k < length ea
     → allFrom ea eb el need k ≡ map (λ s. 1 ∷ s) (found f (allFrom ea eb el (markAt ea eb need k 0) (k + 1))) ++ map (λ s. 0 ∷ s) (allFrom ea eb el need (k + 1))
 all-step ea eb el need k f h i j e =
     ap (λ (l : List Bond). matchings (pairsUp l need) (length ea - k)) (bonds-step ea eb el k h i j)
-    ∙ ap (matchings (pairsUp (bondAt ea eb el k ∷ bondsFrom ea eb el (k + 1)) need)) (less-one (length ea) k h)
-    ∙ matchings-bond (bondAt ea eb el k) (bondsFrom ea eb el (k + 1)) need (length ea - (k + 1)) f (sym e)
+    ∙ ap (matchings (pairsUp (tableBond ea eb el k ∷ bondsFrom ea eb el (k + 1)) need)) (less-one (length ea) k h)
+    ∙ matchings-bond (tableBond ea eb el k) (bondsFrom ea eb el (k + 1)) need (length ea - (k + 1)) f (sym e)
 
 -- a digit is written, and the rest
 digit : (row X : Row) (k m x : ℕ) (fs : List Row) (row′ : Row) → take k X ≡ take k row → drop m X ≡ drop m row → k < length X → k < m

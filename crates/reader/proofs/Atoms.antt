@@ -14,14 +14,14 @@ use borrow.Author.Tests.{le-leb, lt-leb, lt-ltb, leb-false}
 use Rattle.refusal.specs.declared.Refusal.{Refusal}
 use Rattle.refusal.specs.declared.Refusal.the-variants.{Grammar, ManyAtoms, ManyBonds}
 use Rattle.reading_grammar.specs.declared.Last.the-variants.{Plain as plain}
-use Rattle.reading_grammar.specs.declared.Mode.the-variants.{Seq as seq, Dot as dot}
+use Rattle.reading_grammar.specs.declared.Mode.the-variants.{Seq as seq, AtomNext as atomNext}
 use Rattle.table.specs.Limits.{maxAtoms, maxBonds}
 use Rattle.table.specs.Rows.{withAtom, putAtom, withBond, putBond}
 use Rattle.table.specs.declared.Atom.{Atom}
 use Rattle.table.specs.declared.Bond.{Bond}
 use Rattle.reading_state.specs.State.{Steering, withNextAtom}
 use Rattle.reading_state.specs.declared.Fields.{Fields}
-use Rattle.reading.specs.Memory.{Memory, nothing, kindOf, bondRow, begun, described, drafted}
+use Rattle.reading.specs.Memory.{Memory, nothing, kindOf, newBond, begun, described, drafted}
 use Rattle.reading.specs.Act.{modeAct, atomAct}
 use Rattle.reading_fields.specs.Rest.{rest, memory}
 use Rattle.reading_fields.specs.Spelled.{Begins, Admitted, SpellsRow, SpellsNothing, SpellsNot, Spells}
@@ -34,7 +34,7 @@ use Rattle.reader.specs.declared.atom.Room.{Room}
 use Rattle.reader.specs.Piece.{pendingOf}
 use Rattle.reader.specs.Added.{bondedBy, Next, HasRoom, Admits, bondsAfter, AddsNot, Adds}
 
-pub bond-row : (a b k : ℕ) → a < 65536 → b < 65536 → k < 256 → _≡_ {A = Bond} (record { first = toZ w32 a; second = toZ w32 b; kind = toZ w32 k }) (bondRow a b k)
+pub bond-row : (a b k : ℕ) → a < 65536 → b < 65536 → k < 256 → _≡_ {A = Bond} (record { first = toZ w32 a; second = toZ w32 b; kind = toZ w32 k }) (newBond a b k)
 bond-row a b k ha hb hk = simp (toZ-pos w32 {n = a} (omega arith), toZ-pos w32 {n = b} (omega arith), toZ-pos w32 {n = k} (omega arith))
 
 -- ---- room for an atom
@@ -66,7 +66,7 @@ unfolding begun
 unbonded-memory j t a b y o i f g hb ea = rw (hb, ea)
 
 bonded-memory : (j : Joint) (t : Steering) (a b : List ℤ) {a′ b′ : List ℤ} (y : Atom) (o i : ℕ) (f g : Fields) → bondedBy (t .atoms) j ≡ true → a′ ≡ withAtom a (t .atoms) y
-    → b′ ≡ withBond b (t .bonds) (bondRow (t .hub .0) (t .atoms) (kindOf (pendingOf j)))
+    → b′ ≡ withBond b (t .bonds) (newBond (t .hub .0) (t .atoms) (kindOf (pendingOf j)))
     → drafted g (described y (begun o (memory t a b (pendingOf j) i f))) ≡ memory (withNextAtom t o (bondsAfter t true)) a′ b′ nothing i g
 unfolding begun
 bonded-memory j t a b y o i f g hb ea eb = rw (hb, ea, eb)
@@ -88,7 +88,7 @@ module _ (s : List ℕ) (at : ℕ) (j : Joint) (t : Steering) (a b : List ℤ) w
 
     pub adds-crowded : {r : Refusal} → Begins s at → c ≡ Room.Refused r → AddsNot s at j t a b r at
     unfolding modeAct
-    adds-crowded v e = record { is = λ i f. rest-refused s at dot (held i f) (there s at) (v .within) (v .goes) (subst (Admits (t .atoms) (t .bonds) w) e ec (held i f) (next i f) (getD s at 0) at) }
+    adds-crowded v e = record { is = λ i f. rest-refused s at atomNext (held i f) (there s at) (v .within) (v .goes) (subst (Admits (t .atoms) (t .bonds) w) e ec (held i f) (next i f) (getD s at 0) at) }
 
     pub adds-broken : {p : ℕ} → SpellsNot s at p → c ≡ Room.Enough → AddsNot s at j t a b Grammar p
     adds-broken v e = record { is = λ i f. v .is (held i f) (admitted e i f) }
@@ -108,7 +108,7 @@ module _ (s : List ℕ) (at : ℕ) (j : Joint) (t : Steering) (a b : List ℤ) w
             record { tens = i; draft = u .0; is = u .1 ∙ ap (rest s p (seq plain)) (unbonded-memory j t a b y o i f (u .0) (sym ew ∙ h) row-put) };
       }
 
-      pub adds-bonded : {k : ℕ} {r : Bond} {b′ : List ℤ} → w ≡ true → k ≡ kindOf (pendingOf j) → r ≡ bondRow (t .hub .0) (t .atoms) k → b′ ≡ putBond b (t .bonds) r → Adds s at j t a b a′ b′ (Added.Atom o true p)
+      pub adds-bonded : {k : ℕ} {r : Bond} {b′ : List ℤ} → w ≡ true → k ≡ kindOf (pendingOf j) → r ≡ newBond (t .hub .0) (t .atoms) k → b′ ≡ putBond b (t .bonds) r → Adds s at j t a b a′ b′ (Added.Atom o true p)
       unfolding putBond
       adds-bonded {k} {r} {b′} h ek er eb = record {
         within = v .within;
@@ -116,7 +116,7 @@ module _ (s : List ℕ) (at : ℕ) (j : Joint) (t : Steering) (a b : List ℤ) w
         atoms = room e .atom;
         bonds = λ l. omega (arith, room e .bond h);
         is = λ i f. let u = v .is (held i f) (admitted e i f) in
-            let eu : b′ ≡ withBond b (t .bonds) (bondRow (t .hub .0) (t .atoms) (kindOf (pendingOf j))) = eb ∙ rw (lt-ltb (t .bonds) maxBonds (room e .bond h), er, ek) in
+            let eu : b′ ≡ withBond b (t .bonds) (newBond (t .hub .0) (t .atoms) (kindOf (pendingOf j))) = eb ∙ rw (lt-ltb (t .bonds) maxBonds (room e .bond h), er, ek) in
             record { tens = i; draft = u .0; is = u .1 ∙ ap (rest s p (seq plain)) (bonded-memory j t a b y o i f (u .0) (sym ew ∙ h) row-put eu) };
       }
 

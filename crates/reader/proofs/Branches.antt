@@ -16,13 +16,13 @@ use Rattle.refusal.specs.declared.Refusal.{Refusal}
 use Rattle.refusal.specs.declared.Refusal.the-variants.{Grammar}
 use Rattle.reading_grammar.specs.Grammar.{nonzero, bondSymbols}
 use Rattle.reading_grammar.specs.declared.Last.the-variants.{Plain as plain}
-use Rattle.reading_grammar.specs.declared.Mode.the-variants.{Seq as seq, Dot as dot}
+use Rattle.reading_grammar.specs.declared.Mode.the-variants.{Seq as seq, AtomNext as atomNext}
 use Rattle.reading_grammar.specs.declared.Out.the-variants.{Up as up, Down as down}
 use Rattle.reading_grammar.specs.Machine.{next, resting, atomOr, bridgeOr}
 use Rattle.reading_grammar.specs.Fold.{keeps, good, bad}
 use Rattle.table.specs.Limits.{maxAtoms}
 use Rattle.reading_state.specs.declared.Fields.{Fields}
-use Rattle.reading_state.specs.Limits.{maxDepth}
+use Rattle.ids.specs.Limits.{maxDepth}
 use Rattle.reading_state.specs.State.{Steering, opened, closed}
 use Rattle.reading.specs.Memory.{Memory, nothing, moved}
 use Rattle.reading.specs.Act.{modeAct, branchAct}
@@ -88,12 +88,12 @@ module _ (s : List ℕ) (p : ℕ) (t : Steering) (a b : List ℤ) (l : p < lengt
   deep-refused h i f = rest-up-refused s p (seq plain) (memory t a b nothing i f) (there s p) l (open-up (getD s p 0) e) (open-act (getD s p 0) p (memory t a b nothing i f) e ∙ rw (le-leb maxDepth (t .depth) h))
 
   module _ (h : t .depth < maxDepth) {u : Steering} (eu : u ≡ opened t) {r : Start} (j : Joined s (p + 1) r) where
-    goes-in : (i : ℕ) (f : Fields) → rest s p (seq plain) (memory t a b nothing i f) ≡ rest s (r .at) dot (memory u a b (pendingOf (r .joint)) i f)
+    goes-in : (i : ℕ) (f : Fields) → rest s p (seq plain) (memory t a b nothing i f) ≡ rest s (r .at) atomNext (memory u a b (pendingOf (r .joint)) i f)
     unfolding branchAct opened
     goes-in i f =
         rest-up s p (seq plain) (memory t a b nothing i f) (there s p) l (open-up (getD s p 0) e) {ν = memory (opened t) a b nothing i f}
         (open-act (getD s p 0) p (memory t a b nothing i f) e ∙ rw (lt-leb maxDepth (t .depth) h)) (add-one (t .depth))
-        ∙ j .is (opened t) a b i f ∙ ap (λ (v : Steering). rest s (r .at) dot (memory v a b (pendingOf (r .joint)) i f)) (sym eu)
+        ∙ j .is (opened t) a b i f ∙ ap (λ (v : Steering). rest s (r .at) atomNext (memory v a b (pendingOf (r .joint)) i f)) (sym eu)
 
     -- where its sequence was read, the branch is open
     pub inner-closable : {a′ b′ : List ℤ} {o : Outcome} → Sequenced s (r .at) (r .joint) u a b a′ b′ o → Closable (o .why) (o .st)

@@ -15,10 +15,10 @@ use mir.Facts.{toZ-pos}
 use Rattle.loops.specs.Loop.{pick, upTo, run}
 use Rattle.loops.proofs.Loops.{and-left, and-right, upTo-at}
 use Rattle.refusal.specs.declared.Refusal.{Refusal}
-use Rattle.refusal.specs.declared.Refusal.the-variants.{Short, LongText, Grammar, OpenBridge, NoMatching}
+use Rattle.refusal.specs.declared.Refusal.the-variants.{Short, LongText, Grammar, OpenBridge, Unmatchable}
 use Rattle.valence.specs.Valence.{implied}
 use Rattle.reading_grammar.specs.declared.Last.the-variants.{Plain as plain}
-use Rattle.reading_grammar.specs.declared.Mode.the-variants.{Seq as seq, Dot as dot}
+use Rattle.reading_grammar.specs.declared.Mode.the-variants.{Seq as seq, AtomNext as atomNext}
 use Rattle.reading_grammar.specs.declared.State as machine
 use Rattle.reading_grammar.specs.declared.State.the-variants.{Start as start}
 use Rattle.reading_grammar.specs.Machine.{next, step, resting, accepting}
@@ -29,12 +29,12 @@ use Rattle.table.specs.Valid.{Valid, enough}
 use Rattle.table_graph.specs.Graph.{bondSum, matchable}
 use Rattle.table_graph.specs.Built.{Wired, Prepared}
 use Rattle.reading_state.specs.declared.Fields.{Fields}
-use Rattle.reading_state.specs.Limits.{maxText, maxDepth, bridges}
+use Rattle.ids.specs.Limits.{maxText, maxDepth, bridges}
 use Rattle.reading_state.specs.State.{Steering, steering, started}
 use Rattle.reading_state.specs.declared.State.{State}
 use Rattle.reading.specs.Memory.{Memory, nothing, blank}
 use Rattle.reading.specs.Act.{act, modeAct}
-use Rattle.reading.specs.Read.{Told, zeros, refused, short, beginning, hydrogenate, hydrogenated, earlier, leftmost, ended, finished, readFrom, readOf}
+use Rattle.reading.specs.Read.{ReadResult, zeros, refused, short, beginning, hydrogenate, hydrogenated, earlier, leftmost, ended, finished, readFrom, readOf}
 use Rattle.reading.proofs.Hydrogens.{implied-small}
 use Rattle.reading.proofs.Valid.{sane-valid}
 use Rattle.reading.proofs.Claims.{read-sane}
@@ -51,7 +51,7 @@ use Rattle.reader.proofs.Branches.{close-down}
 
 -- ---- the whole text
 -- before its first byte the machine stands as before an atom
-start-dot : (s : List ℕ) (a b : List ℤ) → 0 < length s → answerOf s a b ≡ rest s 0 dot (memory started a b nothing 0 blank)
+start-dot : (s : List ℕ) (a b : List ℤ) → 0 < length s → answerOf s a b ≡ rest s 0 atomNext (memory started a b nothing 0 blank)
 unfolding answer rest read feed act step next modeAct started
 start-dot [] a b h = absurd (omega arith)
 start-dot (x ∷ s) a b h = refl
@@ -82,13 +82,13 @@ module _ (s : List ℕ) (a b : List ℤ) (h : length s ≡ 0 → ⊥) {u : Steer
       split zero k = absurd (k refl)
       split (suc n) k = omega arith
 
-  begun-at : answerOf s a b ≡ rest s 0 dot (memory u a b nothing 0 blank)
-  begun-at = start-dot s a b positive ∙ ap (λ (v : Steering). rest s 0 dot (memory v a b nothing 0 blank)) (sym eu)
+  begun-at : answerOf s a b ≡ rest s 0 atomNext (memory u a b nothing 0 blank)
+  begun-at = start-dot s a b positive ∙ ap (λ (v : Steering). rest s 0 atomNext (memory v a b nothing 0 blank)) (sym eu)
 
   pub text-refused : {c : Refusal} {p : ℕ} → o .why ≡ Why.Refused c p → TextRead s a b a′ b′ o
   text-refused w = record {
     is = subst⁻¹ (λ (z : Why). TextGoes s a b a′ b′ z (o .st)) w
-        (begun-at ∙ subst (λ (z : Why). Goes s 0 dot nothing u a b z (o .at) (o .st) a′ b′) w (g .goes) 0 blank);
+        (begun-at ∙ subst (λ (z : Why). Goes s 0 atomNext nothing u a b z (o .at) (o .st) a′ b′) w (g .goes) 0 blank);
   }
 
   module _ (w : o .why ≡ Why.Fine) where
@@ -100,7 +100,7 @@ module _ (s : List ℕ) (a b : List ℤ) (h : length s ≡ 0 → ⊥) {u : Steer
     flat = past .deep ∙ ap (λ (v : Steering). v .depth) eu
 
     reached : (i : ℕ) × (f : Fields) × (answerOf s a b ≡ rest s (o .at) (seq plain) (memory (o .st) a′ b′ nothing i f))
-    reached = let y = subst (λ (z : Why). Goes s 0 dot nothing u a b z (o .at) (o .st) a′ b′) w (g .goes) 0 blank in (y .tens, y .draft, begun-at ∙ y .is)
+    reached = let y = subst (λ (z : Why). Goes s 0 atomNext nothing u a b z (o .at) (o .st) a′ b′) w (g .goes) 0 blank in (y .tens, y .draft, begun-at ∙ y .is)
 
     -- a `)` that closes nothing
     pub text-wrong : {x : Outcome} → o .at < length s → x ≡ refusedAt Grammar (o .at) (o .st) → TextRead s a b a′ b′ x
@@ -187,12 +187,12 @@ module _ (t : Steering) (a b : List ℤ) {p : ℕ} (e : p ≡ leftmost (t .opene
     unfolding ended
     ended-matched m = rw (← e, le-ltb p maxText h, ← ev, m)
 
-    pub ended-unmatched : {x y : List ℤ} → matchable v b (t .atoms) (t .bonds) ≡ false → x ≡ zeros v → y ≡ zeros b → told (reply.Answer.Refused NoMatching 0) x y ≡ endedOf t a b
+    pub ended-unmatched : {x y : List ℤ} → matchable v b (t .atoms) (t .bonds) ≡ false → x ≡ zeros v → y ≡ zeros b → told (reply.Answer.Refused Unmatchable 0) x y ≡ endedOf t a b
     unfolding ended
     ended-unmatched m ex ey = rw (ex, ey, ← e, le-ltb p maxText h, ← ev, m)
 
 -- ---- the public call
-abbrev byAnswer : List ℤ → List ℤ → Answer Memory → Told
+abbrev byAnswer : List ℤ → List ℤ → Answer Memory → ReadResult
 byAnswer a b (good μ) = ended μ
 byAnswer a b (bad c p) = refused c p a b
 
@@ -250,7 +250,7 @@ module _ (s : List ℕ) (a b : List ℤ) where
             let r = good-going (length s) (read act 0 (going start (beginning (zeros a) (zeros b))) s) (memory (o .st) x y nothing (fine .0) (fine .1)) e in
             sane-valid {σ = r .0} (read-sane s a b {σ = r .0} (record { room = h; short = l }) (r .1))
 
-        pub told-fine : {z : Told} → z ≡ endedOf (o .st) x y → z ≡ readOf s a b
+        pub told-fine : {z : ReadResult} → z ≡ endedOf (o .st) x y → z ≡ readOf s a b
         unfolding ended
         told-fine q = q ∙ sym (whole ∙ ap (byAnswer a b) (fine .3))
 

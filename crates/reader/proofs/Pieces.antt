@@ -16,7 +16,7 @@ use Rattle.element.specs.declared.Letter.the-variants.{Plain as Alone, Selected
 use Rattle.reading_grammar.specs.Grammar.{nonzero, digits, bondSymbols}
 use Rattle.reading_grammar.specs.declared.Last.the-variants.{Plain as plain}
 use Rattle.reading_grammar.specs.declared.Mode.{Mode}
-use Rattle.reading_grammar.specs.declared.Mode.the-variants.{Seq as seq, Bond as bond, Dot as dot, Inside as inside, Percent as percent, Percent1 as percent1}
+use Rattle.reading_grammar.specs.declared.Mode.the-variants.{Seq as seq, Bond as bond, AtomNext as atomNext, Inside as inside, Percent as percent, Percent1 as percent1}
 use Rattle.reading_grammar.specs.declared.Out.the-variants.{Stop as stop, To as to}
 use Rattle.reading_grammar.specs.Machine.{next, resting, atomOr, bridgeOr}
 use Rattle.reading_grammar.specs.Fold.{keeps, refuses}
@@ -37,47 +37,47 @@ use Rattle.reader.specs.Piece.{jointOf, kindMode, kindPending, startMode
 
 -- ---- an atom, where no other piece can begin
 plain-dot : (s : List ℕ) (p : ℕ) {b : ℕ} (μ : Memory) → Peeked s p b → p < length s → among b nonzero ≡ false → eqb b 37 ≡ false → among b bondSymbols ≡ false → eqb b 46 ≡ false → eqb b 40 ≡ false → eqb b 41 ≡ false
-    → rest s p (seq plain) μ ≡ rest s p dot μ
+    → rest s p (seq plain) μ ≡ rest s p atomNext μ
 unfolding next modeAct bridgeOr
 plain-dot s p {b} μ k l z h c d o e = by-letter (letterOf b) refl
   where
-    same : next (seq plain) b ≡ next dot b
+    same : next (seq plain) b ≡ next atomNext b
     same = rw (z, h, c, d, o, e)
 
-    by-letter : (x : Letter) → letterOf b ≡ x → rest s p (seq plain) μ ≡ rest s p dot μ
-    by-letter (Alone v) n = alike-in s p (seq plain) dot μ k l same (rw n)
-    by-letter (Selected v) n = alike-in s p (seq plain) dot μ k l same (rw n)
-    by-letter Half n = alike-in s p (seq plain) dot μ k l same (rw n)
-    by-letter Opening n = alike-in s p (seq plain) dot μ k l same (rw n)
-    by-letter Nothing n = rest-dead s p (seq plain) μ k l (same ∙ nothing-first b n stop) ∙ sym (rest-dead s p dot μ k l (nothing-first b n stop))
+    by-letter : (x : Letter) → letterOf b ≡ x → rest s p (seq plain) μ ≡ rest s p atomNext μ
+    by-letter (Alone v) n = alike-in s p (seq plain) atomNext μ k l same (rw n)
+    by-letter (Selected v) n = alike-in s p (seq plain) atomNext μ k l same (rw n)
+    by-letter Half n = alike-in s p (seq plain) atomNext μ k l same (rw n)
+    by-letter Opening n = alike-in s p (seq plain) atomNext μ k l same (rw n)
+    by-letter Nothing n = rest-dead s p (seq plain) μ k l (same ∙ nothing-first b n stop) ∙ sym (rest-dead s p atomNext μ k l (nothing-first b n stop))
 
-bond-dot : (s : List ℕ) (p : ℕ) {b : ℕ} (μ : Memory) → Peeked s p b → among b nonzero ≡ false → eqb b 37 ≡ false → rest s p bond μ ≡ rest s p dot μ
+bond-dot : (s : List ℕ) (p : ℕ) {b : ℕ} (μ : Memory) → Peeked s p b → among b nonzero ≡ false → eqb b 37 ≡ false → rest s p bond μ ≡ rest s p atomNext μ
 unfolding next modeAct bridgeOr resting
 bond-dot s p {b} μ k z h = by-letter (letterOf b) refl
   where
-    same : next bond b ≡ next dot b
+    same : next bond b ≡ next atomNext b
     same = rw (z, h)
 
-    by-letter : (x : Letter) → letterOf b ≡ x → rest s p bond μ ≡ rest s p dot μ
-    by-letter (Alone v) n = alike s p bond dot μ k same (rw n) refl
-    by-letter (Selected v) n = alike s p bond dot μ k same (rw n) refl
-    by-letter Half n = alike s p bond dot μ k same (rw n) refl
-    by-letter Opening n = alike s p bond dot μ k same (rw n) refl
-    by-letter Nothing n = alike-dead s p bond dot μ k (same ∙ nothing-first b n stop) (nothing-first b n stop) refl
+    by-letter : (x : Letter) → letterOf b ≡ x → rest s p bond μ ≡ rest s p atomNext μ
+    by-letter (Alone v) n = alike s p bond atomNext μ k same (rw n) refl
+    by-letter (Selected v) n = alike s p bond atomNext μ k same (rw n) refl
+    by-letter Half n = alike s p bond atomNext μ k same (rw n) refl
+    by-letter Opening n = alike s p bond atomNext μ k same (rw n) refl
+    by-letter Nothing n = alike-dead s p bond atomNext μ k (same ∙ nothing-first b n stop) (nothing-first b n stop) refl
 
-inside-dot : (s : List ℕ) (p : ℕ) {b : ℕ} (μ : Memory) → Peeked s p b → among b bondSymbols ≡ false → eqb b 46 ≡ false → rest s p inside μ ≡ rest s p dot μ
+inside-dot : (s : List ℕ) (p : ℕ) {b : ℕ} (μ : Memory) → Peeked s p b → among b bondSymbols ≡ false → eqb b 46 ≡ false → rest s p inside μ ≡ rest s p atomNext μ
 unfolding next modeAct resting
 inside-dot s p {b} μ k z h = by-letter (letterOf b) refl
   where
-    same : next inside b ≡ next dot b
+    same : next inside b ≡ next atomNext b
     same = rw (z, h)
 
-    by-letter : (x : Letter) → letterOf b ≡ x → rest s p inside μ ≡ rest s p dot μ
-    by-letter (Alone v) n = alike s p inside dot μ k same (rw n) refl
-    by-letter (Selected v) n = alike s p inside dot μ k same (rw n) refl
-    by-letter Half n = alike s p inside dot μ k same (rw n) refl
-    by-letter Opening n = alike s p inside dot μ k same (rw n) refl
-    by-letter Nothing n = alike-dead s p inside dot μ k (same ∙ nothing-first b n stop) (nothing-first b n stop) refl
+    by-letter : (x : Letter) → letterOf b ≡ x → rest s p inside μ ≡ rest s p atomNext μ
+    by-letter (Alone v) n = alike s p inside atomNext μ k same (rw n) refl
+    by-letter (Selected v) n = alike s p inside atomNext μ k same (rw n) refl
+    by-letter Half n = alike s p inside atomNext μ k same (rw n) refl
+    by-letter Opening n = alike s p inside atomNext μ k same (rw n) refl
+    by-letter Nothing n = alike-dead s p inside atomNext μ k (same ∙ nothing-first b n stop) (nothing-first b n stop) refl
 
 -- ---- a bond symbol and a dot
 pub no-kind : (b : ℕ) → symbolKind b ≡ 0 → among b bondSymbols ≡ false
@@ -103,7 +103,7 @@ kind-symbol b h = split (eqb b 45) (eqb b 61) (eqb b 35) h
 -- what a bond symbol does after an atom, and at the start of a branch
 record Joins (b : ℕ) : Type 0 where
   pub out : next (seq plain) b ≡ to bond
-  pub inner : next inside b ≡ to dot
+  pub inner : next inside b ≡ to atomNext
   pub letter : letterOf b ≡ Nothing
   pub digit : among b nonzero ≡ false
   pub percent : eqb b 37 ≡ false
@@ -133,7 +133,7 @@ module _ (s : List ℕ) (p : ℕ) {b : ℕ} (k : Peeked s p b) where
     symbol-step t a c i f = let j = symbol-joins b listed in
         rest-to s p (seq plain) (memory t a c nothing i f) k symbol-in (j .out) {ν = memory t a c (symbol x) i f} (rw (j .letter, j .digit, j .percent, listed, j .point, e)) refl
 
-    inner-step : (t : Steering) (a c : List ℤ) (i : ℕ) (f : Fields) → rest s p inside (memory t a c nothing i f) ≡ rest s (p + 1) dot (memory t a c (symbol x) i f)
+    inner-step : (t : Steering) (a c : List ℤ) (i : ℕ) (f : Fields) → rest s p inside (memory t a c nothing i f) ≡ rest s (p + 1) atomNext (memory t a c (symbol x) i f)
     unfolding modeAct
     inner-step t a c i f = let j = symbol-joins b listed in
         rest-to s p inside (memory t a c nothing i f) k symbol-in (j .inner) {ν = memory t a c (symbol x) i f} (rw (j .letter, j .point, e)) refl
@@ -157,7 +157,7 @@ module _ (s : List ℕ) (p : ℕ) {b : ℕ} (k : Peeked s p b) where
     joined-dot = record {
       within = omega (arith, byte-in k e);
       later = omega arith;
-      is = λ t a c i f. rest-to s p inside (memory t a c nothing i f) k (byte-in k e) {m′ = dot} (rw e) {ν = memory t a c dotted i f} (rw e) refl;
+      is = λ t a c i f. rest-to s p inside (memory t a c nothing i f) k (byte-in k e) {m′ = atomNext} (rw e) {ν = memory t a c dotted i f} (rw e) refl;
     }
 
     pub seen-dot : Seen s p (seq plain) nothing (Piece.Atom Joint.Dot (p + 1))
@@ -165,7 +165,7 @@ module _ (s : List ℕ) (p : ℕ) {b : ℕ} (k : Peeked s p b) where
     seen-dot = record {
       within = omega (arith, byte-in k e);
       later = omega arith;
-      is = λ t a c i f. rest-to s p (seq plain) (memory t a c nothing i f) k (byte-in k e) {m′ = dot} (rw e) {ν = memory t a c dotted i f} (rw e) refl;
+      is = λ t a c i f. rest-to s p (seq plain) (memory t a c nothing i f) k (byte-in k e) {m′ = atomNext} (rw e) {ν = memory t a c dotted i f} (rw e) refl;
     }
 
   pub joined-none : {x : ℕ} → p ≤ length s → (b ≡ 46 → ⊥) → x ≡ symbolKind b → x ≡ 0 → Joined s p (record { joint = Joint.Elided; at = p })

@@ -13,13 +13,13 @@ use Rattle.refusal.specs.declared.Refusal.the-variants.{Grammar, DeepBranch}
 use Rattle.refusal.specs.Code.{codeOf}
 use Rattle.reading_grammar.specs.declared.Last.the-variants.{Plain as plain}
 use Rattle.reading_grammar.specs.declared.Mode.{Mode}
-use Rattle.reading_grammar.specs.declared.Mode.the-variants.{Seq as seq, Dot as dot}
+use Rattle.reading_grammar.specs.declared.Mode.the-variants.{Seq as seq, AtomNext as atomNext}
 use Rattle.reading_grammar.specs.Fold.{Answer, bad}
 use Rattle.table.specs.Limits.{maxAtoms}
 use Rattle.reading_state.specs.State.{Steering, steering, withNextAtom, joined}
 use Rattle.reading_state.specs.declared.State.{State}
 use Rattle.reading_state.specs.declared.Fields.{Fields}
-use Rattle.reading_state.specs.Limits.{bridges, maxDepth}
+use Rattle.ids.specs.Limits.{bridges, maxDepth}
 use Rattle.reading.specs.Memory.{Memory, Pending, nothing}
 use Rattle.reading.specs.Act.{bridgeAct}
 use Rattle.reading_fields.specs.Rest.{rest, memory}
@@ -44,7 +44,7 @@ closable-beside (Why.Refused c e) st p x p′ x′ h = tt
 
 -- the machine rests only where it is not fresh
 resting-older : (f : Bool) → startMode f ≡ seq plain → f ≡ false
-resting-older true e = let z : _≡_ {A = Mode} dot (seq plain) = e in cc
+resting-older true e = let z : _≡_ {A = Mode} atomNext (seq plain) = e in cc
 resting-older false e = refl
 
 -- a reading that reached p rests there
@@ -54,7 +54,7 @@ at-rest {s} {x} {p} {q} {m} {k} {u} {a} {b} e n l y =
 
 -- the reading where a sequence begins
 abbrev begun : List ℕ → Joint → ℕ → Steering → List ℤ → List ℤ → ℕ → Fields → Answer Memory
-begun s j p t a b i d = rest s p dot (memory t a b (pendingOf j) i d)
+begun s j p t a b i d = rest s p atomNext (memory t a b (pendingOf j) i d)
 
 -- ---- what holds at each turn of the loop, from p₀ in t with the tables a₀, b₀ on
 pub record Turn (s : List ℕ) (j : Joint) (p₀ : ℕ) (t : Steering) (a₀ b₀ : List ℤ) (p : ℕ) (f : Bool) (u : Steering) (a b : List ℤ) : Type 0 where
@@ -89,7 +89,7 @@ module _ {s : List ℕ} {j : Joint} {p₀ : ℕ} {t : Steering} {a₀ b₀ : Lis
       atom-seen : SeenAtom s p (startMode f) (startPending f j) k q
       atom-seen = subst (Seen s p (startMode f) (startPending f j)) e h
 
-      atom-stands : (i : ℕ) (d : Fields) → Reaches s (begun s j p₀ t a₀ b₀ i d) q dot (pendingOf k) u a b
+      atom-stands : (i : ℕ) (d : Fields) → Reaches s (begun s j p₀ t a₀ b₀ i d) q atomNext (pendingOf k) u a b
       atom-stands i d = let y = v .stands i d in record { tens = y .tens; draft = y .draft; is = y .is ∙ atom-seen .is u a b (y .tens) (y .draft) }
 
       pub atom-lies : q ≤ length s
@@ -204,7 +204,7 @@ module _ {s : List ℕ} {j : Joint} {p₀ : ℕ} {t : Steering} {a₀ b₀ : Lis
 
         pub end-branch : {c : Refusal} {x : ℕ} → o .why ≡ Why.Refused c x → Sequenced s p₀ j t a₀ b₀ a′ b′ o
         end-branch {c} {x} w = record {
-          goes = subst⁻¹ (λ (z : Why). Goes s p₀ dot (pendingOf j) t a₀ b₀ z (o .at) (o .st) a′ b′) w
+          goes = subst⁻¹ (λ (z : Why). Goes s p₀ atomNext (pendingOf j) t a₀ b₀ z (o .at) (o .st) a′ b′) w
               (λ i d. let y = branch-stands i d in y .is ∙ subst (λ (z : Why). Goes s q (seq plain) nothing u a b z (o .at) (o .st) a′ b′) w (g .goes) (y .tens) (y .draft));
           past = subst⁻¹ (λ (z : Why). Past s p₀ t z (o .at) (o .st)) w tt;
           stops = subst⁻¹ (λ (z : Why). Stops s z (o .at)) w tt;

@@ -12,7 +12,7 @@ use Rattle.refusal.specs.declared.Refusal.{Refusal}
 use Rattle.refusal.specs.Code.{codeOf}
 use Rattle.reading_grammar.specs.declared.Last.the-variants.{Plain as plain}
 use Rattle.reading_grammar.specs.declared.Mode.{Mode}
-use Rattle.reading_grammar.specs.declared.Mode.the-variants.{Seq as seq, Dot as dot}
+use Rattle.reading_grammar.specs.declared.Mode.the-variants.{Seq as seq, AtomNext as atomNext}
 use Rattle.reading_grammar.specs.Fold.{Answer, bad, keeps, refuses}
 use Rattle.table.specs.Limits.{maxAtoms, maxBonds}
 use Rattle.reading_state.specs.State.{Steering, withNextAtom}
@@ -60,10 +60,10 @@ pub record AddsAtom (s : List ℕ) (at : ℕ) (j : Joint) (t : Steering) (a b a�
   pub later : at < p
   pub atoms : t .atoms < maxAtoms
   pub bonds : t .bonds ≤ maxBonds → bondsAfter t w ≤ maxBonds
-  pub is : (i : ℕ) (f : Fields) → Reaches s (rest s at dot (memory t a b (pendingOf j) i f)) p (seq plain) nothing (withNextAtom t o (bondsAfter t w)) a′ b′
+  pub is : (i : ℕ) (f : Fields) → Reaches s (rest s at atomNext (memory t a b (pendingOf j) i f)) p (seq plain) nothing (withNextAtom t o (bondsAfter t w)) a′ b′
 
 pub record AddsNot (s : List ℕ) (at : ℕ) (j : Joint) (t : Steering) (a b : List ℤ) (r : Refusal) (p : ℕ) : Type 0 where
-  pub is : (i : ℕ) (f : Fields) → rest s at dot (memory t a b (pendingOf j) i f) ≡ bad (codeOf r) p
+  pub is : (i : ℕ) (f : Fields) → rest s at atomNext (memory t a b (pendingOf j) i f) ≡ bad (codeOf r) p
 
 abbrev pub Adds : List ℕ → ℕ → Joint → Steering → List ℤ → List ℤ → List ℤ → List ℤ → Added → Type 0
 Adds s at j t a b a′ b′ (Added.Atom o w p) = AddsAtom s at j t a b a′ b′ o w p

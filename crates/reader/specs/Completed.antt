@@ -17,7 +17,7 @@ use Rattle.reading_state.specs.State.{Steering}
 use Rattle.reading_state.specs.declared.Fields.{Fields}
 use Rattle.reading.specs.Memory.{Memory, nothing, blank}
 use Rattle.reading.specs.Act.{act}
-use Rattle.reading.specs.Read.{Told, beginning, hydrogenated, ended}
+use Rattle.reading.specs.Read.{ReadResult, beginning, hydrogenated, ended}
 use Rattle.reading_fields.specs.Rest.{memory}
 use Rattle.reader.specs.declared.bridge.Why.{Why}
 use Rattle.reader.specs.Outcome.{Bounded, Outcome}
@@ -36,7 +36,7 @@ pub record Completed (outside : List ℕ) (atoms bonds : List ℤ) (n m : ℕ) (
   pub matched : r ≡ matchable atoms′ bonds n m
 
 -- what comes after the last byte, in a state and with tables
-abbrev pub endedOf : Steering → List ℤ → List ℤ → Told
+abbrev pub endedOf : Steering → List ℤ → List ℤ → ReadResult
 endedOf t a b = ended (memory t a b nothing 0 blank)
 
 -- reading the whole text into tables that stand so, as the byte machine answers

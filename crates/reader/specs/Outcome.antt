@@ -11,12 +11,12 @@ use Rattle.refusal.specs.declared.Refusal.the-variants.{Grammar}
 use Rattle.refusal.specs.Code.{codeOf}
 use Rattle.reading_grammar.specs.declared.Last.the-variants.{Plain as plain}
 use Rattle.reading_grammar.specs.declared.Mode.{Mode}
-use Rattle.reading_grammar.specs.declared.Mode.the-variants.{Seq as seq, Dot as dot}
+use Rattle.reading_grammar.specs.declared.Mode.the-variants.{Seq as seq, AtomNext as atomNext}
 use Rattle.reading_grammar.specs.Fold.{Answer, bad}
 use Rattle.table.specs.Limits.{maxAtoms, maxBonds}
 use Rattle.reading_state.specs.State.{Steering, steering, closed}
 use Rattle.reading_state.specs.declared.Fields.{Fields}
-use Rattle.reading_state.specs.Limits.{maxDepth}
+use Rattle.ids.specs.Limits.{maxDepth}
 use Rattle.reading.specs.Memory.{Memory, Pending, nothing}
 use Rattle.reading_fields.specs.Rest.{rest, memory}
 use Rattle.reader.specs.declared.piece.Joint.{Joint}
@@ -74,7 +74,7 @@ Stops s Why.Fine q = (getD s q 0 ≡ 41 → ⊥) → q ≡ length s
 Stops s (Why.Refused r e) q = Unit {0}
 
 pub record Sequenced (s : List ℕ) (p : ℕ) (j : Joint) (t : Steering) (a b a′ b′ : List ℤ) (o : Outcome) : Type 0 where
-  pub goes : Goes s p dot (pendingOf j) t a b (o .why) (o .at) (o .st) a′ b′
+  pub goes : Goes s p atomNext (pendingOf j) t a b (o .why) (o .at) (o .st) a′ b′
   pub past : Past s p t (o .why) (o .at) (o .st)
   pub stops : Stops s (o .why) (o .at)
 

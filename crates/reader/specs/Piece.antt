@@ -11,11 +11,11 @@ use Rattle.element.specs.Symbols.{among}
 use Rattle.reading_grammar.specs.Grammar.{bondSymbols}
 use Rattle.reading_grammar.specs.declared.Last.the-variants.{Plain as plain}
 use Rattle.reading_grammar.specs.declared.Mode.{Mode}
-use Rattle.reading_grammar.specs.declared.Mode.the-variants.{Seq as seq, Bond as bond, Dot as dot, Inside as inside}
+use Rattle.reading_grammar.specs.declared.Mode.the-variants.{Seq as seq, Bond as bond, AtomNext as atomNext, Inside as inside}
 use Rattle.reading_grammar.specs.Fold.{Answer, bad, keeps, refuses}
 use Rattle.reading_state.specs.State.{Steering}
 use Rattle.reading_state.specs.declared.Fields.{Fields}
-use Rattle.reading_state.specs.Limits.{bridges}
+use Rattle.ids.specs.Limits.{bridges}
 use Rattle.reading.specs.Memory.{Memory, Pending, nothing, dotted, symbol}
 use Rattle.reading.specs.Act.{Acts, bridgeAct}
 use Rattle.reading_fields.specs.Rest.{rest, memory}
@@ -41,7 +41,7 @@ kindPending k = pick (eqb k 0) nothing (symbol k)
 
 -- where the machine stands before a piece: before an atom after a joint where fresh, else before any piece of a sequence
 abbrev pub startMode : Bool → Mode
-startMode fresh = pick fresh dot (seq plain)
+startMode fresh = pick fresh atomNext (seq plain)
 
 abbrev pub startPending : Bool → Joint → Pending
 startPending fresh j = pick fresh (pendingOf j) nothing
@@ -67,7 +67,7 @@ afterBridge s p (refuses c q) = bad c q
 pub record SeenAtom (s : List ℕ) (p : ℕ) (m : Mode) (k : Pending) (j : Joint) (q : ℕ) : Type 0 where
   pub within : q ≤ length s
   pub later : p ≤ q
-  pub is : (t : Steering) (a b : List ℤ) (n : ℕ) (f : Fields) → rest s p m (memory t a b k n f) ≡ rest s q dot (memory t a b (pendingOf j) n f)
+  pub is : (t : Steering) (a b : List ℤ) (n : ℕ) (f : Fields) → rest s p m (memory t a b k n f) ≡ rest s q atomNext (memory t a b (pendingOf j) n f)
 
 pub record SeenBridge (s : List ℕ) (p : ℕ) (m : Mode) (k : Pending) (r x q e : ℕ) : Type 0 where
   pub number : r < bridges
@@ -105,4 +105,4 @@ Seen s p m k (Piece.Wrong q) = SeenWrong s p m k q
 pub record Joined (s : List ℕ) (p : ℕ) (r : Start) : Type 0 where
   pub within : r .at ≤ length s
   pub later : p ≤ r .at
-  pub is : (t : Steering) (a b : List ℤ) (n : ℕ) (f : Fields) → rest s p inside (memory t a b nothing n f) ≡ rest s (r .at) dot (memory t a b (pendingOf (r .joint)) n f)
+  pub is : (t : Steering) (a b : List ℤ) (n : ℕ) (f : Fields) → rest s p inside (memory t a b nothing n f) ≡ rest s (r .at) atomNext (memory t a b (pendingOf (r .joint)) n f)

@@ -2,7 +2,7 @@
 ghost use mathlib.Core.Path.{_≡_};
 ghost use mathlib.Core.Bool.{true};
 ghost use lib.ListN.{getD};
-ghost use Rattle.reading_state.specs.Limits.{bridges};
+ghost use Rattle.ids.specs.Limits.{bridges};
 ghost use Prim.Native.Nat.{ℕ, _≤_, _<_};
 ghost use Rattle.table.specs.Limits.{maxAtoms, maxBonds};
 ghost use Rattle.table.specs.Valid.{Valid};
@@ -11,8 +11,8 @@ ghost use Rattle.reading.specs.Read.{earlier, leftmost, hydrogenated};
 ghost use Rattle.reader.specs.Ending.{told};
 ghost use Rattle.reader.specs.Completed.{hydrogensBy, hydrogenatedBy, Completed, endedOf};
 use ids::AtomId;
-use reading_state::BRIDGES;
-use reading_state::MAX_TEXT;
+use ids::BRIDGES;
+use ids::MAX_TEXT;
 use reading_state::State;
 use refusal::Refusal;
 use table::ELEMENT;
@@ -144,5 +144,5 @@ pub fn end(
     }
     clear(atoms);
     clear(bonds);
-    Answer::Refused(Refusal::NoMatching, 0)
+    Answer::Refused(Refusal::Unmatchable, 0)
 }

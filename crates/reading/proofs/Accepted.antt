@@ -17,10 +17,10 @@ use Rattle.table.specs.Cells.{atomPlace, element, selected}
 use Rattle.table.specs.Rows.{atomRow}
 use Rattle.table.specs.Valid.{Valid}
 use Rattle.table_graph.specs.Graph.{bondSum, matchable}
-use Rattle.reading_state.specs.Limits.{maxText}
+use Rattle.ids.specs.Limits.{maxText}
 use Rattle.reading.specs.Memory.{Memory}
 use Rattle.reading.specs.Act.{act}
-use Rattle.reading.specs.Read.{Told, zeros, short, beginning, readOf}
+use Rattle.reading.specs.Read.{ReadResult, zeros, short, beginning, readOf}
 use Rattle.reading.proofs.Sane.{Sane, SaneReading}
 use Rattle.reading.proofs.Step.{sane-text}
 use Rattle.reading.proofs.Hydrogens.{withHydrogens, hydrogenated-length, hydrogenated-other, row-given, row-kept}
@@ -30,11 +30,11 @@ use Rattle.reading.proofs.Leftmost.{none-open}
 use Rattle.reading.proofs.Outcome.{bytesRead, Fits, atomsOf, accepted, Outcome, outcome}
 
 -- the hydrogens that an atom outside brackets gets: by its element, its selection and its bonds
-abbrev pub impliedAt : Told → ℕ → ℤ
+abbrev pub impliedAt : ReadResult → ℕ → ℤ
 impliedAt t a = pos (implied (element (t .atoms) a) (selected (t .atoms) a) (bondSum (t .bonds) (t .bondCount) a))
 
 -- the row of the atom a of an accepted text, given what stood in the table after its last byte
-pub record Given (μ : Memory) (t : Told) (a : ℕ) : Type 0 where
+pub record Given (μ : Memory) (t : ReadResult) (a : ℕ) : Type 0 where
   pub outside : getD (μ .st .outside) a 0 ≡ 1 → atomRow (t .atoms) a ≡ withHydrogens (atomRow (μ .atoms) a) (impliedAt t a)
   pub bracket : (getD (μ .st .outside) a 0 ≡ 1 → ⊥) → atomRow (t .atoms) a ≡ atomRow (μ .atoms) a
 
@@ -57,7 +57,7 @@ module _ (s : List ℕ) (atoms bonds : List ℤ) where
   pub read-valid : readOf s atoms bonds .code ≡ 0 → Valid (readOf s atoms bonds .atoms) (readOf s atoms bonds .bonds) (readOf s atoms bonds .atomCount) (readOf s atoms bonds .bondCount)
   read-valid = go (readOf s atoms bonds) (outcome s atoms bonds)
     where
-      go : (t : Told) → Outcome s atoms bonds t → t .code ≡ 0 → Valid (t .atoms) (t .bonds) (t .atomCount) (t .bondCount)
+      go : (t : ReadResult) → Outcome s atoms bonds t → t .code ≡ 0 → Valid (t .atoms) (t .bonds) (t .atomCount) (t .bondCount)
       go t (Outcome.too-short e) z = absurd (omega arith)
       go t (Outcome.too-long e l) z = absurd (omega arith)
       go t (Outcome.halts f e) z = let h = halt-code e in absurd (omega arith)
@@ -69,7 +69,7 @@ module _ (s : List ℕ) (atoms bonds : List ℤ) where
   -- ---- hydrogens
 
   -- an accepted text, the memory after its last byte, and the rows
-  pub record Accepted (t : Told) : Type 0 where
+  pub record Accepted (t : ReadResult) : Type 0 where
     pub fits : Fits s atoms bonds
     pub state : State
     pub memory : Memory
@@ -105,7 +105,7 @@ module _ (s : List ℕ) (atoms bonds : List ℤ) where
   pub read-accepted : readOf s atoms bonds .code ≡ 0 → Accepted (readOf s atoms bonds)
   read-accepted = go (readOf s atoms bonds) (outcome s atoms bonds)
     where
-      go : (t : Told) → Outcome s atoms bonds t → t .code ≡ 0 → Accepted t
+      go : (t : ReadResult) → Outcome s atoms bonds t → t .code ≡ 0 → Accepted t
       go t (Outcome.too-short e) z = absurd (omega arith)
       go t (Outcome.too-long e l) z = absurd (omega arith)
       go t (Outcome.halts f e) z = let h = halt-code e in absurd (omega arith)

@@ -21,7 +21,7 @@ use Rattle.table.specs.Limits.{maxAtoms, maxBonds}
 use Rattle.table.specs.Cells.{end1, end2}
 use Rattle.table.specs.Rows.{withBond}
 use Rattle.reading_state.specs.declared.Fields.{Fields}
-use Rattle.reading.specs.Memory.{Memory, kindOf, afterDot, bareRow, bondRow, bonded, begun, described, drafted}
+use Rattle.reading.specs.Memory.{Memory, kindOf, afterDot, bareRow, newBond, bonded, begun, described, drafted}
 use Rattle.reading.specs.Act.{firstByte, atomAct}
 use Rattle.reading.proofs.Cases.{by-test}
 use Rattle.reading.proofs.Sane.{Tables, Steers, HalfRead, Sane, SaneAct}
@@ -81,7 +81,7 @@ begun-held {p} {q} {d} {i} {μ} x h few few-bonds = record { tables = tables (bo
     fresh j l e f = omega (arith, h .tables .bond-rows j l .second)
 
     tables : (t : Bool) → bonded μ ≡ t
-        → Tables p q (μ .st .atoms + 1) (pick t (μ .st .bonds + 1) (μ .st .bonds)) (μ .atoms) (pick t (withBond (μ .bonds) (μ .st .bonds) (bondRow (μ .st .hub .0) (μ .st .atoms) (kindOf (μ .pending)))) (μ .bonds))
+        → Tables p q (μ .st .atoms + 1) (pick t (μ .st .bonds + 1) (μ .st .bonds)) (μ .atoms) (pick t (withBond (μ .bonds) (μ .st .bonds) (newBond (μ .st .hub .0) (μ .st .atoms) (kindOf (μ .pending)))) (μ .bonds))
     tables true e =
         bond-added (atom-added (h .tables) few) (μ .st .hub .0) (μ .st .atoms) (kindOf (μ .pending)) (few-bonds e)
         (h .hub (some-atom (μ .st .atoms) (not (afterDot (μ .pending))) e)) (omega arith) (h .kind) fresh

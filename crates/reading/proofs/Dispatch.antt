@@ -14,7 +14,7 @@ use Rattle.element.specs.Lookup.{letterOf}
 use Rattle.reading_grammar.specs.Grammar.{nonzero, digits, bondSymbols}
 use Rattle.reading_grammar.specs.declared.Last.{Last}
 use Rattle.reading_grammar.specs.declared.Last.the-variants.{Plain as plain, AfterC as afterC, AfterB as afterB}
-use Rattle.reading_grammar.specs.declared.Mode.the-variants.{Seq as seq, Bond as bond, Dot as dot, Inside as inside, Percent as percent, Percent1 as percent1}
+use Rattle.reading_grammar.specs.declared.Mode.the-variants.{Seq as seq, Bond as bond, AtomNext as atomNext, Inside as inside, Percent as percent, Percent1 as percent1}
 use Rattle.reading_grammar.specs.declared.Out.{Out}
 use Rattle.reading_grammar.specs.declared.Out.the-variants.{Stop as stop, To as to, Up as up, Down as down}
 use Rattle.reading_grammar.specs.declared.State.{State}
@@ -23,11 +23,11 @@ use Rattle.reading_grammar.specs.Machine.{alive, turn, next, atomOr, bridgeOr}
 use Rattle.reading_grammar.specs.Machine as machine
 use Rattle.reading_grammar.specs.Fold.{keeps}
 use Rattle.reading_grammar.proofs.Ends.{never}
-use Rattle.reading_state.specs.Limits.{bridges}
+use Rattle.ids.specs.Limits.{bridges}
 use Rattle.reading_state.specs.State.{closed}
 use Rattle.reading.specs.Memory.{Memory, moved, counting}
 use Rattle.reading.specs.Bracket.{digit}
-use Rattle.reading.specs.Act.{Acts, orAtom, atomAct, bridgeAct, branchAct, jointAct, secondLetter, goesOn, modeAct}
+use Rattle.reading.specs.Act.{Acts, orAtom, atomAct, bridgeAct, branchAct, jointAct, secondLetter, letterAct, modeAct}
 use Rattle.reading.proofs.Draft.{any-digit, nonzero-digit}
 use Rattle.reading.proofs.Letters.{Begins, begins}
 
@@ -69,7 +69,7 @@ module _ (P : State → Acts → Type 0) (d i : ℕ) (μ : Memory) (b : ℕ) whe
     pub atom : (o : Out) → Begins (letterOf b) o → P (turn o d) (atomAct b i μ)
     pub bridge : (r p : ℕ) → r < bridges → p ≤ i → P (at (seq plain) d) (bridgeAct r p μ)
     pub symbol : P (at bond d) (jointAct b μ)
-    pub joint : P (at dot d) (jointAct b μ)
+    pub joint : P (at atomNext d) (jointAct b μ)
     pub branch : P (at inside (suc d)) (branchAct i μ)
     pub unbranch : (e : ℕ) → d ≡ suc e → P (at (seq plain) e) (keeps (moved (closed (μ .st)) μ))
     pub sign : P (at percent d) (keeps μ)
@@ -83,7 +83,7 @@ module _ (P : State → Acts → Type 0) (d i : ℕ) (μ : Memory) (b : ℕ) whe
     goes-down zero q v = never v
     goes-down (suc e) q v = w .unbranch e q
 
-    goes-on : (x : Last) → (Second x b → (e : ℕ) → e ≤ 118 → P (at (seq plain) d) (secondLetter e μ)) → alive (turn (machine.goesOn x b) d) ≡ true → P (turn (machine.goesOn x b) d) (goesOn x μ)
+    goes-on : (x : Last) → (Second x b → (e : ℕ) → e ≤ 118 → P (at (seq plain) d) (secondLetter e μ)) → alive (turn (machine.goesOn x b) d) ≡ true → P (turn (machine.goesOn x b) d) (letterAct x μ)
     goes-on plain f v = never v
     goes-on afterC f v = second-letter 17 (eqb b 108) (λ e. f (eqb-true b 108 e) 17 (omega arith)) v
     goes-on afterB f v = second-letter 35 (eqb b 114) (λ e. f (eqb-true b 114 e) 35 (omega arith)) v
@@ -93,9 +93,9 @@ module _ (P : State → Acts → Type 0) (d i : ℕ) (μ : Memory) (b : ℕ) whe
     in-sequence x f = or-atom (w .atom) _ _ (split (among b nonzero) (eqb b 37) (among b bondSymbols) (eqb b 46) (eqb b 40) (eqb b 41) refl)
       where
         split : (t1 t2 t3 t4 t5 t6 : Bool) → among b nonzero ≡ t1
-            → let τ : State = turn (pick t1 (to (seq plain)) (pick t2 (to percent) (pick t3 (to bond) (pick t4 (to dot) (pick t5 up (pick t6 down (machine.goesOn x b))))))) d in
+            → let τ : State = turn (pick t1 (to (seq plain)) (pick t2 (to percent) (pick t3 (to bond) (pick t4 (to atomNext) (pick t5 up (pick t6 down (machine.goesOn x b))))))) d in
             alive τ ≡ true
-            → P τ (pick t1 (bridgeAct (digit b) i μ) (pick t2 (keeps μ) (pick t3 (jointAct b μ) (pick t4 (jointAct b μ) (pick t5 (branchAct i μ) (pick t6 (keeps (moved (closed (μ .st)) μ)) (goesOn x μ)))))))
+            → P τ (pick t1 (bridgeAct (digit b) i μ) (pick t2 (keeps μ) (pick t3 (jointAct b μ) (pick t4 (jointAct b μ) (pick t5 (branchAct i μ) (pick t6 (keeps (moved (closed (μ .st)) μ)) (letterAct x μ)))))))
         split true t2 t3 t4 t5 t6 e v = digit-bridge e
         split false true t3 t4 t5 t6 e v = w .sign
         split false false true t4 t5 t6 e v = w .symbol
@@ -117,7 +117,7 @@ module _ (P : State → Acts → Type 0) (d i : ℕ) (μ : Memory) (b : ℕ) whe
     unfolding next modeAct
     in-branch = or-atom (w .atom) _ _ (split (among b bondSymbols) (eqb b 46))
       where
-        split : (t1 t2 : Bool) → let τ : State = turn (pick t1 (to dot) (pick t2 (to dot) stop)) d in alive τ ≡ true → P τ (jointAct b μ)
+        split : (t1 t2 : Bool) → let τ : State = turn (pick t1 (to atomNext) (pick t2 (to atomNext) stop)) d in alive τ ≡ true → P τ (jointAct b μ)
         split true t2 v = w .joint
         split false true v = w .joint
         split false false v = never v

@@ -12,9 +12,9 @@ use Rattle.reading_grammar.specs.declared.State.{State}
 use Rattle.reading_grammar.specs.Machine.{accepting}
 use Rattle.reading_grammar.specs.Fold.{going}
 use Rattle.table_graph.specs.Graph.{matchable}
-use Rattle.reading_state.specs.Limits.{maxText}
+use Rattle.ids.specs.Limits.{maxText}
 use Rattle.reading.specs.Memory.{Memory}
-use Rattle.reading.specs.Read.{Told, short, leftmost, ended, readFrom, readOf}
+use Rattle.reading.specs.Read.{ReadResult, short, leftmost, ended, readFrom, readOf}
 use Rattle.reading.proofs.Leftmost.{LeftmostOpening, closed-none, leftmost-open, none-open}
 use Rattle.reading.proofs.Outcome.{bytesRead, Fits, atomsOf, Outcome, outcome}
 use Rattle.reading.proofs.Accepted.{halt-code, read-sane, early}
@@ -36,7 +36,7 @@ module _ (s : List ℕ) (atoms bonds : List ℤ) where
   pub read-unclosed : readOf s atoms bonds .code ≡ 10 → Unclosed (readOf s atoms bonds .offset)
   read-unclosed = go (readOf s atoms bonds) (outcome s atoms bonds)
     where
-      go : (t : Told) → Outcome s atoms bonds t → t .code ≡ 10 → Unclosed (t .offset)
+      go : (t : ReadResult) → Outcome s atoms bonds t → t .code ≡ 10 → Unclosed (t .offset)
       go t (Outcome.too-short e) z = absurd (omega arith)
       go t (Outcome.too-long e l) z = absurd (omega arith)
       go t (Outcome.halts f e) z = let h = halt-code s atoms bonds e in absurd (omega arith)
@@ -57,7 +57,7 @@ module _ (s : List ℕ) (atoms bonds : List ℤ) where
   read-unmatched : readOf s atoms bonds .code ≡ 11 → Unmatched
   read-unmatched = go (readOf s atoms bonds) (outcome s atoms bonds)
     where
-      go : (t : Told) → Outcome s atoms bonds t → t .code ≡ 11 → Unmatched
+      go : (t : ReadResult) → Outcome s atoms bonds t → t .code ≡ 11 → Unmatched
       go t (Outcome.too-short e) z = absurd (omega arith)
       go t (Outcome.too-long e l) z = absurd (omega arith)
       go t (Outcome.halts f e) z = let h = halt-code s atoms bonds e in absurd (omega arith)

@@ -14,7 +14,7 @@ use Rattle.reading_grammar.specs.Fold.{going, halted}
 use Rattle.reading_grammar.proofs.Fold.{Goes, prefix-goes, Halts, read-halts}
 use Rattle.reading.specs.Memory.{Memory}
 use Rattle.reading.specs.Act.{act}
-use Rattle.reading.specs.Read.{Told, zeros, beginning, readOf}
+use Rattle.reading.specs.Read.{ReadResult, zeros, beginning, readOf}
 use Rattle.reading.proofs.Refusals.{Why, why, code-of}
 use Rattle.reading.proofs.Outcome.{bytesRead, Outcome, outcome}
 use Rattle.reading.proofs.Accepted.{early}
@@ -48,7 +48,7 @@ module _ (s : List ℕ) (atoms bonds : List ℤ) where
   pub first-refusal : 3 ≤ readOf s atoms bonds .code → readOf s atoms bonds .code ≤ 9 → FirstRefusal (readOf s atoms bonds .code) (readOf s atoms bonds .offset)
   first-refusal = go (readOf s atoms bonds) (outcome s atoms bonds)
     where
-      go : (t : Told) → Outcome s atoms bonds t → 3 ≤ t .code → t .code ≤ 9 → FirstRefusal (t .code) (t .offset)
+      go : (t : ReadResult) → Outcome s atoms bonds t → 3 ≤ t .code → t .code ≤ 9 → FirstRefusal (t .code) (t .offset)
       go t (Outcome.too-short e) l h = absurd (omega arith)
       go t (Outcome.too-long e n) l h = absurd (omega arith)
       go t (Outcome.halts {c} {p} f e) l h = halted-first c p e

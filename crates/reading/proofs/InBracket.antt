@@ -23,7 +23,7 @@ use Rattle.reading_grammar.proofs.Ends.{never}
 use Rattle.reading.specs.Memory.{Memory, rowOf, described, drafted}
 use Rattle.reading.specs.Bracket.{digit, isotoped, elemented, hydrogened, signed, positive}
 use Rattle.reading.specs.Bracket as fields
-use Rattle.reading.specs.Act.{Acts, closing, charging, hydrating, isotopeAct, modeAct}
+use Rattle.reading.specs.Act.{Acts, closeAct, chargeAct, hydrogenAct, isotopeAct, modeAct}
 use Rattle.reading.proofs.Sane.{InRange, SaneAct, isotopeMost, extensionMost}
 use Rattle.reading.proofs.Draft.{any-digit, nonzero-digit, several-digit, number-small, wider, isotoped-range, elemented-range, symbolled-range, hydrogened-range, charged-range, extended-range, isotope-digit, extension-digit, isotope-most, extension-most, row-of-fields}
 use Rattle.reading.proofs.Letters.{digit-no-symbol, digit-closes-not, nonzero-is-digit}
@@ -35,7 +35,7 @@ Follows p q i τ a = alive τ ≡ true → SaneAct p q τ (suc i) a
 
 module _ {p q d i : ℕ} {μ : Memory} (h : Held p q d i μ) where
   -- `]`
-  pub close-act : {e : ℕ} → InRange 999 e (μ .draft) → e ≤ 9999 → (b : ℕ) → Follows p q i (turn (machine.closing b) d) (closing b μ)
+  pub close-act : {e : ℕ} → InRange 999 e (μ .draft) → e ≤ 9999 → (b : ℕ) → Follows p q i (turn (machine.closing b) d) (closeAct b μ)
   unfolding machine.closing
   close-act r l b = split (eqb b 93)
     where
@@ -44,27 +44,27 @@ module _ {p q d i : ℕ} {μ : Memory} (h : Held p q d i μ) where
       split false v = never v
 
   -- `:` or `]`
-  pub extend-act : InRange 999 0 (μ .draft) → (b : ℕ) → Follows p q i (turn (machine.extending b) d) (closing b μ)
+  pub extend-act : InRange 999 0 (μ .draft) → (b : ℕ) → Follows p q i (turn (machine.extending b) d) (closeAct b μ)
   unfolding machine.extending
   extend-act r b = split (eqb b 58) refl
     where
-      split : (t : Bool) → eqb b 58 ≡ t → Follows p q i (turn (pick t (to colon) (machine.closing b)) d) (closing b μ)
+      split : (t : Bool) → eqb b 58 ≡ t → Follows p q i (turn (pick t (to colon) (machine.closing b)) d) (closeAct b μ)
       split true e v = let k : b ≡ 58 = eqb-true b 58 e in rw k (sane-of colon (held-later h) r)
       split false e v = close-act r (omega arith) b v
 
-  pub charge-act : InRange 999 0 (μ .draft) → (b : ℕ) → Follows p q i (turn (machine.charging b) d) (charging b μ)
+  pub charge-act : InRange 999 0 (μ .draft) → (b : ℕ) → Follows p q i (turn (machine.charging b) d) (chargeAct b μ)
   unfolding machine.charging
   charge-act r b = split (among b signs)
     where
-      split : (t : Bool) → Follows p q i (turn (pick t (to sign) (machine.extending b)) d) (pick t (keeps (drafted (fields.charged (signed (eqb b 43) 1) (μ .draft)) μ)) (closing b μ))
+      split : (t : Bool) → Follows p q i (turn (pick t (to sign) (machine.extending b)) d) (pick t (keeps (drafted (fields.charged (signed (eqb b 43) 1) (μ .draft)) μ)) (closeAct b μ))
       split true v = sane-of sign (held-drafted (fields.charged (signed (eqb b 43) 1) (μ .draft)) h) (charged-range r (eqb b 43) 1 (omega arith) (omega arith))
       split false v = extend-act r b v
 
-  pub hydrate-act : InRange 999 0 (μ .draft) → (b : ℕ) → Follows p q i (turn (machine.hydrating b) d) (hydrating b μ)
+  pub hydrate-act : InRange 999 0 (μ .draft) → (b : ℕ) → Follows p q i (turn (machine.hydrating b) d) (hydrogenAct b μ)
   unfolding machine.hydrating
   hydrate-act r b = split (eqb b 72)
     where
-      split : (t : Bool) → Follows p q i (turn (pick t (to hydrogen) (machine.charging b)) d) (pick t (keeps (drafted (hydrogened 1 (μ .draft)) μ)) (charging b μ))
+      split : (t : Bool) → Follows p q i (turn (pick t (to hydrogen) (machine.charging b)) d) (pick t (keeps (drafted (hydrogened 1 (μ .draft)) μ)) (chargeAct b μ))
       split true v = sane-of hydrogen (held-drafted (hydrogened 1 (μ .draft)) h) (hydrogened-range r 1 (omega arith))
       split false v = charge-act r b v
 
@@ -120,7 +120,7 @@ module _ {p q d i : ℕ} {μ : Memory} (h : Held p q d i μ) where
   unfolding next modeAct
   symbol-step a r b = split (listed (a ∷ b ∷ []) symbols) (listed (a ∷ []) symbols)
     where
-      split : (t u : Bool) → Follows p q i (turn (pick t (to symbolled) (pick u (machine.hydrating b) stop)) d) (pick t (keeps (drafted (elemented (numberOf (a ∷ b ∷ [])) 0 (μ .draft)) μ)) (hydrating b μ))
+      split : (t u : Bool) → Follows p q i (turn (pick t (to symbolled) (pick u (machine.hydrating b) stop)) d) (pick t (keeps (drafted (elemented (numberOf (a ∷ b ∷ [])) 0 (μ .draft)) μ)) (hydrogenAct b μ))
       split true u v = sane-of symbolled (held-drafted (elemented (numberOf (a ∷ b ∷ [])) 0 (μ .draft)) h) (elemented-range r (numberOf (a ∷ b ∷ [])) 0 (number-small (a ∷ b ∷ [])) (omega arith) refl)
       split false true v = hydrate-act r b v
       split false false v = never v
@@ -130,7 +130,7 @@ module _ {p q d i : ℕ} {μ : Memory} (h : Held p q d i μ) where
   unfolding next modeAct
   hydrogen-step r b = split (among b several) refl
     where
-      split : (t : Bool) → among b several ≡ t → Follows p q i (turn (pick t (to hydrogens) (machine.charging b)) d) (pick t (keeps (drafted (hydrogened (digit b) (μ .draft)) μ)) (charging b μ))
+      split : (t : Bool) → among b several ≡ t → Follows p q i (turn (pick t (to hydrogens) (machine.charging b)) d) (pick t (keeps (drafted (hydrogened (digit b) (μ .draft)) μ)) (chargeAct b μ))
       split true e v = sane-of hydrogens (held-drafted (hydrogened (digit b) (μ .draft)) h) (hydrogened-range r (digit b) (several-digit b e .1))
       split false e v = charge-act r b v
 
@@ -138,7 +138,7 @@ module _ {p q d i : ℕ} {μ : Memory} (h : Held p q d i μ) where
   unfolding next modeAct
   sign-step r b = split (among b several) refl
     where
-      split : (t : Bool) → among b several ≡ t → Follows p q i (turn (pick t (to charged) (machine.extending b)) d) (pick t (keeps (drafted (fields.charged (signed (positive (μ .draft .charge)) (digit b)) (μ .draft)) μ)) (closing b μ))
+      split : (t : Bool) → among b several ≡ t → Follows p q i (turn (pick t (to charged) (machine.extending b)) d) (pick t (keeps (drafted (fields.charged (signed (positive (μ .draft .charge)) (digit b)) (μ .draft)) μ)) (closeAct b μ))
       split true e v = sane-of charged (held-drafted (fields.charged (signed (positive (μ .draft .charge)) (digit b)) (μ .draft)) h) (charged-range r (positive (μ .draft .charge)) (digit b) (omega (arith, several-digit b e .0)) (several-digit b e .1))
       split false e v = extend-act r b v
 
@@ -154,11 +154,11 @@ module _ {p q d i : ℕ} {μ : Memory} (h : Held p q d i μ) where
   unfolding next modeAct
   extension-step zero l r b = split (among b digits) refl
     where
-      split : (t : Bool) → among b digits ≡ t → Follows p q i (turn (machine.closing b) d) (pick t (keeps (drafted (fields.extended b (μ .draft)) μ)) (closing b μ))
+      split : (t : Bool) → among b digits ≡ t → Follows p q i (turn (machine.closing b) d) (pick t (keeps (drafted (fields.extended b (μ .draft)) μ)) (closeAct b μ))
       split true e v = never (rw (digit-closes-not b e) at v)
       split false e v = close-act r (omega arith) b v
   extension-step (suc k) l r b = split (among b digits) refl
     where
-      split : (t : Bool) → among b digits ≡ t → Follows p q i (turn (pick t (to (extension k)) (machine.closing b)) d) (pick t (keeps (drafted (fields.extended b (μ .draft)) μ)) (closing b μ))
+      split : (t : Bool) → among b digits ≡ t → Follows p q i (turn (pick t (to (extension k)) (machine.closing b)) d) (pick t (keeps (drafted (fields.extended b (μ .draft)) μ)) (closeAct b μ))
       split true e v = sane-of (extension k) (held-drafted (fields.extended b (μ .draft)) h) (omega arith, extension-digit k l r b (any-digit b e))
       split false e v = close-act r (extension-most (suc k)) b v

@@ -22,7 +22,7 @@ use Rattle.reading.proofs.Cases.{by-test}
 use Rattle.reading.proofs.Sane.{Tables, Sane, SaneAct}
 use lib.ListN.{getD}
 use Rattle.table.specs.Rows.{withBond}
-use Rattle.reading_state.specs.Limits.{maxDepth, bridges}
+use Rattle.ids.specs.Limits.{maxDepth, bridges}
 use Rattle.reading_state.specs.State.{opened, closed, bridged, joined}
 use Rattle.reading.proofs.Tables.{bond-added}
 use Rattle.reading.proofs.Steering.{later, opened-steering, closed-steering, closed-hub, bridged-steering}

@@ -15,7 +15,7 @@ use Rattle.reading_grammar.specs.Grammar.{nonzero, digits, several, signs}
 use Rattle.reading_grammar.specs.declared.Last.{Last}
 use Rattle.reading_grammar.specs.declared.Last.the-variants.{Plain as plain, AfterC as afterC, AfterB as afterB}
 use Rattle.reading_grammar.specs.declared.Mode.{Mode}
-use Rattle.reading_grammar.specs.declared.Mode.the-variants.{Seq as seq, Bond as bond, Dot as dot, Inside as inside, Percent as percent, Percent1 as percent1, LetterA as letterA, LetterT as letterT, Bracket as bracket, Isotope as isotope, Symbol1 as symbol1, Symbolled as symbolled, Hydrogen as hydrogen, Hydrogens as hydrogens, Sign as sign, Charged as charged, Colon as colon, Extension as extension}
+use Rattle.reading_grammar.specs.declared.Mode.the-variants.{Seq as seq, Bond as bond, AtomNext as atomNext, Inside as inside, Percent as percent, Percent1 as percent1, LetterA as letterA, LetterT as letterT, Bracket as bracket, Isotope as isotope, Symbol1 as symbol1, Symbolled as symbolled, Hydrogen as hydrogen, Hydrogens as hydrogens, Sign as sign, Charged as charged, Colon as colon, Extension as extension}
 use Rattle.reading_grammar.specs.declared.State.{State}
 use Rattle.reading_grammar.specs.declared.State.the-variants.{Start as start, At as at}
 use Rattle.reading_grammar.specs.Machine.{alive, step, next, symbolOr}
@@ -27,7 +27,7 @@ use Rattle.reading_grammar.proofs.Fold.{Goes, goes, read-append, prefix-goes}
 use Rattle.table.specs.Limits.{atomCells}
 use Rattle.table.specs.Rows.{atomRow, bondRow}
 use Rattle.reading.specs.Memory.{Memory, rowOf, bareRow, begun, described}
-use Rattle.reading.specs.Act.{firstByte, closing, charging, hydrating, modeAct, act}
+use Rattle.reading.specs.Act.{firstByte, closeAct, chargeAct, hydrogenAct, modeAct, act}
 use Rattle.reading.specs.Read.{zeros, beginning, readOf}
 use Rattle.reading.proofs.Sane.{Sane}
 use Rattle.reading.proofs.Rows.{with-atom-row}
@@ -51,7 +51,7 @@ shuts (seq plain) d k μ w v = absurd (let z : _≡_ {A = ℕ} 0 1 = cc in omega
 shuts (seq afterC) d k μ w v = absurd (let z : _≡_ {A = ℕ} 0 1 = cc in omega arith)
 shuts (seq afterB) d k μ w v = absurd (let z : _≡_ {A = ℕ} 0 1 = cc in omega arith)
 shuts bond d k μ w v = absurd (let z : _≡_ {A = ℕ} 0 1 = cc in omega arith)
-shuts dot d k μ w v = absurd (let z : _≡_ {A = ℕ} 0 1 = cc in omega arith)
+shuts atomNext d k μ w v = absurd (let z : _≡_ {A = ℕ} 0 1 = cc in omega arith)
 shuts inside d k μ w v = absurd (let z : _≡_ {A = ℕ} 0 1 = cc in omega arith)
 shuts percent d k μ w v = absurd (let z : _≡_ {A = ℕ} 0 1 = cc in omega arith)
 shuts percent1 d k μ w v = absurd (let z : _≡_ {A = ℕ} 0 1 = cc in omega arith)

@@ -8,7 +8,7 @@ use mathlib.Core.List.{List}
 use lib.ListN.{length, getD, List·getD-eq-default}
 use borrow.Author.Tests.{eqb-true, eqb-false, ltb-true, ltb-false}
 use Rattle.loops.specs.Loop.{run}
-use Rattle.reading_state.specs.Limits.{bridges, maxText}
+use Rattle.ids.specs.Limits.{bridges, maxText}
 use Rattle.reading.proofs.Cases.{by-test}
 use Rattle.reading.specs.Read.{earlier, leftmost}
 

@@ -14,10 +14,10 @@ use Rattle.reading_grammar.specs.Machine.{accepting}
 use Rattle.reading_grammar.specs.Fold.{Reading, going, halted, read}
 use Rattle.table.specs.Valid.{enough}
 use Rattle.table_graph.specs.Graph.{matchable}
-use Rattle.reading_state.specs.Limits.{maxText}
+use Rattle.ids.specs.Limits.{maxText}
 use Rattle.reading.specs.Memory.{Memory}
 use Rattle.reading.specs.Act.{act}
-use Rattle.reading.specs.Read.{Told, zeros, refused, short, beginning, hydrogenated, leftmost, ended, finished, readFrom, readOf}
+use Rattle.reading.specs.Read.{ReadResult, zeros, refused, short, beginning, hydrogenated, leftmost, ended, finished, readFrom, readOf}
 
 -- the reading of a text's bytes into zeroed tables
 abbrev pub bytesRead : List ℕ → List ℤ → List ℤ → Reading Memory
@@ -33,10 +33,10 @@ abbrev pub atomsOf : Memory → List ℤ
 atomsOf μ = hydrogenated (μ .st .outside) (μ .bonds) (μ .st .bonds) (μ .st .atoms) (μ .atoms)
 
 -- what reading tells of an accepted text
-abbrev pub accepted : Memory → Told
+abbrev pub accepted : Memory → ReadResult
 accepted μ = record { code = 0; offset = 0; atomCount = μ .st .atoms; bondCount = μ .st .bonds; atoms = atomsOf μ; bonds = μ .bonds }
 
-pub data Outcome (s : List ℕ) (atoms bonds : List ℤ) : Told → Type 0 where
+pub data Outcome (s : List ℕ) (atoms bonds : List ℤ) : ReadResult → Type 0 where
   too-short : enough atoms bonds ≡ false → Outcome s atoms bonds (short atoms bonds)
   too-long : enough atoms bonds ≡ true → maxText < length s → Outcome s atoms bonds (refused 2 maxText atoms bonds)
   halts : {c p : ℕ} → Fits s atoms bonds → bytesRead s atoms bonds ≡ halted c p → Outcome s atoms bonds (refused c p atoms bonds)

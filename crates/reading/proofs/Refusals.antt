@@ -17,7 +17,7 @@ use Rattle.reading_grammar.specs.Grammar.{nonzero, digits, several, bondSymbols
 use Rattle.reading_grammar.specs.declared.Last.{Last}
 use Rattle.reading_grammar.specs.declared.Last.the-variants.{Plain as plain, AfterC as afterC, AfterB as afterB}
 use Rattle.reading_grammar.specs.declared.Mode.{Mode}
-use Rattle.reading_grammar.specs.declared.Mode.the-variants.{Seq as seq, Bond as bond, Dot as dot, Inside as inside, Percent as percent, Percent1 as percent1, LetterA as letterA, LetterT as letterT, Bracket as bracket, Isotope as isotope, Symbol1 as symbol1, Symbolled as symbolled, Hydrogen as hydrogen, Hydrogens as hydrogens, Sign as sign, Charged as charged, Colon as colon, Extension as extension}
+use Rattle.reading_grammar.specs.declared.Mode.the-variants.{Seq as seq, Bond as bond, AtomNext as atomNext, Inside as inside, Percent as percent, Percent1 as percent1, LetterA as letterA, LetterT as letterT, Bracket as bracket, Isotope as isotope, Symbol1 as symbol1, Symbolled as symbolled, Hydrogen as hydrogen, Hydrogens as hydrogens, Sign as sign, Charged as charged, Colon as colon, Extension as extension}
 use Rattle.reading_grammar.specs.declared.Out.{Out}
 use Rattle.reading_grammar.specs.declared.Out.the-variants.{Stop as stop}
 use Rattle.reading_grammar.specs.declared.State.{State}
@@ -26,11 +26,11 @@ use Rattle.reading_grammar.specs.Machine.{alive, turn, step, next, atomOr}
 use Rattle.reading_grammar.specs.Fold.{keeps, refuses}
 use Rattle.reading_grammar.proofs.Ends.{never}
 use Rattle.table.specs.Limits.{maxAtoms, maxBonds}
-use Rattle.reading_state.specs.Limits.{maxDepth}
+use Rattle.ids.specs.Limits.{maxDepth}
 use Rattle.reading_state.specs.State.{opened, joined}
 use Rattle.reading.specs.Memory.{Memory, kindOf, bonded, moved, clash, joinedAlready, closeRefusal}
 use Rattle.reading.specs.Bracket.{digit}
-use Rattle.reading.specs.Act.{Acts, bridgeBond, charging, hydrating, jointAct, orAtom, atomAct, orRefuse, bridgeAct, branchAct, goesOn, modeAct, act}
+use Rattle.reading.specs.Act.{Acts, bridgeBond, chargeAct, hydrogenAct, jointAct, orAtom, atomAct, orRefuse, bridgeAct, branchAct, letterAct, modeAct, act}
 use Rattle.reading.proofs.Cases.{by-test}
 use Rattle.reading.proofs.Letters.{Begins, begins}
 
@@ -107,7 +107,7 @@ module _ (σ : State) (b i : ℕ) (μ : Memory) where
   first-why : (k : Acts) → Explained σ b i μ k → Explained σ b i μ (orAtom (letterOf b) (atomAct b i μ) k)
   first-why k g = or-why (letterOf b) (atomAct b i μ) k (λ n. atom-why (λ v. n)) g
 
-  goes-why : (x : Last) → Explained σ b i μ (goesOn x μ)
+  goes-why : (x : Last) → Explained σ b i μ (letterAct x μ)
   goes-why plain = tt
   goes-why afterC = tt
   goes-why afterB = tt
@@ -125,10 +125,10 @@ atom-only b d v e = ⊎-elim (λ w. no-letter w e) (λ f. never (rw (f .1) at v)
 
 -- ---- by mode
 module _ (d b i : ℕ) (μ : Memory) where
-  charge-why : (m : Mode) → Explained (at m d) b i μ (charging b μ)
+  charge-why : (m : Mode) → Explained (at m d) b i μ (chargeAct b μ)
   charge-why m = by-test (Explained (at m d) b i μ) (among b signs) _ _ (λ e. tt) (λ e. tt)
 
-  hydrate-why : (m : Mode) → Explained (at m d) b i μ (hydrating b μ)
+  hydrate-why : (m : Mode) → Explained (at m d) b i μ (hydrogenAct b μ)
   hydrate-why m = by-test (Explained (at m d) b i μ) (eqb b 72) _ _ (λ e. tt) (λ e. charge-why m)
 
   digit-why : (σ : State) → among b nonzero ≡ true → Explained σ b i μ (bridgeAct (digit b) i μ)
@@ -143,9 +143,9 @@ module _ (d b i : ℕ) (μ : Memory) where
       by-test (Explained (at (seq x) d) b i μ) (among b bondSymbols) (jointAct b μ) _ (λ e. tt) (λ e3.
       by-test (Explained (at (seq x) d) b i μ) (eqb b 46) (jointAct b μ) _ (λ e. tt) (λ e4.
       by-test (Explained (at (seq x) d) b i μ) (eqb b 40) (branchAct i μ) _ (λ e. branch-why (at (seq x) d) b i μ (eqb-true b 40 e)) (λ e5.
-      by-test (Explained (at (seq x) d) b i μ) (eqb b 41) _ (goesOn x μ) (λ e. tt) (λ e6. goes-why (at (seq x) d) b i μ x)))))))
+      by-test (Explained (at (seq x) d) b i μ) (eqb b 41) _ (letterAct x μ) (λ e. tt) (λ e6. goes-why (at (seq x) d) b i μ x)))))))
   mode-why bond = first-why (at bond d) b i μ _ (by-test (Explained (at bond d) b i μ) (among b nonzero) (bridgeAct (digit b) i μ) _ (digit-why (at bond d)) (λ e. tt))
-  mode-why dot = atom-why (at dot d) b i μ (atom-only b d)
+  mode-why atomNext = atom-why (at atomNext d) b i μ (atom-only b d)
   mode-why inside = first-why (at inside d) b i μ (jointAct b μ) tt
   mode-why percent = tt
   mode-why percent1 = bridge-why (at percent1 d) b i μ (10 * μ .tens + digit b) (i - 2) Completes.by-percent

@@ -10,9 +10,9 @@ use lib.IntN.{ℤ, pos}
 use borrow.Author.Tests.{lt-leb}
 use Rattle.reading_grammar.specs.declared.State.{State}
 use Rattle.table.specs.Valid.{enough}
-use Rattle.reading_state.specs.Limits.{maxText}
+use Rattle.ids.specs.Limits.{maxText}
 use Rattle.reading.specs.Memory.{Memory}
-use Rattle.reading.specs.Read.{Told, zeros, refused, readOf}
+use Rattle.reading.specs.Read.{ReadResult, zeros, refused, readOf}
 use Rattle.reading.proofs.Sane.{Sane}
 use Rattle.reading.proofs.Hydrogens.{hydrogenated-length}
 use Rattle.reading.proofs.Outcome.{atomsOf, Outcome, outcome}
@@ -24,7 +24,7 @@ module _ (s : List ℕ) (atoms bonds : List ℤ) where
   unfolding readOf
   short-iff = (go (readOf s atoms bonds) (outcome s atoms bonds), λ e. rw e)
     where
-      go : (t : Told) → Outcome s atoms bonds t → t .code ≡ 1 → enough atoms bonds ≡ false
+      go : (t : ReadResult) → Outcome s atoms bonds t → t .code ≡ 1 → enough atoms bonds ≡ false
       go t (Outcome.too-short e) z = e
       go t (Outcome.too-long e l) z = absurd (omega arith)
       go t (Outcome.halts f e) z = let h = halt-code s atoms bonds e in absurd (omega arith)
@@ -38,7 +38,7 @@ module _ (s : List ℕ) (atoms bonds : List ℤ) where
   unfolding readOf
   long-iff = (go (readOf s atoms bonds) (outcome s atoms bonds), λ e. rw (e .0, lt-leb (length s) maxText (e .1)))
     where
-      go : (t : Told) → Outcome s atoms bonds t → t .code ≡ 2 → (enough atoms bonds ≡ true) × (maxText < length s)
+      go : (t : ReadResult) → Outcome s atoms bonds t → t .code ≡ 2 → (enough atoms bonds ≡ true) × (maxText < length s)
       go t (Outcome.too-short e) z = absurd (omega arith)
       go t (Outcome.too-long e l) z = (e, l)
       go t (Outcome.halts f e) z = let h = halt-code s atoms bonds e in absurd (omega arith)
@@ -58,7 +58,7 @@ module _ (s : List ℕ) (atoms bonds : List ℤ) where
   pub refusal-zeroes : (readOf s atoms bonds .code ≡ 0 → ⊥) → (readOf s atoms bonds .code ≡ 1 → ⊥) → readOf s atoms bonds ≡ refused (readOf s atoms bonds .code) (readOf s atoms bonds .offset) atoms bonds
   refusal-zeroes = go (readOf s atoms bonds) (outcome s atoms bonds)
     where
-      go : (t : Told) → Outcome s atoms bonds t → (t .code ≡ 0 → ⊥) → (t .code ≡ 1 → ⊥) → t ≡ refused (t .code) (t .offset) atoms bonds
+      go : (t : ReadResult) → Outcome s atoms bonds t → (t .code ≡ 0 → ⊥) → (t .code ≡ 1 → ⊥) → t ≡ refused (t .code) (t .offset) atoms bonds
       go t (Outcome.too-short e) n m = absurd (m refl)
       go t (Outcome.too-long e l) n m = refl
       go t (Outcome.halts f e) n m = refl

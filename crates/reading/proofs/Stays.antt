@@ -18,7 +18,7 @@ use Rattle.reading_grammar.specs.Grammar.{digits, several, signs}
 use Rattle.reading_grammar.specs.declared.Last.{Last}
 use Rattle.reading_grammar.specs.declared.Last.the-variants.{Plain as plain, AfterC as afterC, AfterB as afterB}
 use Rattle.reading_grammar.specs.declared.Mode.{Mode}
-use Rattle.reading_grammar.specs.declared.Mode.the-variants.{Seq as seq, Bond as bond, Dot as dot, Inside as inside, Percent as percent, Percent1 as percent1, LetterA as letterA, LetterT as letterT, Bracket as bracket, Isotope as isotope, Symbol1 as symbol1, Symbolled as symbolled, Hydrogen as hydrogen, Hydrogens as hydrogens, Sign as sign, Charged as charged, Colon as colon, Extension as extension}
+use Rattle.reading_grammar.specs.declared.Mode.the-variants.{Seq as seq, Bond as bond, AtomNext as atomNext, Inside as inside, Percent as percent, Percent1 as percent1, LetterA as letterA, LetterT as letterT, Bracket as bracket, Isotope as isotope, Symbol1 as symbol1, Symbolled as symbolled, Hydrogen as hydrogen, Hydrogens as hydrogens, Sign as sign, Charged as charged, Colon as colon, Extension as extension}
 use Rattle.reading_grammar.specs.declared.Out.{Out}
 use Rattle.reading_grammar.specs.declared.State.{State}
 use Rattle.reading_grammar.specs.declared.State.the-variants.{Dead as dead, Start as start, At as at}
@@ -29,10 +29,10 @@ use Rattle.table.specs.declared.Atom.{Atom}
 use Rattle.table.specs.declared.Bond.{Bond}
 use Rattle.table.specs.Limits.{maxAtoms, maxBonds, atomCells, bondCells}
 use Rattle.table.specs.Rows.{atomRow, bondRow, withAtom, withBond}
-use Rattle.reading_state.specs.Limits.{maxDepth}
+use Rattle.ids.specs.Limits.{maxDepth}
 use Rattle.reading_state.specs.State.{opened, closed, bridged, joined}
 use Rattle.reading.specs.Memory.{Memory, kindOf, rowOf, bareRow, bonded, begun, described, moved, drafted, closeRefusal}
-use Rattle.reading.specs.Act.{Acts, firstByte, atomAct, bridgeBond, orRefuse, bridgeAct, branchAct, closing, charging, hydrating, modeAct, act}
+use Rattle.reading.specs.Act.{Acts, firstByte, atomAct, bridgeBond, orRefuse, bridgeAct, branchAct, closeAct, chargeAct, hydrogenAct, modeAct, act}
 use Rattle.reading.proofs.Cases.{by-test}
 use Rattle.reading.proofs.Sane.{Tables, Sane, SaneReading}
 use Rattle.reading.proofs.Rows.{with-atom-other, same-atom-row, with-bond-other, same-bond-row}
@@ -55,7 +55,7 @@ writing (seq plain) = no-row
 writing (seq afterC) = half-letter
 writing (seq afterB) = half-letter
 writing bond = no-row
-writing dot = no-row
+writing atomNext = no-row
 writing inside = no-row
 writing percent = no-row
 writing percent1 = no-row
@@ -248,7 +248,7 @@ module _ {p q d i n k : ℕ} {μ : Memory} (h : Held p q d i μ) (na : n ≤ μ 
         atom = λ o w. atom-left (ready h) na kb b w;
         bridge = λ r o hr ho. bridge-left r o;
         symbol = quiet bond d refl _ refl refl refl refl refl;
-        joint = quiet dot d refl _ refl refl refl refl refl;
+        joint = quiet atomNext d refl _ refl refl refl refl refl;
         branch = branch-left;
         unbranch = down-left;
         sign = quiet percent d refl μ refl refl refl refl refl;
@@ -263,16 +263,16 @@ module _ {p q d i n k : ℕ} {μ : Memory} (h : Held p q d i μ) (na : n ≤ μ 
     draft-left : (f : _) → LeftAct n k μ τ (keeps (drafted f μ))
     draft-left f = record { complete = complete-any τ n (drafted f μ) na (l .0) (l .1); bonds = kb; same = record { rows = λ a s. refl; flags = λ a s. refl; bonds = λ b s. refl } }
 
-    close-left : (b : ℕ) → LeftAct n k μ τ (closing b μ)
+    close-left : (b : ℕ) → LeftAct n k μ τ (closeAct b μ)
     close-left b =
         by-test (λ ν. Left n k μ τ ν) (eqb b 93) (described (rowOf (μ .draft)) μ) μ
         (λ e. record { complete = complete-any τ n (described (rowOf (μ .draft)) μ) na (l .0) (l .1); bonds = kb; same = described-same (rowOf (μ .draft)) (h .tables) (l .0) (h .hub) })
         (λ e. record { complete = complete-any τ n μ na (l .0) (l .1); bonds = kb; same = same-itself n k μ })
 
-    charge-left : (b : ℕ) → LeftAct n k μ τ (charging b μ)
+    charge-left : (b : ℕ) → LeftAct n k μ τ (chargeAct b μ)
     charge-left b = by-test (LeftAct n k μ τ) (among b signs) _ _ (λ e. draft-left _) (λ e. close-left b)
 
-    hydrate-left : (b : ℕ) → LeftAct n k μ τ (hydrating b μ)
+    hydrate-left : (b : ℕ) → LeftAct n k μ τ (hydrogenAct b μ)
     hydrate-left b = by-test (LeftAct n k μ τ) (eqb b 72) _ _ (λ e. draft-left _) (λ e. charge-left b)
 
 -- ---- every byte
@@ -281,7 +281,7 @@ module _ (n k : ℕ) {p q i : ℕ} {μ : Memory} where
   unfolding next modeAct
   mode-left (seq x) w c kb b v = seq-left (held-of w) (c .0) kb x b (half x b n μ (c .1)) v
   mode-left bond {d} w c kb b v = in-bond (LeftAct n k μ) d i μ b (outside (held-of w) (c .0) kb b) v
-  mode-left dot {d} w c kb b v = only-atom (LeftAct n k μ) d i μ b (outside (held-of w) (c .0) kb b .atom) v
+  mode-left atomNext {d} w c kb b v = only-atom (LeftAct n k μ) d i μ b (outside (held-of w) (c .0) kb b .atom) v
   mode-left inside {d} w c kb b v = in-branch (LeftAct n k μ) d i μ b (outside (held-of w) (c .0) kb b) v
   mode-left percent {d} w c kb b v = in-percent (LeftAct n k μ) d i μ b (outside (held-of w) (c .0) kb b) v
   mode-left percent1 {d} w c kb b v = in-percent1 (LeftAct n k μ) d i μ b (outside (held-of w) (c .0) kb b) (w .stands .half .1) v

@@ -13,7 +13,7 @@ use Rattle.loops.specs.Loop.{pick}
 use Rattle.loops.proofs.Loops.{and-left, and-right}
 use Rattle.reading_grammar.specs.declared.Last.the-variants.{Plain as plain}
 use Rattle.reading_grammar.specs.declared.Mode.{Mode}
-use Rattle.reading_grammar.specs.declared.Mode.the-variants.{Seq as seq, Bond as bond, Dot as dot, Inside as inside, Percent as percent, Percent1 as percent1, LetterA as letterA, LetterT as letterT, Bracket as bracket, Isotope as isotope, Symbol1 as symbol1, Symbolled as symbolled, Hydrogen as hydrogen, Hydrogens as hydrogens, Sign as sign, Charged as charged, Colon as colon, Extension as extension}
+use Rattle.reading_grammar.specs.declared.Mode.the-variants.{Seq as seq, Bond as bond, AtomNext as atomNext, Inside as inside, Percent as percent, Percent1 as percent1, LetterA as letterA, LetterT as letterT, Bracket as bracket, Isotope as isotope, Symbol1 as symbol1, Symbolled as symbolled, Hydrogen as hydrogen, Hydrogens as hydrogens, Sign as sign, Charged as charged, Colon as colon, Extension as extension}
 use Rattle.reading_grammar.specs.declared.State.{State}
 use Rattle.reading_grammar.specs.declared.State.the-variants.{Dead as dead, Start as start, At as at}
 use Rattle.reading_grammar.specs.Machine.{alive, turn, step, next}
@@ -44,7 +44,7 @@ module _ {p q i : ℕ} {μ : Memory} where
         atom = λ o w. atom-act b w (ready h);
         bridge = bridge-act h;
         symbol = sane-of bond (joint-held h b) tt;
-        joint = sane-of dot (joint-held h b) tt;
+        joint = sane-of atomNext (joint-held h b) tt;
         branch = branch-act h;
         unbranch = unbranch-act h;
         sign = sane-of percent (held-later h) tt;
@@ -58,7 +58,7 @@ module _ {p q i : ℕ} {μ : Memory} where
   unfolding next modeAct
   mode-step (seq x) {d} w b v = in-sequence (Next p q i) d i μ b (outside (held-of w) b) x (λ z. second (held-of w)) v
   mode-step bond {d} w b v = in-bond (Next p q i) d i μ b (outside (held-of w) b) v
-  mode-step dot {d} w b v = only-atom (Next p q i) d i μ b (outside (held-of w) b .atom) v
+  mode-step atomNext {d} w b v = only-atom (Next p q i) d i μ b (outside (held-of w) b .atom) v
   mode-step inside {d} w b v = in-branch (Next p q i) d i μ b (outside (held-of w) b) v
   mode-step percent {d} w b v = in-percent (Next p q i) d i μ b (outside (held-of w) b) v
   mode-step percent1 {d} w b v = in-percent1 (Next p q i) d i μ b (outside (held-of w) b) (w .stands .half .1) v

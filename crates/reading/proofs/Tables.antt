@@ -106,7 +106,7 @@ of-row r = record { kind = r .kind; natural = r .natural; order = r .order; seco
 to-row : {t : List ℤ} {n b : ℕ} → BondRow t n b → RowFine (bondRow t b) n
 to-row r = record { kind = r .kind; natural = r .natural; order = r .order; second = r .second }
 
-new-row : {n u h k : ℕ} → u < h → h < n → k ≤ 3 → RowFine (memory.bondRow u h k) n
+new-row : {n u h k : ℕ} → u < h → h < n → k ≤ 3 → RowFine (memory.newBond u h k) n
 unfolding inRange number
 new-row {u = u} {k = k} a b c = record { kind = within k 3 c; natural = le-leb 0 u (omega arith); order = a; second = b }
 
@@ -114,7 +114,7 @@ module _ {p q n m : ℕ} {atoms bonds : List ℤ} (w : Tables p q n m atoms bond
   -- a bond more, between two atoms that no bond joins yet
   pub bond-added : (u h k : ℕ) → m < maxBonds → u < h → h < n → k ≤ 3
       → ((j : ℕ) → j < m → end1 bonds j ≡ u → end2 bonds j ≡ h → ⊥)
-      → Tables p q n (m + 1) atoms (withBond bonds m (memory.bondRow u h k))
+      → Tables p q n (m + 1) atoms (withBond bonds m (memory.newBond u h k))
   unfolding number
   bond-added u h k few uh hn k3 fresh =
       record {
@@ -132,7 +132,7 @@ module _ {p q n m : ℕ} {atoms bonds : List ℤ} (w : Tables p q n m atoms bond
       }
     where
       x : Bond
-      x = memory.bondRow u h k
+      x = memory.newBond u h k
 
       room : bondCells * m + bondCells ≤ length bonds
       room = omega (arith, w .bond-length, w .bond-room)

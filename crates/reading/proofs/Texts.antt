@@ -17,13 +17,13 @@ use Rattle.reading_grammar.proofs.Viable.{place-unique, text-no-place}
 use Rattle.reading_grammar.proofs.Fold.{good-text, bad-3, other-first}
 use Rattle.reading.specs.Memory.{Memory}
 use Rattle.reading.specs.Act.{act}
-use Rattle.reading.specs.Read.{Told, zeros, refused, short, beginning, readOf}
+use Rattle.reading.specs.Read.{ReadResult, zeros, refused, short, beginning, readOf}
 use Rattle.reading.proofs.Refusals.{never-3, in-time}
 use Rattle.reading.proofs.Outcome.{bytesRead, Fits, Outcome, outcome}
 use Rattle.reading.proofs.Accepted.{halt-code}
 
 module _ (s : List ℕ) (atoms bonds : List ℤ) where
-  pub record ReadsTexts (t : Told) : Type 0 where
+  pub record ReadsTexts (t : ReadResult) : Type 0 where
     -- what passed 3 to 9 is a text
     pub text : (t .code ≡ 0) ⊎ ((t .code ≡ 10) ⊎ (t .code ≡ 11)) → Text s
     -- a text is not refused with 3
@@ -41,10 +41,10 @@ module _ (s : List ℕ) (atoms bonds : List ℤ) where
   is-text {σ} {μ} e a = good-text act (beginning (zeros atoms) (zeros bonds)) μ s (answered (going σ μ) e ∙ rw a)
 
   -- a text's outcome, and that of bytes that are refused
-  of-text : (t : Told) → Text s → ((t .code ≡ 3) → ⊥) → ReadsTexts t
+  of-text : (t : ReadResult) → Text s → ((t .code ≡ 3) → ⊥) → ReadsTexts t
   of-text t x n = record { text = λ c. x; not-3 = λ y. n; place = λ c. absurd (n c); refused = λ p q. absurd (text-no-place s p x q) }
 
-  of-place : (q : ℕ) (t : Told) → Place s q → t .code ≡ 3 → t .offset ≡ q → ReadsTexts t
+  of-place : (q : ℕ) (t : ReadResult) → Place s q → t .code ≡ 3 → t .offset ≡ q → ReadsTexts t
   of-place q t x c o =
       record {
         text = absurd-code;
@@ -86,7 +86,7 @@ module _ (s : List ℕ) (atoms bonds : List ℤ) where
   pub reads-texts : Fits s atoms bonds → ReadsTexts (readOf s atoms bonds)
   reads-texts = go (readOf s atoms bonds) (outcome s atoms bonds)
     where
-      go : (t : Told) → Outcome s atoms bonds t → Fits s atoms bonds → ReadsTexts t
+      go : (t : ReadResult) → Outcome s atoms bonds t → Fits s atoms bonds → ReadsTexts t
       go t (Outcome.too-short e) f = absurd (let r : true ≡ false = sym (f .room) ∙ e in let z : _≡_ {A = ℕ} 0 1 = cc in omega arith)
       go t (Outcome.too-long e l) f = absurd (omega (arith, f .short))
       go t (Outcome.halts {c} {p} g e) f = of-refusal c p e

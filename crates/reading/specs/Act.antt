@@ -1,4 +1,4 @@
--- What a byte does beside the grammar: 01, "The text", and the refusals 4 to 9 of "When a call says no". The grammar was asked first
+-- 01, The text, and the refusals 4 to 9 of "When a call says no": what a byte does beside the grammar, which was asked first
 use Prim.Native.Nat.{ℕ, zero, suc, _+_, _-_, _*_}
 use mathlib.Core.Bool.{Bool, true, false, _&&_, not}
 use mathlib.Core.List.{List, [], _∷_}
@@ -13,13 +13,13 @@ use Rattle.reading_grammar.specs.Grammar.{nonzero, digits, several, bondSymbols
 use Rattle.reading_grammar.specs.declared.Last.{Last}
 use Rattle.reading_grammar.specs.declared.Last.the-variants.{Plain as plain, AfterC as afterC, AfterB as afterB}
 use Rattle.reading_grammar.specs.declared.Mode.{Mode}
-use Rattle.reading_grammar.specs.declared.Mode.the-variants.{Seq as seq, Bond as bond, Dot as dot, Inside as inside, Percent as percent, Percent1 as percent1, LetterA as letterA, LetterT as letterT, Bracket as bracket, Isotope as isotope, Symbol1 as symbol1, Symbolled as symbolled, Hydrogen as hydrogen, Hydrogens as hydrogens, Sign as sign, Charged as charged, Colon as colon, Extension as extension}
+use Rattle.reading_grammar.specs.declared.Mode.the-variants.{Seq as seq, Bond as bond, AtomNext as atomNext, Inside as inside, Percent as percent, Percent1 as percent1, LetterA as letterA, LetterT as letterT, Bracket as bracket, Isotope as isotope, Symbol1 as symbol1, Symbolled as symbolled, Hydrogen as hydrogen, Hydrogens as hydrogens, Sign as sign, Charged as charged, Colon as colon, Extension as extension}
 use Rattle.reading_grammar.specs.declared.State.{State}
 use Rattle.reading_grammar.specs.declared.State.the-variants.{Dead as dead, Start as start, At as at}
 use Rattle.reading_grammar.specs.Fold.{Act, keeps, refuses}
 use Rattle.table.specs.Limits.{maxAtoms, maxBonds}
 use Rattle.table.specs.Rows.{withBond}
-use Rattle.reading_state.specs.Limits.{maxDepth}
+use Rattle.ids.specs.Limits.{maxDepth}
 use Rattle.reading_state.specs.State.{opened, closed, joined}
 use Rattle.reading.specs.Memory.{Memory, Pending, nothing, dotted, symbol, symbolKind, kindOf, blank, rowOf, bareRow, between, bonded, begun, described, awaiting, moved, counting, drafted, meet, closeRefusal}
 use Rattle.reading.specs.Bracket.{digit, isotoped, elemented, hydrogened, signed, positive}
@@ -54,10 +54,10 @@ orAtom Nothing a k = k
 abbrev pub secondLetter : ℕ → Memory → Acts
 secondLetter e μ = keeps (described (bareRow e 0) μ)
 
-abbrev pub goesOn : Last → Memory → Acts
-goesOn plain μ = keeps μ
-goesOn afterC μ = secondLetter 17 μ
-goesOn afterB μ = secondLetter 35 μ
+abbrev pub letterAct : Last → Memory → Acts
+letterAct plain μ = keeps μ
+letterAct afterC μ = secondLetter 17 μ
+letterAct afterB μ = secondLetter 35 μ
 
 -- the bond that the bridge r closes
 abbrev pub bridgeBond : ℕ → Memory → Memory
@@ -78,9 +78,9 @@ orRefuse (suc c) p μ = refuses (suc c) p
 -- a bridge number r that is complete, with its digit or `%` at p
 unfoldable pub bridgeAct : ℕ → ℕ → Memory → Acts
 bridgeAct r p μ =
-    let open? : Bool = eqb (getD (μ .st .opener) r 0) 0 in
+    let free? : Bool = eqb (getD (μ .st .opener) r 0) 0 in
     let next = joined (μ .st) r (kindOf (μ .pending)) p in
-    pick open? (keeps (moved next μ))
+    pick free? (keeps (moved next μ))
     (orRefuse (closeRefusal (μ .bonds) (μ .st .bonds) (getD (μ .st .opener) r 0 - 1) (μ .st .hub .0) (getD (μ .st .symbol) r 0) (kindOf (μ .pending))) p
     (moved next (bridgeBond r μ)))
 
@@ -94,14 +94,14 @@ jointAct b μ = keeps (awaiting (pick (eqb b 46) dotted (symbol (symbolKind b)))
 
 -- ---- inside a bracket
 -- `]`: the row is complete
-abbrev pub closing : ℕ → Memory → Acts
-closing b μ = keeps (pick (eqb b 93) (described (rowOf (μ .draft)) μ) μ)
+abbrev pub closeAct : ℕ → Memory → Acts
+closeAct b μ = keeps (pick (eqb b 93) (described (rowOf (μ .draft)) μ) μ)
 
-abbrev pub charging : ℕ → Memory → Acts
-charging b μ = pick (among b signs) (keeps (drafted (fields.charged (signed (eqb b 43) 1) (μ .draft)) μ)) (closing b μ)
+abbrev pub chargeAct : ℕ → Memory → Acts
+chargeAct b μ = pick (among b signs) (keeps (drafted (fields.charged (signed (eqb b 43) 1) (μ .draft)) μ)) (closeAct b μ)
 
-abbrev pub hydrating : ℕ → Memory → Acts
-hydrating b μ = pick (eqb b 72) (keeps (drafted (hydrogened 1 (μ .draft)) μ)) (charging b μ)
+abbrev pub hydrogenAct : ℕ → Memory → Acts
+hydrogenAct b μ = pick (eqb b 72) (keeps (drafted (hydrogened 1 (μ .draft)) μ)) (chargeAct b μ)
 
 abbrev pub isotopeAct : ℕ → Memory → Acts
 isotopeAct b μ = keeps (drafted (pick (among b digits) (isotoped b (μ .draft)) (fields.symbolled b (μ .draft))) μ)
@@ -114,9 +114,9 @@ modeAct (seq x) b i μ =
     (pick (eqb b 37) (keeps μ)
     (pick (among b bondSymbols) (jointAct b μ)
     (pick (eqb b 46) (jointAct b μ)
-    (pick (eqb b 40) (branchAct i μ) (pick (eqb b 41) (keeps (moved (closed (μ .st)) μ)) (goesOn x μ)))))))
+    (pick (eqb b 40) (branchAct i μ) (pick (eqb b 41) (keeps (moved (closed (μ .st)) μ)) (letterAct x μ)))))))
 modeAct bond b i μ = orAtom (letterOf b) (atomAct b i μ) (pick (among b nonzero) (bridgeAct (digit b) i μ) (keeps μ))
-modeAct dot b i μ = atomAct b i μ
+modeAct atomNext b i μ = atomAct b i μ
 modeAct inside b i μ = orAtom (letterOf b) (atomAct b i μ) (jointAct b μ)
 modeAct percent b i μ = keeps (counting (digit b) μ)
 modeAct percent1 b i μ = bridgeAct (10 * μ .tens + digit b) (i - 2) μ
@@ -125,14 +125,14 @@ modeAct letterT b i μ = secondLetter 117 μ
 modeAct bracket b i μ = isotopeAct b μ
 modeAct (isotope n) b i μ = isotopeAct b μ
 modeAct (symbol1 a) b i μ =
-    pick (listed (a ∷ b ∷ []) symbols) (keeps (drafted (elemented (numberOf (a ∷ b ∷ [])) 0 (μ .draft)) μ)) (hydrating b μ)
-modeAct symbolled b i μ = hydrating b μ
-modeAct hydrogen b i μ = pick (among b several) (keeps (drafted (hydrogened (digit b) (μ .draft)) μ)) (charging b μ)
-modeAct hydrogens b i μ = charging b μ
-modeAct sign b i μ = pick (among b several) (keeps (drafted (fields.charged (signed (positive (μ .draft .charge)) (digit b)) (μ .draft)) μ)) (closing b μ)
-modeAct charged b i μ = closing b μ
+    pick (listed (a ∷ b ∷ []) symbols) (keeps (drafted (elemented (numberOf (a ∷ b ∷ [])) 0 (μ .draft)) μ)) (hydrogenAct b μ)
+modeAct symbolled b i μ = hydrogenAct b μ
+modeAct hydrogen b i μ = pick (among b several) (keeps (drafted (hydrogened (digit b) (μ .draft)) μ)) (chargeAct b μ)
+modeAct hydrogens b i μ = chargeAct b μ
+modeAct sign b i μ = pick (among b several) (keeps (drafted (fields.charged (signed (positive (μ .draft .charge)) (digit b)) (μ .draft)) μ)) (closeAct b μ)
+modeAct charged b i μ = closeAct b μ
 modeAct colon b i μ = keeps (drafted (fields.extended b (μ .draft)) μ)
-modeAct (extension n) b i μ = pick (among b digits) (keeps (drafted (fields.extended b (μ .draft)) μ)) (closing b μ)
+modeAct (extension n) b i μ = pick (among b digits) (keeps (drafted (fields.extended b (μ .draft)) μ)) (closeAct b μ)
 
 unfoldable pub act : State → ℕ → ℕ → Memory → Acts
 act dead b i μ = keeps μ

@@ -1,4 +1,4 @@
--- 01, "the fields of a bracket": what each byte of a bracket says of its atom
+-- 01, The text: "the fields of a bracket": what each byte of a bracket says of its atom
 use Prim.Native.Nat.{ℕ, zero, suc, _+_, _-_, _*_}
 use mathlib.Core.Bool.{Bool, true, false}
 use mathlib.Core.List.{List, [], _∷_}

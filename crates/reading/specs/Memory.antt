@@ -1,4 +1,4 @@
--- What a reading remembers beside the grammar, and how atoms, bonds and branches change it
+-- 01, The text: what a reading remembers beside the grammar, and how atoms, bonds and branches change it
 use Prim.Native.Nat.{ℕ, zero, suc, _+_, _-_, _*_}
 use mathlib.Core.Bool.{Bool, true, false, _&&_, _||_, not}
 use mathlib.Core.List.{List, [], _∷_}
@@ -64,12 +64,12 @@ rowOf f =
 abbrev pub bareRow : ℕ → ℕ → Atom
 bareRow e selected = record { element = pos e; selected = pos selected; isotope = pos 0; hydrogens = pos 0; charge = pos 0; extension = pos 0 }
 
-abbrev pub bondRow : ℕ → ℕ → ℕ → Bond
-bondRow a b k = record { first = pos a; second = pos b; kind = pos k }
+abbrev pub newBond : ℕ → ℕ → ℕ → Bond
+newBond a b k = record { first = pos a; second = pos b; kind = pos k }
 
 -- the first end is "the lower atom number, wherever a bridge opened"
 abbrev pub between : ℕ → ℕ → ℕ → Bond
-between a b k = pick (ltb a b) (bondRow a b k) (bondRow b a k)
+between a b k = pick (ltb a b) (newBond a b k) (newBond b a k)
 
 -- ---- a new atom
 
@@ -83,7 +83,7 @@ begun x μ =
     record {
       st = withNextAtom (μ .st) x (pick (bonded μ) (μ .st .bonds + 1) (μ .st .bonds));
       atoms = μ .atoms;
-      bonds = pick (bonded μ) (withBond (μ .bonds) (μ .st .bonds) (bondRow (μ .st .hub .0) (μ .st .atoms) (kindOf (μ .pending)))) (μ .bonds);
+      bonds = pick (bonded μ) (withBond (μ .bonds) (μ .st .bonds) (newBond (μ .st .hub .0) (μ .st .atoms) (kindOf (μ .pending)))) (μ .bonds);
       pending = nothing;
       tens = μ .tens;
       draft = blank;

@@ -1,4 +1,4 @@
--- 01: reading a text into two tables: the refusals 1 to 11 in the stated order, and what every answer leaves behind
+-- 01, When a call says no: reading a text into two tables: the refusals 1 to 11 in the stated order, and what every answer leaves behind
 use Prim.Native.Nat.{ℕ, zero, suc, _+_}
 use mathlib.Core.Bool.{Bool, true, false, _&&_, not}
 use mathlib.Core.List.{List, [], _∷_}
@@ -11,7 +11,7 @@ use Rattle.table.specs.Limits.{HYDROGENS}
 use Rattle.table.specs.Cells.{atomPlace, element, selected}
 use Rattle.table.specs.Valid.{enough}
 use Rattle.table_graph.specs.Graph.{bondSum, matchable}
-use Rattle.reading_state.specs.Limits.{maxText, bridges}
+use Rattle.ids.specs.Limits.{maxText, bridges}
 use Rattle.reading_state.specs.State.{started}
 use Rattle.reading_grammar.specs.Fold.{Reading, going, halted, read}
 use Rattle.reading_grammar.specs.Machine.{accepting}
@@ -20,7 +20,7 @@ use Rattle.reading.specs.Memory.{Memory, nothing, blank}
 use Rattle.reading.specs.Act.{act}
 
 -- what reading hands back: 0 with the counts of atoms and bonds, or a code with its offset, the counts being 0; and both tables
-pub record Told : Type 0 where
+pub record ReadResult : Type 0 where
   pub code : ℕ
   pub offset : ℕ
   pub atomCount : ℕ
@@ -32,11 +32,11 @@ abbrev pub zeros : List ℤ → List ℤ
 zeros t = replicate (length t) (pos 0)
 
 -- "any other zeroes every cell and byte lent for output, and counts and lengths handed back are 0"
-abbrev pub refused : ℕ → ℕ → List ℤ → List ℤ → Told
+abbrev pub refused : ℕ → ℕ → List ℤ → List ℤ → ReadResult
 refused c p atoms bonds = record { code = c; offset = p; atomCount = 0; bondCount = 0; atoms = zeros atoms; bonds = zeros bonds }
 
 -- "Refusal 1 changes nothing"
-abbrev pub short : List ℤ → List ℤ → Told
+abbrev pub short : List ℤ → List ℤ → ReadResult
 short atoms bonds = record { code = 1; offset = 0; atomCount = 0; bondCount = 0; atoms = atoms; bonds = bonds }
 
 -- the memory before the first byte, over zeroed tables
@@ -62,27 +62,27 @@ unfoldable pub leftmost : List ℕ → List ℕ → ℕ
 leftmost opener offset = run (λ r p. earlier p (getD opener r 0) (getD offset r 0)) 0 bridges maxText
 
 -- "11 exactly when the book of the molecule read has no entry", or the molecule
-abbrev pub placed : List ℤ → List ℤ → ℕ → ℕ → Told
+abbrev pub placed : List ℤ → List ℤ → ℕ → ℕ → ReadResult
 placed atoms bonds n m =
     pick (matchable atoms bonds n m) (record { code = 0; offset = 0; atomCount = n; bondCount = m; atoms = atoms; bonds = bonds }) (refused 11 0 atoms bonds)
 
 -- 10: "a bridge is open at the end"; then 11
-unfoldable pub ended : Memory → Told
+unfoldable pub ended : Memory → ReadResult
 ended μ =
     let p : ℕ = leftmost (μ .st .opener) (μ .st .offset) in
     pick (ltb p maxText) (refused 10 p (μ .atoms) (μ .bonds))
     (placed (hydrogenated (μ .st .outside) (μ .bonds) (μ .st .bonds) (μ .st .atoms) (μ .atoms)) (μ .bonds) (μ .st .atoms) (μ .st .bonds))
 
 -- 3 to 9 at their byte, 3 at the length, then what comes at the end; n: the length of the text
-abbrev pub finished : ℕ → List ℤ → List ℤ → Reading Memory → Told
+abbrev pub finished : ℕ → List ℤ → List ℤ → Reading Memory → ReadResult
 finished n atoms bonds (going σ μ) = pick (accepting σ) (ended μ) (refused 3 n atoms bonds)
 finished n atoms bonds (halted c p) = refused c p atoms bonds
 
 -- reading the bytes of a text into zeroed tables
-unfoldable pub readFrom : List ℕ → List ℤ → List ℤ → Told
+unfoldable pub readFrom : List ℕ → List ℤ → List ℤ → ReadResult
 readFrom s atoms bonds = finished (length s) atoms bonds (read act 0 (going start (beginning (zeros atoms) (zeros bonds))) s)
 
 -- "Reading checks 1, 2, then 3 to 9 by smallest place and there by smallest number, then 10, 11"
-unfoldable pub readOf : List ℕ → List ℤ → List ℤ → Told
+unfoldable pub readOf : List ℕ → List ℤ → List ℤ → ReadResult
 readOf s atoms bonds =
     pick (enough atoms bonds) (pick (leb (length s) maxText) (readFrom s atoms bonds) (refused 2 maxText atoms bonds)) (short atoms bonds)

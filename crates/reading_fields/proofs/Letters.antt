@@ -21,7 +21,7 @@ use Rattle.reading_grammar.specs.Grammar.{nonzero, bondSymbols}
 use Rattle.reading_grammar.specs.declared.Last.{Last}
 use Rattle.reading_grammar.specs.declared.Last.the-variants.{Plain as plain, AfterC as afterC, AfterB as afterB}
 use Rattle.reading_grammar.specs.declared.Mode.{Mode}
-use Rattle.reading_grammar.specs.declared.Mode.the-variants.{Seq as seq, Dot as dot, LetterA as letterA, LetterT as letterT, Bracket as bracket}
+use Rattle.reading_grammar.specs.declared.Mode.the-variants.{Seq as seq, AtomNext as atomNext, LetterA as letterA, LetterT as letterT, Bracket as bracket}
 use Rattle.reading_grammar.specs.declared.Out.{Out}
 use Rattle.reading_grammar.specs.declared.Out.the-variants.{Stop as stop, To as to}
 use Rattle.reading_grammar.specs.Machine.{next, resting, atomOr, bridgeOr, lastOf, goesOn}
@@ -124,17 +124,17 @@ last-stop b c h k = split (eqb b 67) (eqb b 66) h k
 
 module _ (s : List ℕ) (at : ℕ) {b : ℕ} (k : Peeked s at b) (l : at < length s) where
   module _ {x : Letter} {m : Mode} (e : letterOf b ≡ x) (f : firstOut b x stop ≡ to m) where
-    goes-first : next dot b ≡ to m
+    goes-first : next atomNext b ≡ to m
     unfolding next
     goes-first = letter-first b stop ∙ ap (λ (y : Letter). firstOut b y stop) e ∙ f
 
     begins : Begins s at
-    begins = record { within = l; mode = m; goes = ap (next dot) (sym (k .is)) ∙ goes-first }
+    begins = record { within = l; mode = m; goes = ap (next atomNext) (sym (k .is)) ∙ goes-first }
 
-    first-step : (μ : Memory) → Admitted s at μ → firstByte x μ .st .depth ≡ μ .st .depth → rest s at dot μ ≡ rest s (at + 1) m (firstByte x μ)
+    first-step : (μ : Memory) → Admitted s at μ → firstByte x μ .st .depth ≡ μ .st .depth → rest s at atomNext μ ≡ rest s (at + 1) m (firstByte x μ)
     unfolding modeAct
     first-step μ a d =
-        rest-to s at dot μ k l goes-first (ap (λ (n : ℕ). atomAct n at μ) (k .is) ∙ a ∙ ap (λ (n : ℕ). keeps (firstByte (letterOf n) μ)) (sym (k .is)) ∙ ap (λ (y : Letter). keeps (firstByte y μ)) e) d
+        rest-to s at atomNext μ k l goes-first (ap (λ (n : ℕ). atomAct n at μ) (k .is) ∙ a ∙ ap (λ (n : ℕ). keeps (firstByte (letterOf n) μ)) (sym (k .is)) ∙ ap (λ (y : Letter). keeps (firstByte y μ)) e) d
 
   pub spells-selected : {e : ℕ} {y : Atom} → letterOf b ≡ Selected e → y ≡ bareRow e 1 → Spells s at (Spelled.Row y 1 (at + 1))
   unfolding begun
@@ -232,7 +232,7 @@ module _ (s : List ℕ) (at : ℕ) {b : ℕ} (k : Peeked s at b) (l : at < lengt
 
 pub spells-nothing : (s : List ℕ) (at : ℕ) {b : ℕ} → at ≤ length s → Peeked s at b → letterOf b ≡ Nothing → Spells s at Spelled.Nothing
 unfolding next resting
-spells-nothing s at {b} l k e = record { is = λ μ. rest-stop s at dot μ k l (letter-first b stop ∙ ap (λ (y : Letter). firstOut b y stop) e) refl }
+spells-nothing s at {b} l k e = record { is = λ μ. rest-stop s at atomNext μ k l (letter-first b stop ∙ ap (λ (y : Letter). firstOut b y stop) e) refl }
 
 pub spells-zero : (s : List ℕ) (at : ℕ) {b : ℕ} → at ≤ length s → Peeked s at b → b ≡ 0 → Spells s at Spelled.Nothing
 unfolding letterOf selectedOf letters among

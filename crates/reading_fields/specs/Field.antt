@@ -1,4 +1,4 @@
--- What the field readers promise: after the field, the reading of the bracket goes on with the field in its draft, or is refused
+-- auxiliary: what the field readers promise: after the field, the reading of the bracket goes on with the field in its draft, or is refused
 use Prim.Native.Nat.{ℕ, _+_, _*_, _≤_, _<_}
 use mathlib.Core.Path.{_≡_}
 use mathlib.Core.List.{List}

@@ -1,4 +1,4 @@
--- The work that remains: what reading from an offset on will answer. Every contract of the reader compares it at the start with it at the end
+-- auxiliary: the work that remains: what reading from an offset on will answer. Every contract of the reader compares it at the start with it at the end
 use Prim.Native.Nat.{ℕ}
 use mathlib.Core.List.{List}
 use lib.ListN.{length, drop}

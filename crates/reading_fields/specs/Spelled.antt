@@ -1,4 +1,4 @@
--- What reading an atom's spelling promises: the reading goes on after it, with the atom begun and described
+-- auxiliary: what reading an atom's spelling promises: the reading goes on after it, with the atom begun and described
 use Prim.Native.Nat.{ℕ, _≤_, _<_}
 use mathlib.Core.Path.{_≡_}
 use mathlib.Core.List.{List}
@@ -6,7 +6,7 @@ use lib.ListN.{length, getD}
 use Rattle.element.specs.Lookup.{letterOf}
 use Rattle.reading_grammar.specs.declared.Last.the-variants.{Plain as plain}
 use Rattle.reading_grammar.specs.declared.Mode.{Mode}
-use Rattle.reading_grammar.specs.declared.Mode.the-variants.{Seq as seq, Dot as dot}
+use Rattle.reading_grammar.specs.declared.Mode.the-variants.{Seq as seq, AtomNext as atomNext}
 use Rattle.reading_grammar.specs.declared.Out.the-variants.{To as to}
 use Rattle.reading_grammar.specs.Machine.{next}
 use Rattle.reading_grammar.specs.Fold.{keeps, bad}
@@ -21,7 +21,7 @@ use Rattle.reading_fields.specs.declared.spelled.Spelled.{Spelled}
 pub record Begins (s : List ℕ) (at : ℕ) : Type 0 where
   pub within : at < length s
   pub mode : Mode
-  pub goes : next dot (getD s at 0) ≡ to mode
+  pub goes : next atomNext (getD s at 0) ≡ to mode
 
 -- neither 4 nor 5 is met where the atom begins
 abbrev pub Admitted : List ℕ → ℕ → Memory → Type 0
@@ -31,14 +31,14 @@ pub record SpellsRow (s : List ℕ) (at : ℕ) (y : Atom) (o p : ℕ) : Type 0 w
   pub begins : Begins s at
   pub within : p ≤ length s
   pub later : at < p
-  pub is : (μ : Memory) → Admitted s at μ → (f : Fields) × (rest s at dot μ ≡ rest s p (seq plain) (drafted f (described y (begun o μ))))
+  pub is : (μ : Memory) → Admitted s at μ → (f : Fields) × (rest s at atomNext μ ≡ rest s p (seq plain) (drafted f (described y (begun o μ))))
 
 pub record SpellsNothing (s : List ℕ) (at : ℕ) : Type 0 where
-  pub is : (μ : Memory) → rest s at dot μ ≡ bad 3 at
+  pub is : (μ : Memory) → rest s at atomNext μ ≡ bad 3 at
 
 pub record SpellsNot (s : List ℕ) (at p : ℕ) : Type 0 where
   pub begins : Begins s at
-  pub is : (μ : Memory) → Admitted s at μ → rest s at dot μ ≡ bad 3 p
+  pub is : (μ : Memory) → Admitted s at μ → rest s at atomNext μ ≡ bad 3 p
 
 abbrev pub Spells : List ℕ → ℕ → Spelled → Type 0
 Spells s at (Spelled.Row y o p) = SpellsRow s at y o p

@@ -51,7 +51,7 @@ pub fn isotope_at(s: &[u8], at: usize) -> Field
     if !is_digit(b) {
         return Field::Value(0, at);
     }
-    if b == 48 {
+    if b == b'0' {
         return Field::Refused(at);
     }
     let one = Number {
@@ -106,7 +106,7 @@ fn charge_of(b: u8, n: u16) -> i32
     ensures { λ r. ⌜ SFits w32 r ⌝ }
 {
     let size = n as i32;
-    if b == 43 {
+    if b == b'+' {
         return size;
     }
     0 - size
@@ -206,7 +206,7 @@ pub fn bracket_at(s: &[u8], at: usize) -> Bracket
     let Field::Value(extension, w) = x else {
         return Bracket::Refused(field_end(x));
     };
-    if peek(s, w) == 93 {
+    if peek(s, w) == b']' {
         let row = Fields {
             element,
             selected,

@@ -26,28 +26,28 @@ pub fn peek(s: &[u8], at: usize) -> u8
 pub fn is_digit(b: u8) -> bool
     ensures { λ r. ⌜ r ≡ among b digits ⌝ }
 {
-    (48 <= b) & (b <= 57)
+    (b'0' <= b) & (b <= b'9')
 }
 
 // internal: `1` to `9`.
 pub fn is_nonzero(b: u8) -> bool
     ensures { λ r. ⌜ r ≡ among b nonzero ⌝ }
 {
-    (49 <= b) & (b <= 57)
+    (b'1' <= b) & (b <= b'9')
 }
 
 // internal: `2` to `9`.
 pub fn is_several(b: u8) -> bool
     ensures { λ r. ⌜ r ≡ among b several ⌝ }
 {
-    (50 <= b) & (b <= 57)
+    (b'2' <= b) & (b <= b'9')
 }
 
 // internal: `+` and `-`.
 pub fn is_sign(b: u8) -> bool
     ensures { λ r. ⌜ r ≡ among b signs ⌝ }
 {
-    (b == 43) | (b == 45)
+    (b == b'+') | (b == b'-')
 }
 
 // internal: the number that a digit stands for.
@@ -55,20 +55,20 @@ pub fn value(b: u8) -> u16
     requires { ⌜ among b digits ≡ true ⌝ }
     ensures { λ r. ⌜ (r ≡ digit b) × (r < 10) ⌝ }
 {
-    (b - 48) as u16
+    (b - b'0') as u16
 }
 
 // internal: the kind of a bond symbol; 0 for another byte.
 pub fn symbol_kind(b: u8) -> u8
     ensures { λ r. ⌜ r ≡ symbolKind b ⌝ }
 {
-    if b == 45 {
+    if b == b'-' {
         return 1;
     }
-    if b == 61 {
+    if b == b'=' {
         return 2;
     }
-    if b == 35 {
+    if b == b'#' {
         return 3;
     }
     0

@@ -57,10 +57,10 @@ fn letter_at(s: &[u8], at: usize, b: u8, e: u8) -> Spelled
     ensures { λ r. ⌜ Spells (now (s .entry)) at r ⌝ }
 {
     let c = peek(s, at + 1);
-    if (b == 67) & (c == 108) {
+    if (b == b'C') & (c == b'l') {
         return Spelled::Row(bare(17, 0), 1, at + 2);
     }
-    if (b == 66) & (c == 114) {
+    if (b == b'B') & (c == b'r') {
         return Spelled::Row(bare(35, 0), 1, at + 2);
     }
     Spelled::Row(bare(e, 0), 1, at + 1)
@@ -74,13 +74,13 @@ fn half_at(s: &[u8], at: usize, b: u8) -> Spelled
     ensures { λ r. ⌜ Spells (now (s .entry)) at r ⌝ }
 {
     let c = peek(s, at + 1);
-    if b == 65 {
-        if c == 116 {
+    if b == b'A' {
+        if c == b't' {
             return Spelled::Row(bare(85, 0), 1, at + 2);
         }
         return Spelled::Refused(at + 1);
     }
-    if c == 115 {
+    if c == b's' {
         return Spelled::Row(bare(117, 0), 1, at + 2);
     }
     Spelled::Refused(at + 1)

@@ -8,7 +8,7 @@ use lib.Dec.{eqb, leb}
 use borrow.Author.Tests.{eqb-true, eq-eqb}
 use Rattle.reading_grammar.specs.Grammar
 use Rattle.reading_grammar.specs.Grammar.{starts, pick, among, listed, sameBytes, nonzero, digits, several, bondSymbols, signs, letters, marks, symbols, Digits, Number, number, Isotope, Symbol, mark, element, Hydrogens, Charge, Extension, Atom, letter, Cl, Br, At, Ts, Bridge, short, long, Bond, elided, Joint, Sequence, sequence, Pieces, Piece, branch, Text, empty, text}
-use Rattle.reading_grammar.specs.Machine.{Last, plain, afterC, afterB, Mode, seq, bond, dot, inside, percent, percent1, letterA, letterT, bracket, isotope, symbol1, symbolled, hydrogen, hydrogens, sign, charged, colon, extension, Out, stop, to, up, down, State, dead, start, at, lastOf, goesOn, atomOr, bridgeOr, closing, extending, charging, hydrating, symbolOr, next, turn, step, run, resting, accepting}
+use Rattle.reading_grammar.specs.Machine.{Last, plain, afterC, afterB, Mode, seq, bond, atomNext, inside, percent, percent1, letterA, letterT, bracket, isotope, symbol1, symbolled, hydrogen, hydrogens, sign, charged, colon, extension, Out, stop, to, up, down, State, dead, start, at, lastOf, goesOn, atomOr, bridgeOr, closing, extending, charging, hydrating, symbolOr, next, turn, step, run, resting, accepting}
 use Rattle.reading_grammar.proofs.Ends.{EndExtension, EndCharge, EndHydrogens, EndSymbol, EndIsotope, All, each, never, run-append, run-dead, all, all-listed}
 
 -- the machine goes from a state to a state over the bytes
@@ -209,7 +209,7 @@ atoms-bond : (d : ℕ) → Atoms (at bond d) d
 unfolding step next
 atoms-bond d = record { begins = λ b. (_, refl) }
 
-atoms-dot : (d : ℕ) → Atoms (at dot d) d
+atoms-dot : (d : ℕ) → Atoms (at atomNext d) d
 unfolding step next
 atoms-dot d = record { begins = λ b. (_, refl) }
 
@@ -226,9 +226,9 @@ seq-symbol : (x : Last) (b : ℕ) → among b bondSymbols ≡ true → Goes (seq
 unfolding next atomOr bridgeOr among letters nonzero bondSymbols
 seq-symbol x = each (λ b. Goes (seq x) b (to bond)) bondSymbols (record { is = refl }, (record { is = refl }, (record { is = refl }, tt)))
 
-inside-symbol : (b : ℕ) → among b bondSymbols ≡ true → Goes inside b (to dot)
+inside-symbol : (b : ℕ) → among b bondSymbols ≡ true → Goes inside b (to atomNext)
 unfolding next atomOr among letters bondSymbols
-inside-symbol = each (λ b. Goes inside b (to dot)) bondSymbols (record { is = refl }, (record { is = refl }, (record { is = refl }, tt)))
+inside-symbol = each (λ b. Goes inside b (to atomNext)) bondSymbols (record { is = refl }, (record { is = refl }, (record { is = refl }, tt)))
 
 on-bridge : (b : ℕ) → among b nonzero ≡ true → (k : Out) → atomOr b (bridgeOr b k) ≡ to (seq plain)
 unfolding atomOr bridgeOr among letters nonzero
@@ -276,11 +276,11 @@ pub one-down : (x : Last) (d : ℕ) → Goes (seq x) 41 down
 unfolding next atomOr bridgeOr among letters nonzero bondSymbols
 one-down x d = record { is = refl }
 
-seq-dot : (x : Last) → Goes (seq x) 46 (to dot)
+seq-dot : (x : Last) → Goes (seq x) 46 (to atomNext)
 unfolding next atomOr bridgeOr among letters nonzero bondSymbols
 seq-dot x = record { is = refl }
 
-inside-dot : Goes inside 46 (to dot)
+inside-dot : Goes inside 46 (to atomNext)
 unfolding next atomOr bridgeOr among letters nonzero bondSymbols
 inside-dot = record { is = refl }
 
@@ -300,8 +300,8 @@ pub record Joined (j : List ℕ) (d : ℕ) : Type 0 where
 
 takes-joint : (d : ℕ) {j : List ℕ} → Joint j → Joined j d
 takes-joint d (Joint.bond elided) = record { state = at inside d; runs = stay; atoms = atoms-inside d }
-takes-joint d (Joint.bond (Bond.symbol {b} e)) = record { state = at dot d; runs = one (inside-symbol b e); atoms = atoms-dot d }
-takes-joint d Joint.dot = record { state = at dot d; runs = one inside-dot; atoms = atoms-dot d }
+takes-joint d (Joint.bond (Bond.symbol {b} e)) = record { state = at atomNext d; runs = one (inside-symbol b e); atoms = atoms-dot d }
+takes-joint d Joint.dot = record { state = at atomNext d; runs = one inside-dot; atoms = atoms-dot d }
 
 -- after ( : the joint, the sequence and )
 takes-branch : {j s : List ℕ} (x : Last) (d : ℕ) → Joint j → ((σ : State) → Atoms σ (suc d) → Reaches σ s (suc d)) → Reaches (at (seq x) d) (40 ∷ (j ++ (s ++ 41 ∷ []))) d

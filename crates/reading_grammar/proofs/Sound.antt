@@ -7,7 +7,7 @@ use native.Mathlib.Omega.{arith}
 use lib.Dec.{eqb, leb}
 use borrow.Author.Tests.{eqb-true, eq-eqb}
 use Rattle.reading_grammar.specs.Grammar.{starts, pick, among, listed, sameBytes, nonzero, digits, several, bondSymbols, signs, letters, marks, symbols, Digits, Number, number, Isotope, Symbol, mark, element, Hydrogens, Charge, Extension, Atom, letter, Cl, Br, At, Ts, Bridge, short, long, Bond, elided, Joint, Sequence, sequence, Pieces, Piece, branch, Text, empty, text}
-use Rattle.reading_grammar.specs.Machine.{Last, plain, afterC, afterB, Mode, seq, bond, dot, inside, percent, percent1, letterA, letterT, bracket, isotope, symbol1, symbolled, hydrogen, hydrogens, sign, charged, colon, extension, Out, stop, to, up, down, State, dead, start, at, lastOf, goesOn, atomOr, bridgeOr, closing, extending, charging, hydrating, symbolOr, next, turn, step, run, resting, accepting}
+use Rattle.reading_grammar.specs.Machine.{Last, plain, afterC, afterB, Mode, seq, bond, atomNext, inside, percent, percent1, letterA, letterT, bracket, isotope, symbol1, symbolled, hydrogen, hydrogens, sign, charged, colon, extension, Out, stop, to, up, down, State, dead, start, at, lastOf, goesOn, atomOr, bridgeOr, closing, extending, charging, hydrating, symbolOr, next, turn, step, run, resting, accepting}
 use Rattle.reading_grammar.proofs.Ends.{EndExtension, EndCharge, EndHydrogens, EndSymbol, EndIsotope, never, run-dead}
 
 -- what completes the item that a mode is in
@@ -56,7 +56,7 @@ data ExtensionRest : ℕ → List ℕ → Type 0 where
 abbrev Half : Mode → List ℕ → Type 0
 Half (seq x) u = After x u
 Half bond u = Bonded u
-Half dot u = Atom u
+Half atomNext u = Atom u
 Half inside u = Inner u
 Half percent u = Two u
 Half percent1 u = One u
@@ -238,7 +238,7 @@ bond-tail : {b d : ℕ} {s : List ℕ} → among b bondSymbols ≡ true → Rest
 bond-tail e (rest u (Bonded.atom a) t) = push (Piece.atom (Bond.symbol e) a) t
 bond-tail e (rest u (Bonded.bridge a) t) = push (Piece.bridge (Bond.symbol e) a) t
 
-dot-tail : {d : ℕ} {s : List ℕ} → Rest dot d s → Tail d (46 ∷ s)
+dot-tail : {d : ℕ} {s : List ℕ} → Rest atomNext d s → Tail d (46 ∷ s)
 dot-tail (rest u a t) = push (Piece.dot a) t
 
 down-tail : (d : ℕ) (s : List ℕ) → RestOut down d s → Tail d (41 ∷ s)
@@ -285,7 +285,7 @@ back (seq x) d s b h =
 back bond d s b h =
     on-atom d s b _ h (λ y. from-atom (λ u a. Bonded.atom a) y) λ h.
     on-bridge d s b _ h (λ y. to-rest (map-ends (λ u a. Bonded.bridge a) y)) λ z. absurd z
-back dot d s b h = on-atom d s b _ h (λ y. from-atom (λ u a. a) y) λ z. absurd z
+back atomNext d s b h = on-atom d s b _ h (λ y. from-atom (λ u a. a) y) λ z. absurd z
 back inside d s b h =
     on-atom d s b _ h (λ y. from-atom (λ u a. inner (Joint.bond elided) a) y) λ h.
     on-pick d s (among b bondSymbols) _ _ h (λ e y. map-rest (joint-inner (Joint.bond (Bond.symbol e))) y) λ h.
@@ -337,7 +337,7 @@ unfolding resting
 at-end (seq x) zero h = rest [] done (last Pieces.none)
 at-end (seq x) (suc d) h = never h
 at-end bond d h = never h
-at-end dot d h = never h
+at-end atomNext d h = never h
 at-end inside d h = never h
 at-end percent d h = never h
 at-end percent1 d h = never h

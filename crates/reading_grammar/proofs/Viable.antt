@@ -10,8 +10,9 @@ use lib.Dec.{eqb, leb}
 use lib.ListN.{length, take, drop, replicate, take-append-drop}
 use borrow.Author.Tests.{eqb-true, eq-eqb}
 use Rattle.reading_grammar.specs.Grammar.{starts, pick, among, listed, sameBytes, nonzero, digits, several, bondSymbols, signs, letters, marks, symbols, Hydrogens, Charge, Extension, Text}
-use Rattle.reading_grammar.specs.Machine.{Last, plain, afterC, afterB, Mode, seq, bond, dot, inside, percent, percent1, letterA, letterT, bracket, isotope, symbol1, symbolled, hydrogen, hydrogens, sign, charged, colon, extension, Out, stop, to, up, down, State, dead, start, at, lastOf, goesOn, atomOr, bridgeOr, closing, extending, charging, hydrating, symbolOr, next, turn, step, run, resting, accepting, alive, reach, Verdict, fine, refused, verdict}
-use Rattle.reading_grammar.specs.Place.{Viable, Place, restOf, fill, completion}
+use Rattle.reading_grammar.specs.Machine.{Last, plain, afterC, afterB, Mode, seq, bond, atomNext, inside, percent, percent1, letterA, letterT, bracket, isotope, symbol1, symbolled, hydrogen, hydrogens, sign, charged, colon, extension, Out, stop, to, up, down, State, dead, start, at, lastOf, goesOn, atomOr, bridgeOr, closing, extending, charging, hydrating, symbolOr, next, turn, step, run, resting, accepting, alive, reach, Verdict, fine, refused, verdict}
+use Rattle.reading_grammar.specs.Place.{Viable, Place}
+use Rattle.reading_grammar.specs.Completion.{restOf, fill, completion}
 use Rattle.reading_grammar.proofs.Ends.{EndExtension, EndCharge, EndHydrogens, never, run-append, run-dead}
 use Rattle.reading_grammar.proofs.Complete.{Runs, Goes, Reaches, via, stay, along, onward, one-down, takes-element, takes-bracket, on-element, complete}
 use Rattle.reading_grammar.proofs.Sound.{sound}
@@ -20,7 +21,7 @@ use Rattle.reading_grammar.proofs.Sound.{sound}
 pub sane : Mode → Bool
 sane (seq x) = true
 sane bond = true
-sane dot = true
+sane atomNext = true
 sane inside = true
 sane percent = true
 sane percent1 = true
@@ -90,7 +91,7 @@ sane-next : (m : Mode) (b : ℕ) → saneOut (next m b) ≡ true
 unfolding next sane
 sane-next (seq x) b = sane-atom b _ (sane-bridge b _ (either (among b bondSymbols) _ _ (λ e. refl) (either (eqb b 46) _ _ (λ e. refl) (either (eqb b 40) _ _ (λ e. refl) (either (eqb b 41) _ _ (λ e. refl) (sane-last x b))))))
 sane-next bond b = sane-atom b _ (sane-bridge b _ refl)
-sane-next dot b = sane-atom b _ refl
+sane-next atomNext b = sane-atom b _ refl
 sane-next inside b = sane-atom b _ (either (among b bondSymbols) _ _ (λ e. refl) (either (eqb b 46) _ _ (λ e. refl) refl))
 sane-next percent b = either (among b nonzero) _ _ (λ e. refl) refl
 sane-next percent1 b = either (among b digits) _ _ (λ e. refl) refl
@@ -159,7 +160,7 @@ fills : (m : Mode) (d : ℕ) → sane m ≡ true → Reaches (at m d) (fill m) d
 unfolding sane fill next run step atomOr bridgeOr among letters bondSymbols nonzero digits several signs symbolOr starts symbols closing extending charging hydrating listed sameBytes marks
 fills (seq x) d h = record { last = x; runs = stay }
 fills bond d h = record { last = afterC; runs = record { is = refl } }
-fills dot d h = record { last = afterC; runs = record { is = refl } }
+fills atomNext d h = record { last = afterC; runs = record { is = refl } }
 fills inside d h = record { last = afterC; runs = record { is = refl } }
 fills percent d h = record { last = plain; runs = record { is = refl } }
 fills percent1 d h = record { last = plain; runs = record { is = refl } }

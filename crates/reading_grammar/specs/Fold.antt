@@ -1,4 +1,4 @@
--- Reading as a fold that computes beside the grammar: an action at each byte changes the memory, or refuses with a number and a place.
+-- 01, The text: reading as a fold that computes beside the grammar: an action at each byte changes the memory, or refuses with a number and a place
 use mathlib.Core.Path.{_≡_, refl}
 use mathlib.Core.Bool.{Bool, true, false}
 use mathlib.Core.List.{List, [], _∷_, _++_}

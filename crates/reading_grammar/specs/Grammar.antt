@@ -1,4 +1,4 @@
--- The grammar of texts (01, "The text"), as inductive definitions on lists of bytes, apart from any reader.
+-- 01, The text: the grammar of texts as inductive definitions on lists of bytes, apart from any reader
 use mathlib.Core.Path.{_≡_, refl}
 use mathlib.Core.Bool.{Bool, true, false}
 use mathlib.Core.List.{List, [], _∷_, _++_}

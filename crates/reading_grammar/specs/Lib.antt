@@ -1,4 +1,5 @@
 pub mod Grammar
 pub mod Machine
 pub mod Place
+pub mod Completion
 pub mod Fold

@@ -1,4 +1,4 @@
--- A machine that reads a text byte by byte, by the grammar alone.
+-- 01, The text: a machine that reads a text byte by byte, by the grammar alone (it accepts exactly the texts of the grammar, a theorem)
 use mathlib.Core.Path.{_≡_, refl}
 use mathlib.Core.Bool.{Bool, true, false}
 use mathlib.Core.List.{List, [], _∷_, _++_}
@@ -8,7 +8,7 @@ use lib.ListN.{replicate}
 pub use Rattle.reading_grammar.specs.declared.Last.{Last}
 pub use Rattle.reading_grammar.specs.declared.Last.the-variants.{Plain as plain, AfterC as afterC, AfterB as afterB}
 pub use Rattle.reading_grammar.specs.declared.Mode.{Mode}
-pub use Rattle.reading_grammar.specs.declared.Mode.the-variants.{Seq as seq, Bond as bond, Dot as dot, Inside as inside, Percent as percent, Percent1 as percent1, LetterA as letterA, LetterT as letterT, Bracket as bracket, Isotope as isotope, Symbol1 as symbol1, Symbolled as symbolled, Hydrogen as hydrogen, Hydrogens as hydrogens, Sign as sign, Charged as charged, Colon as colon, Extension as extension}
+pub use Rattle.reading_grammar.specs.declared.Mode.the-variants.{Seq as seq, Bond as bond, AtomNext as atomNext, Inside as inside, Percent as percent, Percent1 as percent1, LetterA as letterA, LetterT as letterT, Bracket as bracket, Isotope as isotope, Symbol1 as symbol1, Symbolled as symbolled, Hydrogen as hydrogen, Hydrogens as hydrogens, Sign as sign, Charged as charged, Colon as colon, Extension as extension}
 pub use Rattle.reading_grammar.specs.declared.Out.{Out}
 pub use Rattle.reading_grammar.specs.declared.Out.the-variants.{Stop as stop, To as to, Up as up, Down as down}
 pub use Rattle.reading_grammar.specs.declared.State.{State}
@@ -51,11 +51,11 @@ symbolOr b k = pick (starts b symbols) (to (symbol1 b)) (pick (among b marks) (t
 unfoldable pub next : Mode → ℕ → Out
 next (seq x) b =
     atomOr b (bridgeOr b
-    (pick (among b bondSymbols) (to bond) (pick (eqb b 46) (to dot)
+    (pick (among b bondSymbols) (to bond) (pick (eqb b 46) (to atomNext)
     (pick (eqb b 40) up (pick (eqb b 41) down (goesOn x b))))))
 next bond b = atomOr b (bridgeOr b stop)
-next dot b = atomOr b stop
-next inside b = atomOr b (pick (among b bondSymbols) (to dot) (pick (eqb b 46) (to dot) stop))
+next atomNext b = atomOr b stop
+next inside b = atomOr b (pick (among b bondSymbols) (to atomNext) (pick (eqb b 46) (to atomNext) stop))
 next percent b = pick (among b nonzero) (to percent1) stop
 next percent1 b = pick (among b digits) (to (seq plain)) stop
 next letterA b = pick (eqb b 116) (to (seq plain)) stop
@@ -94,7 +94,7 @@ unfoldable pub resting : Mode → ℕ → Bool
 resting (seq x) zero = true
 resting (seq x) (suc d) = false
 resting bond d = false
-resting dot d = false
+resting atomNext d = false
 resting inside d = false
 resting percent d = false
 resting percent1 d = false

@@ -7,11 +7,11 @@ pub enum Last {
     AfterB,
 }
 
-// Where in a text the machine stands.
+// Where in a text the machine stands: AtomNext after a dot, and after a symbol that opens a branch, where an atom must follow.
 pub enum Mode {
     Seq(Last),
     Bond,
-    Dot,
+    AtomNext,
     Inside,
     Percent,
     Percent1,

@@ -6,7 +6,7 @@ use lib.Dec.{eqb}
 use Rattle.loops.specs.Loop.{pick}
 use Rattle.ids.specs.declared.AtomId.{AtomId}
 use Rattle.table.specs.Limits.{maxAtoms}
-use Rattle.reading_state.specs.Limits.{maxDepth, bridges}
+use Rattle.ids.specs.Limits.{maxDepth, bridges}
 use Rattle.reading_state.specs.declared.State.{State}
 use Rattle.reading_state.specs.declared.Opening.{Opening}
 

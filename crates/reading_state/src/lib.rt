@@ -1,5 +1,7 @@
 // The reading state by value: the hub, the open branches and the open bridges, with the counts.
 use ids::AtomId;
+use ids::BRIDGES;
+use ids::MAX_DEPTH;
 ghost use mathlib.Core.Path.{_≡_};
 ghost use mathlib.Core.List.{List};
 ghost use Prim.Native.Nat.{ℕ, _+_, _-_, _≤_, _<_};
@@ -7,17 +9,8 @@ ghost use lib.ListN.{getD, set, replicate};
 ghost use lib.Dec.{eqb};
 ghost use Rattle.loops.specs.Loop.{pick};
 ghost use Rattle.table.specs.Limits.{maxAtoms};
-ghost use Rattle.reading_state.specs.Limits.{maxDepth, bridges};
+ghost use Rattle.ids.specs.Limits.{maxDepth, bridges};
 ghost use Rattle.reading_state.specs.State.{steering, started, withNextAtom, opened, closed, openingOf, joined};
-
-// The most bytes of a text.
-pub const MAX_TEXT: usize = 4096;
-
-// The most branches that are open inside one another.
-pub const MAX_DEPTH: usize = 64;
-
-// The bridge numbers are below this; 0 is not used.
-pub const BRIDGES: usize = 100;
 
 // The fields of a bracket.
 pub struct Fields {

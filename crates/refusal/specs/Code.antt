@@ -1,7 +1,7 @@
 -- 01, When a call says no: the code ("No.") of each refusal
 use Prim.Native.Nat.{ℕ}
 use Rattle.refusal.specs.declared.Refusal.{Refusal}
-use Rattle.refusal.specs.declared.Refusal.the-variants.{Short, LongText, Grammar, ManyAtoms, ManyBonds, DeepBranch, SelfBridge, RepeatedBond, SymbolClash, OpenBridge, NoMatching, NotMatching, Invalid, ManyBridges, DeepWriting, LongWriting}
+use Rattle.refusal.specs.declared.Refusal.the-variants.{Short, LongText, Grammar, ManyAtoms, ManyBonds, DeepBranch, SelfBridge, RepeatedBond, SymbolClash, OpenBridge, Unmatchable, NotMatching, Invalid, ManyBridges, DeepWriting, LongWriting}
 
 -- each comment is the line of the table
 abbrev pub codeOf : Refusal → ℕ
@@ -15,7 +15,7 @@ codeOf SelfBridge = 7  -- a bridge joins an atom to itself
 codeOf RepeatedBond = 8  -- a bridge joins two atoms that have a bond
 codeOf SymbolClash = 9  -- the symbols at a bridge's ends differ
 codeOf OpenBridge = 10  -- a bridge is open at the end
-codeOf NoMatching = 11  -- no matching ("placement") exists
+codeOf Unmatchable = 11  -- no matching ("placement") exists
 codeOf NotMatching = 12  -- the row handed in is not a matching of this molecule
 codeOf Invalid = 13  -- the tables are not valid ("sound")
 codeOf ManyBridges = 14  -- the walk needs over 99 bridges open at once

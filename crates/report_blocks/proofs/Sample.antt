@@ -23,7 +23,7 @@ use Rattle.reading.specs.Act.{atomAct, bridgeAct, branchAct, modeAct, act}
 use Rattle.reading.specs.Read.{hydrogenated, leftmost, ended, readFrom, readOf}
 use Rattle.kekule.specs.Kekule.{callOn, kekulizedOf}
 use Rattle.writing_walk.specs.Walk.{forestOf, renumbered, unused, write}
-use Rattle.writing.specs.Spell.{decimal, hydrogenBytes, sizeBytes, bracketBytes, unbracketed, atomBytes, kindBytes, bridgeBytes, restBytes, tokensBytes}
+use Rattle.writing.specs.Spell.{decimal, hydrogenBytes, sizeBytes, bracketBytes, withoutBrackets, spelledAtom, kindBytes, bridgeBytes, restBytes, tokensBytes}
 use Rattle.writing.specs.Write.{tokens, textOf, renumbering, fewBridges, writeValid, writeOf}
 use Rattle.report_lines.specs.Cut.{linesAfter}
 use Rattle.report_format.specs.Text.{decBy, decOf, acceptedLine, refusedLine, totalsLine}
@@ -47,5 +47,5 @@ output =
     []
 
 pub sample : reportOf input ≡ output
-unfolding input output each run upTo among listed starts sameBytes symbols letters marks indexFrom numberOf selectedOf letterOf bare bytesOf selectedBytes order targets firstTarget firstRoom implied delocalized nonzero digits several bondSymbols signs step next accepting resting atomOr bridgeOr closing extending charging hydrating symbolOr feed read rows passing isRow rowCall isMatching eachOnce degree chosenInduced number inRange withAtom withBond doubled doubledBonds unselectedAtoms selectedOk sameEnds fresh distinct atomOk bondOk valid enough touches share bondSum started opened closed joined symbolKind begun joins joinedAlready closeRefusal symbolled atomAct bridgeAct branchAct modeAct act hydrogenated leftmost matchable ended readFrom readOf callOn kekulizedOf forestOf renumbered unused write decimal hydrogenBytes sizeBytes bracketBytes unbracketed atomBytes kindBytes bridgeBytes restBytes tokensBytes tokens textOf renumbering fewBridges writeValid writeOf firstRow kekuleOf writtenOf ofMolecule outcomeOf linesAfter decBy decOf acceptedLine refusedLine totalsLine lineOf acceptedOf reportFrom reportOf
+unfolding input output each run upTo among listed starts sameBytes symbols letters marks indexFrom numberOf selectedOf letterOf bare bytesOf selectedBytes order targets firstTarget firstRoom implied delocalized nonzero digits several bondSymbols signs step next accepting resting atomOr bridgeOr closing extending charging hydrating symbolOr feed read rows passing isRow rowCall isMatching eachOnce degree chosenInduced number inRange withAtom withBond doubled doubledBonds unselectedAtoms selectedOk sameEnds fresh distinct atomOk bondOk valid enough touches share bondSum started opened closed joined symbolKind begun joins joinedAlready closeRefusal symbolled atomAct bridgeAct branchAct modeAct act hydrogenated leftmost matchable ended readFrom readOf callOn kekulizedOf forestOf renumbered unused write decimal hydrogenBytes sizeBytes bracketBytes withoutBrackets spelledAtom kindBytes bridgeBytes restBytes tokensBytes tokens textOf renumbering fewBridges writeValid writeOf firstRow kekuleOf writtenOf ofMolecule outcomeOf linesAfter decBy decOf acceptedLine refusedLine totalsLine lineOf acceptedOf reportFrom reportOf
 sample = refl

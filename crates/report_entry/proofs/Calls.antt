@@ -10,10 +10,10 @@ use lib.Dec.{eqb}
 use Rattle.loops.specs.Loop.{pick}
 use Rattle.refusal.specs.Code.{codeOf}
 use Rattle.refusal.specs.declared.Refusal.{Refusal}
-use Rattle.refusal.specs.declared.Refusal.the-variants.{Short, LongText, Grammar, ManyAtoms, ManyBonds, DeepBranch, SelfBridge, RepeatedBond, SymbolClash, OpenBridge, NoMatching, NotMatching, Invalid, ManyBridges, DeepWriting, LongWriting}
+use Rattle.refusal.specs.declared.Refusal.the-variants.{Short, LongText, Grammar, ManyAtoms, ManyBonds, DeepBranch, SelfBridge, RepeatedBond, SymbolClash, OpenBridge, Unmatchable, NotMatching, Invalid, ManyBridges, DeepWriting, LongWriting}
 use Rattle.table.specs.Limits.{maxAtoms, maxBonds, atomCells, bondCells}
 use Rattle.table.specs.declared.Check.{Check}
-use Rattle.reading_state.specs.Limits.{maxText}
+use Rattle.ids.specs.Limits.{maxText}
 use Rattle.matching.specs.declared.Call.the-variants.{First}
 use Rattle.reading.specs.Read as read
 use Rattle.reading.proofs.Accepted.{read-valid}
@@ -42,14 +42,14 @@ code-not-zero SelfBridge = refl
 code-not-zero RepeatedBond = refl
 code-not-zero SymbolClash = refl
 code-not-zero OpenBridge = refl
-code-not-zero NoMatching = refl
+code-not-zero Unmatchable = refl
 code-not-zero NotMatching = refl
 code-not-zero Invalid = refl
 code-not-zero ManyBridges = refl
 code-not-zero DeepWriting = refl
 code-not-zero LongWriting = refl
 
-abbrev readBlank : List ℕ → read.Told
+abbrev readBlank : List ℕ → read.ReadResult
 readBlank s = read.readOf s (replicate (atomCells * maxAtoms) (pos 0)) (replicate (bondCells * maxBonds) (pos 0))
 
 -- the line of an outcome under another name
@@ -75,11 +75,11 @@ module _ (s : List ℕ) (a b : List ℤ) (x : reply.Answer) (told : reader.told 
   pub few-bonds : {n m : ℕ} → x ≡ reply.Answer.Molecule n m → m ≤ maxBonds
   few-bonds {n} {m} e =
       let same : reader.told (reply.Answer.Molecule n m) a b ≡ readBlank s = ap (λ y. reader.told y a b) (sym e) ∙ told in
-      subst (λ (t : read.Told). t .bondCount ≤ maxBonds) (sym same) (read-valid s _ _ (ap (λ (t : read.Told). t .code) (sym same)) .few-bonds)
+      subst (λ (t : read.ReadResult). t .bondCount ≤ maxBonds) (sym same) (read-valid s _ _ (ap (λ (t : read.ReadResult). t .code) (sym same)) .few-bonds)
 
 -- ---- writing the molecule
 
-abbrev writeBlank : List ℤ → List ℤ → ℕ → ℕ → write.Told
+abbrev writeBlank : List ℤ → List ℤ → ℕ → ℕ → write.WriteResult
 writeBlank a b n m = write.writeOf a b n m (replicate maxText 0) (replicate maxAtoms 0)
 
 module _ (atoms bonds : List ℤ) (n m : ℕ) (row : List ℕ) (a b : List ℤ) (text numbers : List ℕ) (f : Found) (c : Check) (w : Written) (first : out f row ≡ callOn First atoms bonds n m (replicate maxBonds 0)) (kekule : tables c a b ≡ kekulizedOf atoms bonds n m row) (write : told w text numbers ≡ writeBlank a b n m) where
@@ -110,7 +110,7 @@ module _ (atoms bonds : List ℤ) (n m : ℕ) (row : List ℕ) (a b : List ℤ) 
 -- the text is within its buffer
 pub text-within : (a b : List ℤ) (n m : ℕ) (text numbers : List ℕ) (w : Written) {size : ℕ} → told w text numbers ≡ writeBlank a b n m → w ≡ Text size → size ≤ maxText
 text-within a b n m text numbers w e q =
-    subst (λ (t : write.Told). t .size ≤ maxText) (sym (ap (λ y. told y text numbers) (sym q) ∙ e)) (size-within a b n m _ _)
+    subst (λ (t : write.WriteResult). t .size ≤ maxText) (sym (ap (λ y. told y text numbers) (sym q) ∙ e)) (size-within a b n m _ _)
 
 -- a number of cells that a buffer has
 pub buffer-fits : (l : List ℕ) (n k : ℕ) → length l ≡ length {A = ℕ} (replicate k 0) → n ≤ k → n ≤ length l

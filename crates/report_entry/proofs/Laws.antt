@@ -14,7 +14,7 @@ use Rattle.loops.specs.Loop.{pick}
 use Rattle.report_lines.specs.Cut.{maxLine}
 use Rattle.table.specs.Limits.{maxAtoms, maxBonds, atomCells, bondCells}
 use Rattle.table.specs.Valid.{valid, enough}
-use Rattle.reading_state.specs.Limits.{maxText}
+use Rattle.ids.specs.Limits.{maxText}
 use Rattle.reading.specs.Read as read
 use Rattle.reading.proofs.Accepted.{read-valid}
 use Rattle.writing.specs.Write as write
@@ -55,11 +55,11 @@ accepted-clipped s = ap isAccepted (outcome-clipped s)
 -- ---- the length
 
 -- the size of a written text
-accepted-size : (t : Bool) (text order out ren : List ℕ) → leb (length text) maxText ≡ t → pick t (write.accepted text order out ren) (write.refused 16 out ren) .size ≤ maxText
+accepted-size : (t : Bool) (text order out ren : List ℕ) → leb (length text) maxText ≡ t → pick t (write.writeAccepted text order out ren) (write.writeRefused 16 out ren) .size ≤ maxText
 accepted-size true text order out ren e = leb-true _ _ e
 accepted-size false text order out ren e = omega arith
 
-pick-size : (t : Bool) (a b : write.Told) → a .size ≤ maxText → b .size ≤ maxText → pick t a b .size ≤ maxText
+pick-size : (t : Bool) (a b : write.WriteResult) → a .size ≤ maxText → b .size ≤ maxText → pick t a b .size ≤ maxText
 pick-size true a b h g = h
 pick-size false a b h g = g
 
@@ -77,7 +77,7 @@ size-within atoms bonds n m out ren =
 take-short : (n : ℕ) (l : List ℕ) → length (take n l) ≤ n
 take-short n l = simp length-take (omega arith)
 
-written-within : (k n m : ℕ) (row : List ℕ) (w : write.Told) (t : Bool) → m ≤ maxBonds → w .size ≤ maxText → length (lineFor k (pick t (accepted n m (take m row) (take (w .size) (w .output))) (refused (w .code) 0))) ≤ lineRoom
+written-within : (k n m : ℕ) (row : List ℕ) (w : write.WriteResult) (t : Bool) → m ≤ maxBonds → w .size ≤ maxText → length (lineFor k (pick t (accepted n m (take m row) (take (w .size) (w .output))) (refused (w .code) 0))) ≤ lineRoom
 written-within k n m row w true h g =
     omega (arith, accepted-within k n m (take m row) (take (w .size) (w .output)), take-short m row, take-short (w .size) (w .output))
 written-within k n m row w false h g = omega (arith, refused-within k (w .code) 0)
@@ -86,7 +86,7 @@ molecule-within : (k : ℕ) (atoms bonds : List ℤ) (n m : ℕ) → m ≤ maxBo
 unfolding ofMolecule writtenOf
 molecule-within k atoms bonds n m h = written-within k n m (firstRow atoms bonds n m) (writtenOf atoms bonds n m) (eqb (writtenOf atoms bonds n m .code) 0) h (size-within _ _ n m _ _)
 
-read-within : (k : ℕ) (t : read.Told) (b : Bool) → (b ≡ true → t .bondCount ≤ maxBonds) → length (lineFor k (pick b (ofMolecule (t .atoms) (t .bonds) (t .atomCount) (t .bondCount)) (refused (t .code) (t .offset)))) ≤ lineRoom
+read-within : (k : ℕ) (t : read.ReadResult) (b : Bool) → (b ≡ true → t .bondCount ≤ maxBonds) → length (lineFor k (pick b (ofMolecule (t .atoms) (t .bonds) (t .atomCount) (t .bondCount)) (refused (t .code) (t .offset)))) ≤ lineRoom
 read-within k t true h = molecule-within k (t .atoms) (t .bonds) (t .atomCount) (t .bondCount) (h refl)
 read-within k t false h = omega (arith, refused-within k (t .code) (t .offset))
 
@@ -94,5 +94,5 @@ read-within k t false h = omega (arith, refused-within k (t .code) (t .offset))
 pub line-within : (k : ℕ) (s : List ℕ) → length (lineOf k s) ≤ lineRoom
 unfolding lineOf outcomeOf
 line-within k s =
-    let t : read.Told = read.readOf s (replicate (atomCells * maxAtoms) (pos 0)) (replicate (bondCells * maxBonds) (pos 0)) in
+    let t : read.ReadResult = read.readOf s (replicate (atomCells * maxAtoms) (pos 0)) (replicate (bondCells * maxBonds) (pos 0)) in
     read-within k t (eqb (t .code) 0) (λ e. read-valid s _ _ (eqb-true (t .code) 0 e) .few-bonds)

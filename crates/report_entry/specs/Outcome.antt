@@ -8,7 +8,7 @@ use lib.IntN.{ℤ, pos}
 use lib.Dec.{eqb}
 use Rattle.loops.specs.Loop.{pick}
 use Rattle.table.specs.Limits.{maxAtoms, maxBonds, atomCells, bondCells}
-use Rattle.reading_state.specs.Limits.{maxText}
+use Rattle.ids.specs.Limits.{maxText}
 use Rattle.matching.specs.declared.Call.the-variants.{First}
 use Rattle.reading.specs.Read as read
 use Rattle.kekule.specs.Kekule.{Tables, callOn, kekulizedOf}
@@ -33,12 +33,12 @@ unfoldable pub kekuleOf : List ℤ → List ℤ → ℕ → ℕ → Tables
 kekuleOf atoms bonds n m = kekulizedOf atoms bonds n m (firstRow atoms bonds n m)
 
 -- their text
-unfoldable pub writtenOf : List ℤ → List ℤ → ℕ → ℕ → write.Told
+unfoldable pub writtenOf : List ℤ → List ℤ → ℕ → ℕ → write.WriteResult
 writtenOf atoms bonds n m =
     write.writeOf (kekuleOf atoms bonds n m .atoms) (kekuleOf atoms bonds n m .bonds) n m (replicate maxText 0) (replicate maxAtoms 0)
 
 -- "A writing refusal is reported with place 0 and counted as refused"
-abbrev pub ofWritten : ℕ → ℕ → List ℕ → write.Told → Outcome
+abbrev pub ofWritten : ℕ → ℕ → List ℕ → write.WriteResult → Outcome
 ofWritten n m row w = pick (eqb (w .code) 0) (accepted n m (take m row) (take (w .size) (w .output))) (refused (w .code) 0)
 
 unfoldable pub ofMolecule : List ℤ → List ℤ → ℕ → ℕ → Outcome
@@ -46,7 +46,7 @@ ofMolecule atoms bonds n m = ofWritten n m (firstRow atoms bonds n m) (writtenOf
 
 -- ---- a line
 
-abbrev pub ofRead : read.Told → Outcome
+abbrev pub ofRead : read.ReadResult → Outcome
 ofRead t = pick (eqb (t .code) 0) (ofMolecule (t .atoms) (t .bonds) (t .atomCount) (t .bondCount)) (refused (t .code) (t .offset))
 
 unfoldable pub outcomeOf : List ℕ → Outcome

@@ -24,7 +24,7 @@ use Rattle.writing_walk.proofs.Twice.{completed-inside, order-again, place-same
 use Rattle.writing_walk.proofs.Natural.{onTok, write-natural}
 use Rattle.writing_walk.proofs.Made.{Made, written-made}
 use Rattle.writing_walk.proofs.Order.{atom-below, place-atom}
-use Rattle.writing.specs.Spell.{isotopeBytes, symbolBytes, hydrogenBytes, chargeBytes, extensionBytes, bracketBytes, unbracketed, atomBytes, kindBytes, bridgeBytes, restBytes, tokensBytes}
+use Rattle.writing.specs.Spell.{isotopeBytes, symbolBytes, hydrogenBytes, chargeBytes, extensionBytes, bracketBytes, unbracketed, atomBytes, kindBytes, bridgeBytes, restBytes, tokensBytes, withoutBrackets, spelledAtom}
 use Rattle.writing.specs.Write.{bondList, tokens, textOf, renumbering}
 use Rattle.roundtrip.proofs.Bonds.{inside, distinct}
 use Rattle.roundtrip.proofs.Back.{map-same, Molecule, ren, sum-same}
@@ -41,7 +41,7 @@ bytesBy e s i h c x sum =
     (91 ∷ (isotopeBytes (number i) ++ (symbolBytes (number e) (number s) ++ (hydrogenBytes (number h) ++ (chargeBytes c ++ (extensionBytes (number x) ++ 93 ∷ []))))))
 
 by-cells : (atoms bonds : List ℤ) (m a : ℕ) → atomBytes atoms bonds m a ≡ bytesBy (atomCell atoms a ELEMENT) (atomCell atoms a SELECTED) (atomCell atoms a ISOTOPE) (atomCell atoms a HYDROGENS) (atomCell atoms a CHARGE) (atomCell atoms a EXTENSION) (bondSum bonds m a)
-unfolding atomBytes unbracketed bracketBytes
+unfolding spelledAtom withoutBrackets bracketBytes
 by-cells atoms bonds m a = refl
 
 -- ---- the bytes of tokens depend on the bytes of their atoms

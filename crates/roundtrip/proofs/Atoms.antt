@@ -26,7 +26,7 @@ use Rattle.table.specs.Cells.{number, inRange, atomCell, element, selected, hyd
 use Rattle.table.specs.Valid.{selectable, selectedOk}
 use Rattle.table.proofs.Valid.{AtomFine, range-high}
 use Rattle.reading.specs.Memory.{Memory, bareRow, rowOf, begun}
-use Rattle.writing.specs.Spell.{symbolBytes, bracketBytes, unbracketed, atomBytes}
+use Rattle.writing.specs.Spell.{symbolBytes, bracketBytes, unbracketed, atomBytes, withoutBrackets, spelledAtom}
 use Rattle.roundtrip.proofs.Feed.{byte}
 use Rattle.roundtrip.proofs.Bracketed.{fields, Slight}
 use Rattle.roundtrip.proofs.Named.{Symbolic, takes-bracket}
@@ -73,7 +73,7 @@ module _ (atoms bonds : List ℤ) (m v : ℕ) where
     pub implied : implied (element atoms v) (selected atoms v) (bondSum bonds m v) ≡ hydrogens atoms v
 
   pub bare-of : unbracketed atoms bonds m v ≡ true → Bare
-  unfolding unbracketed
+  unfolding withoutBrackets
   bare-of h = go (atomCell atoms v CHARGE) refl
     where
       i : Bool
@@ -118,7 +118,7 @@ module _ (atoms bonds : List ℤ) (m v : ℕ) where
 
   -- THE ATOM
   pub takes-atom : AtomFine atoms v → (i : ℕ) (σ : State) (d : ℕ) (μ : Memory) → Begins σ d → Room μ → Atomed i σ d μ (atomBytes atoms bonds m v) draftRow outsideFlag
-  unfolding atomBytes draftRow outsideFlag
+  unfolding spelledAtom draftRow outsideFlag
   takes-atom f i σ d μ g r = go (unbracketed atoms bonds m v) refl
     where
       go : (x : Bool) → unbracketed atoms bonds m v ≡ x

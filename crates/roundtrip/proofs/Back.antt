@@ -16,10 +16,11 @@ use Rattle.table.specs.Limits.{maxAtoms, maxBonds, atomCells, bondCells, ELEMEN
 use Rattle.table.specs.Cells.{number, atomCell, bondCell, element, selected, hydrogens}
 use Rattle.table.specs.Valid.{Valid, selectedOk}
 use Rattle.table.proofs.Valid.{AtomFine, atom-row, range-pos, Enough}
-use Rattle.reading_state.specs.Limits.{maxText, maxDepth, bridges}
+use Rattle.ids.specs.Limits.{maxText, maxDepth, bridges}
 use Rattle.reading.specs.Memory.{Memory}
 use Rattle.reading.specs.Read.{hydrogenated, leftmost, refused, placed, ended, finished, readFrom}
-use Rattle.writing_walk.specs.Token.{Bond, Tok, apart, along, ring, branch, back, St, st, start}
+use Rattle.writing_walk.specs.Token.{Bond, Tok, apart, along, ring, branch, back}
+use Rattle.writing_walk.specs.Reading.{St, st, startTokens}
 use Rattle.writing_walk.specs.Emit.{pre}
 use Rattle.writing_walk.specs.Walk.{forestOf, place, renumber, renumbered}
 use Rattle.writing_walk.specs.Check.{fine, reading}
@@ -163,7 +164,7 @@ module _ (atoms bonds : List ℤ) (n m : ℕ) (v : Valid atoms bonds n m) where
     end-state : St
     end-state = st (map (λ a. a) walked) (completed n bs) (trip .hub) n (trip .bridges) []
 
-    tokens-read : reading maxAtoms maxBonds maxDepth (tokens bonds n m) start ≡ fine end-state
+    tokens-read : reading maxAtoms maxBonds maxDepth (tokens bonds n m) startTokens ≡ fine end-state
     unfolding tokens end-state
     tokens-read = read-written maxAtoms maxBonds maxDepth n (λ a. a) bs (inside v) (distinct v) (v .few-atoms) (let e = many v in let l = v .few-bonds in omega arith) flat ∙ ap fine (trip .reads)
 

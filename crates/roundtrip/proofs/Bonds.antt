@@ -20,7 +20,7 @@ use Rattle.writing_walk.specs.Check.{ends}
 use Rattle.writing_walk.proofs.Count.{bit, count, All, none, more}
 use Rattle.writing_walk.proofs.Walk.{Inside}
 use Rattle.writing_walk.proofs.Twice.{Distinct}
-use Rattle.writing.specs.Write.{bondAt, bondList}
+use Rattle.writing.specs.Write.{walkBond, bondList}
 use Rattle.roundtrip.proofs.Held.{nobond, BondTable}
 
 -- ---- lists by index
@@ -67,14 +67,14 @@ module _ {A : Type 0} where
 
 module _ {atoms bonds : List ℤ} {n m : ℕ} (v : Valid atoms bonds n m) where
   pub inside : Inside n (bondList bonds m)
-  inside = all-upTo (λ b. (b .lo < b .hi) × (b .hi < n)) (bondAt bonds) 0 m (λ j a b. (let r = bond-row v j (omega arith) in (r .order, r .second)))
+  inside = all-upTo (λ b. (b .lo < b .hi) × (b .hi < n)) (walkBond bonds) 0 m (λ j a b. (let r = bond-row v j (omega arith) in (r .order, r .second)))
 
   pub small-kinds : All (λ b. b .kind ≤ 3) (bondList bonds m)
-  small-kinds = all-upTo (λ b. b .kind ≤ 3) (bondAt bonds) 0 m (λ j a b. kind-small v j (omega arith))
+  small-kinds = all-upTo (λ b. b .kind ≤ 3) (walkBond bonds) 0 m (λ j a b. kind-small v j (omega arith))
 
   pub distinct : Distinct (bondList bonds m)
   unfolding sameEnds
-  distinct a c = count-once (ends a c) (bondAt bonds) 0 m (λ i j g l p q.
+  distinct a c = count-once (ends a c) (walkBond bonds) 0 m (λ i j g l p q.
       (let e1 : end1 bonds j ≡ end1 bonds i = eqb-true (end1 bonds j) a (and-left (eqb (end1 bonds j) a) (eqb (end2 bonds j) c) q) ∙ sym (eqb-true (end1 bonds i) a (and-left (eqb (end1 bonds i) a) (eqb (end2 bonds i) c) p)) in
       let e2 : end2 bonds j ≡ end2 bonds i = eqb-true (end2 bonds j) c (and-right (eqb (end1 bonds j) a) (eqb (end2 bonds j) c) q) ∙ sym (eqb-true (end2 bonds i) c (and-right (eqb (end1 bonds i) a) (eqb (end2 bonds i) c) p)) in
       let f : sameEnds bonds j i ≡ false = apart-at v j i (omega arith) g in
@@ -82,17 +82,17 @@ module _ {atoms bonds : List ℤ} {n m : ℕ} (v : Valid atoms bonds n m) where
       (let z : _≡_ {A = ℕ} 0 1 = cc in omega arith)))
 
   pub many : length (bondList bonds m) ≡ m
-  many = length-upTo (bondAt bonds) 0 m
+  many = length-upTo (walkBond bonds) 0 m
 
 -- ---- the list that a table of bonds holds
 pub listed : (q : ℕ) (t : List ℤ) (bs : List Bond) → BondTable q t bs → bondList t (length bs) ≡ bs
 unfolding number
-listed q t bs h = upTo-list nobond (bondAt t) bs at-place
+listed q t bs h = upTo-list nobond (walkBond t) bs at-place
   where
-    at-place : (i : ℕ) → i < length bs → bondAt t i ≡ getD bs i nobond
+    at-place : (i : ℕ) → i < length bs → walkBond t i ≡ getD bs i nobond
     at-place i g = cells-same (h .cells i FIRST g (omega arith)) (h .cells i SECOND g (omega arith)) (h .cells i KIND g (omega arith))
       where
-        cells-same : bondCell t i FIRST ≡ pos (getD bs i nobond .lo) → bondCell t i SECOND ≡ pos (getD bs i nobond .hi) → bondCell t i KIND ≡ pos (getD bs i nobond .kind) → bondAt t i ≡ getD bs i nobond
+        cells-same : bondCell t i FIRST ≡ pos (getD bs i nobond .lo) → bondCell t i SECOND ≡ pos (getD bs i nobond .hi) → bondCell t i KIND ≡ pos (getD bs i nobond .kind) → walkBond t i ≡ getD bs i nobond
         cells-same a b c = λ j. record { lo = named a j; hi = named b j; kind = named c j }
           where
             named : {z : ℤ} {k : ℕ} → z ≡ pos k → number z ≡ k

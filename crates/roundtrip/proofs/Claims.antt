@@ -16,9 +16,9 @@ use Rattle.valence.specs.Valence.{delocalized}
 use Rattle.table.specs.Cells.{atomCell, selected}
 use Rattle.table.specs.Valid.{valid, Valid, enough}
 use Rattle.table.proofs.Valid.{facts, facts-back, enough-facts}
-use Rattle.reading_state.specs.Limits.{maxText}
-use Rattle.reading.specs.Read.{Told, refused, placed, readOf}
-use Rattle.writing_walk.specs.Token.{Bond, joined}
+use Rattle.ids.specs.Limits.{maxText}
+use Rattle.reading.specs.Read.{ReadResult, refused, placed, readOf}
+use Rattle.writing_walk.specs.Token.{Bond, bondBetween}
 use Rattle.writing_walk.specs.Emit.{pre}
 use Rattle.writing_walk.specs.Walk.{forestOf, place, renumber, renumbered}
 use Rattle.writing_walk.proofs.Count.{none, more}
@@ -36,25 +36,25 @@ use Rattle.roundtrip.proofs.Rewritten.{valid-again, few-again, shallow-
 
 -- ---- what writing answers
 -- what is not refused is written
-pub writes : {atoms bonds : List ℤ} {n m : ℕ} → Writable atoms bonds n m → (out ren : List ℕ) → lent atoms bonds out ren ≡ true → writeOf atoms bonds n m out ren ≡ write.accepted (textOf atoms bonds n m) (renumbering bonds n m) out ren
+pub writes : {atoms bonds : List ℤ} {n m : ℕ} → Writable atoms bonds n m → (out ren : List ℕ) → lent atoms bonds out ren ≡ true → writeOf atoms bonds n m out ren ≡ write.writeAccepted (textOf atoms bonds n m) (renumbering bonds n m) out ren
 unfolding writeOf writeValid
 writes w out ren l = rw (l, w .tables, w .bridges, w .branches, w .bytes)
 
 -- 14, 15, 16: what else valid tables get, and exactly when
 module _ (atoms bonds : List ℤ) (n m : ℕ) (out ren : List ℕ) (l : lent atoms bonds out ren ≡ true) (t : valid atoms bonds n m ≡ true) where
-  pub says-14 : fewBridges (tokens bonds n m) ≡ false → writeOf atoms bonds n m out ren ≡ write.refused 14 out ren
+  pub says-14 : fewBridges (tokens bonds n m) ≡ false → writeOf atoms bonds n m out ren ≡ write.writeRefused 14 out ren
   unfolding writeOf writeValid
   says-14 h = rw (l, t, h)
 
-  pub says-15 : fewBridges (tokens bonds n m) ≡ true → shallow (tokens bonds n m) ≡ false → writeOf atoms bonds n m out ren ≡ write.refused 15 out ren
+  pub says-15 : fewBridges (tokens bonds n m) ≡ true → shallow (tokens bonds n m) ≡ false → writeOf atoms bonds n m out ren ≡ write.writeRefused 15 out ren
   unfolding writeOf writeValid
   says-15 h k = rw (l, t, h, k)
 
-  pub says-16 : fewBridges (tokens bonds n m) ≡ true → shallow (tokens bonds n m) ≡ true → leb (length (textOf atoms bonds n m)) maxText ≡ false → writeOf atoms bonds n m out ren ≡ write.refused 16 out ren
+  pub says-16 : fewBridges (tokens bonds n m) ≡ true → shallow (tokens bonds n m) ≡ true → leb (length (textOf atoms bonds n m)) maxText ≡ false → writeOf atoms bonds n m out ren ≡ write.writeRefused 16 out ren
   unfolding writeOf writeValid
   says-16 h k j = rw (l, t, h, k, j)
 
-all-pass : (t : write.Told) (out ren : List ℕ) (l a b c d : Bool) → pick l (pick a (pick b (pick c (pick d t (write.refused 16 out ren)) (write.refused 15 out ren)) (write.refused 14 out ren)) (write.refused 13 out ren)) (write.short out ren) .code ≡ 0
+all-pass : (t : write.WriteResult) (out ren : List ℕ) (l a b c d : Bool) → pick l (pick a (pick b (pick c (pick d t (write.writeRefused 16 out ren)) (write.writeRefused 15 out ren)) (write.writeRefused 14 out ren)) (write.writeRefused 13 out ren)) (write.writeShort out ren) .code ≡ 0
     → (l ≡ true) × ((a ≡ true) × ((b ≡ true) × ((c ≡ true) × (d ≡ true))))
 all-pass t out ren true true true true true h = (refl, (refl, (refl, (refl, refl))))
 all-pass t out ren true true true true false h = absurd (omega arith)
@@ -67,19 +67,19 @@ all-pass t out ren false a b c d h = absurd (omega arith)
 pub written : (atoms bonds : List ℤ) (n m : ℕ) (out ren : List ℕ) → writeOf atoms bonds n m out ren .code ≡ 0 → Writable atoms bonds n m × (lent atoms bonds out ren ≡ true)
 unfolding writeOf writeValid
 written atoms bonds n m out ren h =
-    let r = all-pass (write.accepted (textOf atoms bonds n m) (renumbering bonds n m) out ren) out ren (lent atoms bonds out ren) (valid atoms bonds n m) (fewBridges (tokens bonds n m)) (shallow (tokens bonds n m)) (leb (length (textOf atoms bonds n m)) maxText) h in
+    let r = all-pass (write.writeAccepted (textOf atoms bonds n m) (renumbering bonds n m) out ren) out ren (lent atoms bonds out ren) (valid atoms bonds n m) (fewBridges (tokens bonds n m)) (shallow (tokens bonds n m)) (leb (length (textOf atoms bonds n m)) maxText) h in
     (record { tables = r .1 .0; bridges = r .1 .1 .0; branches = r .1 .1 .1 .0; bytes = r .1 .1 .1 .1 }, r .0)
 
 -- the text stands at the front of the output, and the renumbering at the front of the numbers
 module _ {atoms bonds : List ℤ} {n m : ℕ} (w : Writable atoms bonds n m) (out ren : List ℕ) (l : lent atoms bonds out ren ≡ true) where
   written-output : take (writeOf atoms bonds n m out ren .size) (writeOf atoms bonds n m out ren .output) ≡ textOf atoms bonds n m
   written-output =
-      ap (λ (t : write.Told). take (t .size) (t .output)) (writes w out ren l) ∙ take-append-seam (textOf atoms bonds n m) (replicate (length out - length (textOf atoms bonds n m)) 0)
+      ap (λ (t : write.WriteResult). take (t .size) (t .output)) (writes w out ren l) ∙ take-append-seam (textOf atoms bonds n m) (replicate (length out - length (textOf atoms bonds n m)) 0)
 
   written-numbers : take n (writeOf atoms bonds n m out ren .numbers) ≡ renumbering bonds n m
   unfolding renumbering
   written-numbers =
-      ap (λ (t : write.Told). take n (t .numbers)) (writes w out ren l)
+      ap (λ (t : write.WriteResult). take n (t .numbers)) (writes w out ren l)
       ∙ take-at (renumbering bonds n m) (replicate (length ren - length (renumbering bonds n m)) 0) n (length-upTo (place (pre (forestOf n (bondList bonds m)))) 0 n)
 
 -- ---- the renumbering
@@ -107,7 +107,7 @@ renamed-list bonds n m [] none = refl
 renamed-list bonds n m (b ∷ bs) (more h a) =
     let e : place (pre (forestOf n (bondList bonds m))) (b .lo) ≡ numbered (renumbering bonds n m) (b .lo) = sym (number-place bonds n m (b .lo) (omega arith)) in
     let f : place (pre (forestOf n (bondList bonds m))) (b .hi) ≡ numbered (renumbering bonds n m) (b .hi) = sym (number-place bonds n m (b .hi) (h .1)) in
-    λ i. joined (e i) (f i) (b .kind) ∷ renamed-list bonds n m bs a i
+    λ i. bondBetween (e i) (f i) (b .kind) ∷ renamed-list bonds n m bs a i
 
 same-of : (atoms bonds : List ℤ) (n m : ℕ) (T U : List ℤ) (p q : ℕ) → Valid atoms bonds n m → Molecule atoms bonds n m T U p q → Same atoms bonds n m T U
 unfolding renumbered
@@ -153,7 +153,7 @@ module _ (atoms bonds : List ℤ) (n m : ℕ) (w : Writable atoms bonds n m) (A 
         atoms-long = M .atoms-long;
         bonds-long = M .bonds-long;
         still-valid = facts-back (valid-again atoms bonds n m v M);
-        again = λ out ren l. writes (again M) out ren l ∙ (λ i. write.accepted (text-again atoms bonds n m v M i) (identity-again atoms bonds n m v M i) out ren);
+        again = λ out ren l. writes (again M) out ren l ∙ (λ i. write.writeAccepted (text-again atoms bonds n m v M i) (identity-again atoms bonds n m v M i) out ren);
       }
 
   -- DEMAND 2: the text of one that has none is refused as 11

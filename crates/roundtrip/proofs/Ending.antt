@@ -14,19 +14,19 @@ use Rattle.valence.specs.Valence.{implied}
 use Rattle.table_graph.specs.Graph.{bondSum}
 use Rattle.table.specs.Limits.{atomCells, ELEMENT, SELECTED, HYDROGENS}
 use Rattle.table.specs.Cells.{atomPlace, atomCell, element, selected}
-use Rattle.reading_state.specs.Limits.{maxText, bridges}
+use Rattle.ids.specs.Limits.{maxText, bridges}
 use Rattle.reading.specs.Read.{hydrogenate, hydrogenated, earlier, leftmost}
-use Rattle.writing_walk.specs.Token.{Hook, vacant, at, hookAt, shut}
+use Rattle.writing_walk.specs.Reading.{Closure, vacant, at, closureAt, shut}
 use Rattle.roundtrip.proofs.Held.{openerOf, Bridging}
 
 -- ---- bridges
-shut-at : (hs : List Hook) (r : ℕ) → shut hs ≡ true → hookAt hs r ≡ vacant
+shut-at : (hs : List Closure) (r : ℕ) → shut hs ≡ true → closureAt hs r ≡ vacant
 shut-at [] r h = refl
 shut-at (vacant ∷ hs) zero h = refl
 shut-at (vacant ∷ hs) (suc r) h = shut-at hs r h
 shut-at (at u j ∷ hs) r h = absurd (let z : _≡_ {A = ℕ} 0 1 = cc in omega arith)
 
-pub none-left : (opener symbol offset : List ℕ) (hs : List Hook) → Bridging opener symbol hs → shut hs ≡ true → leftmost opener offset ≡ maxText
+pub none-left : (opener symbol offset : List ℕ) (hs : List Closure) → Bridging opener symbol hs → shut hs ≡ true → leftmost opener offset ≡ maxText
 unfolding leftmost run
 none-left opener symbol offset hs b h = go 0 bridges maxText (omega arith)
   where

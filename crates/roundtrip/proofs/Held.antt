@@ -14,35 +14,36 @@ use Rattle.table.specs.declared.Bond as table
 use Rattle.table.specs.Limits.{maxAtoms, maxBonds, atomCells, bondCells}
 use Rattle.table.specs.Cells.{atomPlace, bondPlace, atomCell, bondCell}
 use Rattle.table.specs.Rows.{withAtom, withBond}
-use Rattle.reading_state.specs.Limits.{maxDepth, bridges}
-use Rattle.reading.specs.Memory.{bondRow}
-use Rattle.writing_walk.specs.Token.{Bond, bond, Hook, vacant, at, hookAt, hang}
+use Rattle.ids.specs.Limits.{maxDepth, bridges}
+use Rattle.reading.specs.Memory.{newBond}
+use Rattle.writing_walk.specs.Token.{Bond, bond}
+use Rattle.writing_walk.specs.Reading.{Closure, vacant, at, closureAt, setClosure}
 use Rattle.writing_walk.proofs.Count.{All, none, more, all-append}
 use Rattle.roundtrip.proofs.Cells.{sets-before, sets-after, sets-in, atomCellsOf, bondCellsOf, with-atom, with-bond}
 
 -- ---- bridges: a place r of the walk is the number r + 1
-abbrev pub openerOf : Hook → ℕ
+abbrev pub openerOf : Closure → ℕ
 openerOf vacant = 0
 openerOf (at u j) = u + 1
 
-abbrev pub symbolOf : Hook → ℕ
+abbrev pub symbolOf : Closure → ℕ
 symbolOf vacant = 0
 symbolOf (at u j) = j
 
-pub record Bridging (opener symbol : List ℕ) (hs : List Hook) : Type 0 where
-  pub openers : (r : ℕ) → suc r < bridges → getD opener (suc r) 0 ≡ openerOf (hookAt hs r)
-  pub symbols : (r : ℕ) → suc r < bridges → getD symbol (suc r) 0 ≡ symbolOf (hookAt hs r)
+pub record Bridging (opener symbol : List ℕ) (hs : List Closure) : Type 0 where
+  pub openers : (r : ℕ) → suc r < bridges → getD opener (suc r) 0 ≡ openerOf (closureAt hs r)
+  pub symbols : (r : ℕ) → suc r < bridges → getD symbol (suc r) 0 ≡ symbolOf (closureAt hs r)
   pub unused : getD opener 0 0 ≡ 0
   pub opener-length : length opener ≡ bridges
   pub symbol-length : length symbol ≡ bridges
 
-hook-same : (hs : List Hook) (r : ℕ) (x : Hook) → hookAt (hang hs r x) r ≡ x
+hook-same : (hs : List Closure) (r : ℕ) (x : Closure) → closureAt (setClosure hs r x) r ≡ x
 hook-same [] zero x = refl
 hook-same [] (suc r) x = hook-same [] r x
 hook-same (y ∷ hs) zero x = refl
 hook-same (y ∷ hs) (suc r) x = hook-same hs r x
 
-hook-other : (hs : List Hook) (r q : ℕ) (x : Hook) → (q ≡ r → ⊥) → hookAt (hang hs r x) q ≡ hookAt hs q
+hook-other : (hs : List Closure) (r q : ℕ) (x : Closure) → (q ≡ r → ⊥) → closureAt (setClosure hs r x) q ≡ closureAt hs q
 hook-other [] zero zero x h = absurd (h refl)
 hook-other [] zero (suc q) x h = refl
 hook-other [] (suc r) zero x h = refl
@@ -52,18 +53,18 @@ hook-other (y ∷ hs) zero (suc q) x h = refl
 hook-other (y ∷ hs) (suc r) zero x h = refl
 hook-other (y ∷ hs) (suc r) (suc q) x h = hook-other hs r q x (λ e. h (ap suc e))
 
-set-at : (f : Hook → ℕ) (l : List ℕ) (hs : List Hook) (r : ℕ) (x : Hook) → suc r < bridges → length l ≡ bridges → ((q : ℕ) → suc q < bridges → getD l (suc q) 0 ≡ f (hookAt hs q)) → (q : ℕ) → suc q < bridges → getD (set l (suc r) (f x)) (suc q) 0 ≡ f (hookAt (hang hs r x) q)
+set-at : (f : Closure → ℕ) (l : List ℕ) (hs : List Closure) (r : ℕ) (x : Closure) → suc r < bridges → length l ≡ bridges → ((q : ℕ) → suc q < bridges → getD l (suc q) 0 ≡ f (closureAt hs q)) → (q : ℕ) → suc q < bridges → getD (set l (suc r) (f x)) (suc q) 0 ≡ f (closureAt (setClosure hs r x) q)
 set-at f l hs r x h e k q g = go (eqb q r) refl
   where
-    go : (y : Bool) → eqb q r ≡ y → getD (set l (suc r) (f x)) (suc q) 0 ≡ f (hookAt (hang hs r x) q)
+    go : (y : Bool) → eqb q r ≡ y → getD (set l (suc r) (f x)) (suc q) 0 ≡ f (closureAt (setClosure hs r x) q)
     go true y =
-        subst (λ (i : ℕ). getD (set l (suc r) (f x)) (suc i) 0 ≡ f (hookAt (hang hs r x) i)) (sym (eqb-true q r y))
+        subst (λ (i : ℕ). getD (set l (suc r) (f x)) (suc i) 0 ≡ f (closureAt (setClosure hs r x) i)) (sym (eqb-true q r y))
         (getD-set-same l (suc r) (f x) 0 (omega arith) ∙ ap f (sym (hook-same hs r x)))
     go false y =
         let z = eqb-false q r y in
         getD-set-other l (suc r) (suc q) (f x) 0 (λ p. z (omega arith)) ∙ k q g ∙ ap f (sym (hook-other hs r q x z))
 
-pub bridging-set : (opener symbol : List ℕ) (hs : List Hook) (r : ℕ) (x : Hook) → suc r < bridges → Bridging opener symbol hs → Bridging (set opener (suc r) (openerOf x)) (set symbol (suc r) (symbolOf x)) (hang hs r x)
+pub bridging-set : (opener symbol : List ℕ) (hs : List Closure) (r : ℕ) (x : Closure) → suc r < bridges → Bridging opener symbol hs → Bridging (set opener (suc r) (openerOf x)) (set symbol (suc r) (symbolOf x)) (setClosure hs r x)
 bridging-set opener symbol hs r x h b = record {
   openers = set-at openerOf opener hs r x h (b .opener-length) (b .openers);
   symbols = set-at symbolOf symbol hs r x h (b .symbol-length) (b .symbols);
@@ -141,7 +142,7 @@ abbrev pub nobond : Bond
 nobond = bond 0 0 0
 
 abbrev pub rowOfBond : Bond → table.Bond
-rowOfBond b = bondRow (b .lo) (b .hi) (b .kind)
+rowOfBond b = newBond (b .lo) (b .hi) (b .kind)
 
 pub record BondTable (q : ℕ) (t : List ℤ) (bs : List Bond) : Type 0 where
   pub ordered : All (λ b. b .lo < b .hi) bs

@@ -16,7 +16,7 @@ use Rattle.reading_grammar.proofs.Ends as bytes
 use Rattle.reading_grammar.specs.declared.Last.{Last}
 use Rattle.reading_grammar.specs.declared.Last.the-variants.{Plain as plain, AfterC as afterC, AfterB as afterB}
 use Rattle.reading_grammar.specs.declared.Mode.{Mode}
-use Rattle.reading_grammar.specs.declared.Mode.the-variants.{Seq as seq, Bond as bond, Dot as dot, Inside as inside, LetterA as letterA, LetterT as letterT}
+use Rattle.reading_grammar.specs.declared.Mode.the-variants.{Seq as seq, Bond as bond, AtomNext as atomNext, Inside as inside, LetterA as letterA, LetterT as letterT}
 use Rattle.reading_grammar.specs.declared.Out.{Out}
 use Rattle.reading_grammar.specs.declared.Out.the-variants.{Stop as stop, To as to}
 use Rattle.reading_grammar.specs.declared.State.{State}
@@ -65,7 +65,7 @@ pub begins-bond : (d : ℕ) → Begins (at bond d) d
 unfolding step next act modeAct
 begins-bond d = record { goes = λ b. (_, refl); does = λ b i μ h. or-atom (letterOf b) _ _ h }
 
-pub begins-dot : (d : ℕ) → Begins (at dot d) d
+pub begins-dot : (d : ℕ) → Begins (at atomNext d) d
 unfolding step next act modeAct
 begins-dot d = record { goes = λ b. (_, refl); does = λ b i μ h. refl }
 

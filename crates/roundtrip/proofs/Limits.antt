@@ -12,11 +12,11 @@ use Rattle.loops.proofs.Loops.{and-left, and-right}
 use Rattle.table.specs.Limits.{maxAtoms, maxBonds}
 use Rattle.table.specs.Valid.{valid}
 use Rattle.table.proofs.Valid.{facts}
-use Rattle.reading_state.specs.Limits.{maxDepth, bridges}
+use Rattle.ids.specs.Limits.{maxDepth, bridges}
 use Rattle.writing_walk.specs.Token.{Tok, apart, along, ring, branch, back}
 use Rattle.writing_walk.specs.Emit.{size}
 use Rattle.writing_walk.specs.Walk.{forestOf, relabel, unused}
-use Rattle.writing_walk.specs.Check.{nests}
+use Rattle.writing_walk.specs.Depth.{nests}
 use Rattle.writing_walk.proofs.Count.{All, none, more, all-map, nobody}
 use Rattle.writing_walk.proofs.Walk.{Inside}
 use Rattle.writing_walk.proofs.Trip.{size-length, size-relabel, renumbering, inside-unused}
@@ -114,24 +114,24 @@ NoDeeper ts d = (a b : List Tok) → ts ≡ a ++ (branch ∷ b) → depthAfter a
 tail-same : (t u : Tok) (ts us : List Tok) → t ∷ ts ≡ u ∷ us → ts ≡ us
 tail-same t u ts us e = cc
 
-nests-deep : (ts : List Tok) (d : ℕ) → nests maxAtoms maxBonds maxDepth ts d ≡ true → NoDeeper ts d
+nests-deep : (ts : List Tok) (d : ℕ) → nests maxDepth ts d ≡ true → NoDeeper ts d
 nests-deep [] d h [] b e = absurd (let z : _≡_ {A = ℕ} 0 1 = cc in omega arith)
 nests-deep [] d h (t ∷ a) b e = absurd (let z : _≡_ {A = ℕ} 0 1 = cc in omega arith)
 nests-deep (apart w ∷ ts) d h [] b e = absurd (let z : _≡_ {A = ℕ} 0 1 = cc in omega arith)
 nests-deep (along k w ∷ ts) d h [] b e = absurd (let z : _≡_ {A = ℕ} 0 1 = cc in omega arith)
 nests-deep (ring k r ∷ ts) d h [] b e = absurd (let z : _≡_ {A = ℕ} 0 1 = cc in omega arith)
 nests-deep (back ∷ ts) d h [] b e = absurd (let z : _≡_ {A = ℕ} 0 1 = cc in omega arith)
-nests-deep (branch ∷ ts) d h [] b e = ltb-true d maxDepth (and-left (ltb d maxDepth) (nests maxAtoms maxBonds maxDepth ts (suc d)) h)
+nests-deep (branch ∷ ts) d h [] b e = ltb-true d maxDepth (and-left (ltb d maxDepth) (nests maxDepth ts (suc d)) h)
 nests-deep (apart w ∷ ts) d h (t ∷ a) b e = subst (λ (t : Tok). depthAfter (t ∷ a) d < maxDepth) (let q : apart w ≡ t = cc in q) (nests-deep ts d h a b (tail-same (apart w) t ts (a ++ (branch ∷ b)) e))
 nests-deep (along k w ∷ ts) d h (t ∷ a) b e = subst (λ (t : Tok). depthAfter (t ∷ a) d < maxDepth) (let q : along k w ≡ t = cc in q) (nests-deep ts d h a b (tail-same (along k w) t ts (a ++ (branch ∷ b)) e))
 nests-deep (ring k r ∷ ts) d h (t ∷ a) b e = subst (λ (t : Tok). depthAfter (t ∷ a) d < maxDepth) (let q : ring k r ≡ t = cc in q) (nests-deep ts d h a b (tail-same (ring k r) t ts (a ++ (branch ∷ b)) e))
-nests-deep (branch ∷ ts) d h (t ∷ a) b e = subst (λ (t : Tok). depthAfter (t ∷ a) d < maxDepth) (let q : branch ≡ t = cc in q) (nests-deep ts (suc d) (and-right (ltb d maxDepth) (nests maxAtoms maxBonds maxDepth ts (suc d)) h) a b (tail-same branch t ts (a ++ (branch ∷ b)) e))
+nests-deep (branch ∷ ts) d h (t ∷ a) b e = subst (λ (t : Tok). depthAfter (t ∷ a) d < maxDepth) (let q : branch ≡ t = cc in q) (nests-deep ts (suc d) (and-right (ltb d maxDepth) (nests maxDepth ts (suc d)) h) a b (tail-same branch t ts (a ++ (branch ∷ b)) e))
 nests-deep (back ∷ ts) zero h (t ∷ a) b e = subst (λ (t : Tok). depthAfter (t ∷ a) 0 < maxDepth) (let q : back ≡ t = cc in q) (nests-deep ts 0 h a b (tail-same back t ts (a ++ (branch ∷ b)) e))
 nests-deep (back ∷ ts) (suc d) h (t ∷ a) b e =
     let s : suc d - 1 ≡ d = omega arith in
     subst (λ (t : Tok). depthAfter (t ∷ a) (suc d) < maxDepth) (let q : back ≡ t = cc in q) (rw s (nests-deep ts d h a b (tail-same back t ts (a ++ (branch ∷ b)) e)))
 
-deep-nests : (ts : List Tok) (d : ℕ) → NoDeeper ts d → nests maxAtoms maxBonds maxDepth ts d ≡ true
+deep-nests : (ts : List Tok) (d : ℕ) → NoDeeper ts d → nests maxDepth ts d ≡ true
 deep-nests [] d g = refl
 deep-nests (apart w ∷ ts) d g = deep-nests ts d (λ a b e. g (apart w ∷ a) b (ap (λ (l : List Tok). apart w ∷ l) e))
 deep-nests (along k w ∷ ts) d g = deep-nests ts d (λ a b e. g (along k w ∷ a) b (ap (λ (l : List Tok). along k w ∷ l) e))
@@ -157,14 +157,14 @@ pub record Deep (ts : List Tok) (d : ℕ) : Type 0 where
 later : (t : Tok) {ts : List Tok} {d e : ℕ} → ((a : List Tok) → depthAfter (t ∷ a) d ≡ depthAfter a e) → Deep ts e → Deep (t ∷ ts) d
 later t h g = record { before = t ∷ g .before; after = g .after; cut = ap (λ (l : List Tok). t ∷ l) (g .cut); deep = let q = h (g .before) in let k = g .deep in omega arith }
 
-deep-at : (ts : List Tok) (d : ℕ) → nests maxAtoms maxBonds maxDepth ts d ≡ false → Deep ts d
+deep-at : (ts : List Tok) (d : ℕ) → nests maxDepth ts d ≡ false → Deep ts d
 deep-at [] d h = absurd (let z : _≡_ {A = ℕ} 0 1 = cc in omega arith)
 deep-at (apart w ∷ ts) d h = later (apart w) (λ a. refl) (deep-at ts d h)
 deep-at (along k w ∷ ts) d h = later (along k w) (λ a. refl) (deep-at ts d h)
 deep-at (ring k r ∷ ts) d h = later (ring k r) (λ a. refl) (deep-at ts d h)
 deep-at (branch ∷ ts) d h = go (ltb d maxDepth) refl h (deep-at ts (suc d))
   where
-    go : (x : Bool) → ltb d maxDepth ≡ x → (x && nests maxAtoms maxBonds maxDepth ts (suc d)) ≡ false → (nests maxAtoms maxBonds maxDepth ts (suc d) ≡ false → Deep ts (suc d)) → Deep (branch ∷ ts) d
+    go : (x : Bool) → ltb d maxDepth ≡ x → (x && nests maxDepth ts (suc d)) ≡ false → (nests maxDepth ts (suc d) ≡ false → Deep ts (suc d)) → Deep (branch ∷ ts) d
     go true e h f = later branch (λ a. refl) (f h)
     go false e h f = record { before = []; after = ts; cut = refl; deep = ltb-false d maxDepth e }
 deep-at (back ∷ ts) zero h = later back (λ a. refl) (deep-at ts 0 h)

@@ -14,11 +14,12 @@ use Rattle.table.specs.Cells.{number, inRange, atomCell, end1, end2}
 use Rattle.table.specs.Valid.{selectable, selectedOk, sameEnds, fresh, atomOk, bondOk, Valid}
 use Rattle.table.specs.Valid as spec
 use Rattle.table.proofs.Valid.{range-of, bond-fine-back}
-use Rattle.reading_state.specs.Limits.{maxDepth}
+use Rattle.ids.specs.Limits.{maxDepth}
 use Rattle.writing_walk.specs.Token.{Bond, Tok, apart, along, ring, branch, back}
 use Rattle.writing_walk.specs.Emit.{pre}
 use Rattle.writing_walk.specs.Walk.{forestOf, renumber, renumbered}
-use Rattle.writing_walk.specs.Check.{ends, nests}
+use Rattle.writing_walk.specs.Check.{ends}
+use Rattle.writing_walk.specs.Depth.{nests}
 use Rattle.writing_walk.proofs.Count.{bit, count, all-at}
 use Rattle.writing_walk.proofs.Trip.{completed, round-trip}
 use Rattle.writing_walk.proofs.Twice.{Distinct, completed-inside, distinct-map}
@@ -63,14 +64,14 @@ few-map g (ring k r ∷ ts) = rw (few-map g ts)
 few-map g (branch ∷ ts) = few-map g ts
 few-map g (back ∷ ts) = few-map g ts
 
-nests-map : (am bm dm : ℕ) (g : ℕ → ℕ) (ts : List Tok) (d : ℕ) → nests am bm dm (map (onTok g) ts) d ≡ nests am bm dm ts d
-nests-map am bm dm g [] d = refl
-nests-map am bm dm g (apart w ∷ ts) d = nests-map am bm dm g ts d
-nests-map am bm dm g (along k w ∷ ts) d = nests-map am bm dm g ts d
-nests-map am bm dm g (ring k r ∷ ts) d = nests-map am bm dm g ts d
-nests-map am bm dm g (branch ∷ ts) d = ap (λ (x : Bool). ltb d dm && x) (nests-map am bm dm g ts (suc d))
-nests-map am bm dm g (back ∷ ts) zero = nests-map am bm dm g ts zero
-nests-map am bm dm g (back ∷ ts) (suc d) = nests-map am bm dm g ts d
+nests-map : (dm : ℕ) (g : ℕ → ℕ) (ts : List Tok) (d : ℕ) → nests dm (map (onTok g) ts) d ≡ nests dm ts d
+nests-map dm g [] d = refl
+nests-map dm g (apart w ∷ ts) d = nests-map dm g ts d
+nests-map dm g (along k w ∷ ts) d = nests-map dm g ts d
+nests-map dm g (ring k r ∷ ts) d = nests-map dm g ts d
+nests-map dm g (branch ∷ ts) d = ap (λ (x : Bool). ltb d dm && x) (nests-map dm g ts (suc d))
+nests-map dm g (back ∷ ts) zero = nests-map dm g ts zero
+nests-map dm g (back ∷ ts) (suc d) = nests-map dm g ts d
 
 module _ (atoms bonds : List ℤ) (n m : ℕ) (v : Valid atoms bonds n m) {T U : List ℤ} {p q : ℕ} (M : Molecule atoms bonds n m T U p q) where
   abbrev pre-order : List ℕ
@@ -157,4 +158,4 @@ module _ (atoms bonds : List ℤ) (n m : ℕ) (v : Valid atoms bonds n m) {T U :
   few-again = sym (few-map (walkAtom atoms bonds n m v M) (tokens U n m)) ∙ ap fewBridges (tokens-again atoms bonds n m v M)
 
   pub shallow-again : shallow (tokens U n m) ≡ shallow (tokens bonds n m)
-  shallow-again = sym (nests-map maxAtoms maxBonds maxDepth (walkAtom atoms bonds n m v M) (tokens U n m) 0) ∙ ap shallow (tokens-again atoms bonds n m v M)
+  shallow-again = sym (nests-map maxDepth (walkAtom atoms bonds n m v M) (tokens U n m) 0) ∙ ap shallow (tokens-again atoms bonds n m v M)

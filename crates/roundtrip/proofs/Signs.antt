@@ -15,7 +15,7 @@ use Rattle.reading_grammar.proofs.Ends as over
 use Rattle.reading_grammar.specs.declared.Last.{Last}
 use Rattle.reading_grammar.specs.declared.Last.the-variants.{Plain as plain}
 use Rattle.reading_grammar.specs.declared.Mode.{Mode}
-use Rattle.reading_grammar.specs.declared.Mode.the-variants.{Seq as seq, Bond as bond, Dot as dot, Inside as inside, Percent as percent, Percent1 as percent1}
+use Rattle.reading_grammar.specs.declared.Mode.the-variants.{Seq as seq, Bond as bond, AtomNext as atomNext, Inside as inside, Percent as percent, Percent1 as percent1}
 use Rattle.reading_grammar.specs.declared.Out.{Out}
 use Rattle.reading_grammar.specs.declared.Out.the-variants.{To as to}
 use Rattle.reading_grammar.specs.declared.State.{State}
@@ -23,11 +23,11 @@ use Rattle.reading_grammar.specs.declared.State.the-variants.{At as at}
 use Rattle.reading_grammar.specs.Machine.{turn, step, next, atomOr, bridgeOr}
 use Rattle.reading_grammar.specs.Fold.{keeps}
 use Rattle.table.specs.declared.Atom.{Atom}
-use Rattle.reading_state.specs.Limits.{bridges}
+use Rattle.ids.specs.Limits.{bridges}
 use Rattle.reading.specs.Memory.{Memory, Pending, nothing, dotted, symbol, symbolKind, kindOf, afterDot, awaiting, counting}
 use Rattle.reading.specs.Bracket.{digit}
 use Rattle.reading.specs.Act.{act, modeAct, bridgeAct}
-use Rattle.writing_walk.specs.Token.{St}
+use Rattle.writing_walk.specs.Reading.{St}
 use Rattle.writing.specs.Spell.{digitByte, decimal, kindBytes, bridgeBytes}
 use Rattle.roundtrip.proofs.Feed.{Takes, stays, joins, byte}
 use Rattle.roundtrip.proofs.Decimal.{digit-of, is-digit, is-nonzero, two}
@@ -47,8 +47,8 @@ pub record Jointed (i : ℕ) (σ : State) (d : ℕ) (μ : Memory) (s : List ℕ)
 
 pub takes-dot : {f : Bool} {d : ℕ} {σ : State} (i : ℕ) (μ : Memory) → Stance f d σ → Jointed i σ d μ (46 ∷ []) dotted
 unfolding step next atomOr bridgeOr among letters nonzero bondSymbols act modeAct letterOf selectedOf
-takes-dot i μ (after {x} {d}) = record { state = at dot d; begins = begins-dot d; takes = byte 46 [] refl refl refl stays }
-takes-dot i μ (fresh {d}) = record { state = at dot d; begins = begins-dot d; takes = byte 46 [] refl refl refl stays }
+takes-dot i μ (after {x} {d}) = record { state = at atomNext d; begins = begins-dot d; takes = byte 46 [] refl refl refl stays }
+takes-dot i μ (fresh {d}) = record { state = at atomNext d; begins = begins-dot d; takes = byte 46 [] refl refl refl stays }
 
 -- the byte of a bond symbol of the kind k
 record Symbol (k : ℕ) : Type 0 where
@@ -56,7 +56,7 @@ record Symbol (k : ℕ) : Type 0 where
   bytes : kindBytes k ≡ sign ∷ []
   after-goes : (x : Last) → next (seq x) sign ≡ to bond
   after-does : (x : Last) (i : ℕ) (μ : Memory) → modeAct (seq x) sign i μ ≡ keeps (awaiting (symbol k) μ)
-  fresh-goes : next inside sign ≡ to dot
+  fresh-goes : next inside sign ≡ to atomNext
   fresh-does : (i : ℕ) (μ : Memory) → modeAct inside sign i μ ≡ keeps (awaiting (symbol k) μ)
 
 symbol-of : (k : ℕ) → 0 < k → k ≤ 3 → Symbol k
@@ -90,7 +90,7 @@ takes-kind i μ (suc k) l e v = go v (symbol-of (suc k) (omega arith) l)
   where
     go : {f : Bool} {d : ℕ} {σ : State} → Stance f d σ → Symbol (suc k) → Jointed i σ d μ (kindBytes (suc k)) (symbol (suc k))
     go (after {x} {d}) y = record { state = at bond d; begins = begins-bond d; takes = rw (y .bytes) (byte (y .sign) [] (ap (λ (o : Out). turn o d) (y .after-goes x)) refl (y .after-does x i μ) stays) }
-    go (fresh {d}) y = record { state = at dot d; begins = begins-dot d; takes = rw (y .bytes) (byte (y .sign) [] (ap (λ (o : Out). turn o d) (y .fresh-goes)) refl (y .fresh-does i μ) stays) }
+    go (fresh {d}) y = record { state = at atomNext d; begins = begins-dot d; takes = rw (y .bytes) (byte (y .sign) [] (ap (λ (o : Out). turn o d) (y .fresh-goes)) refl (y .fresh-does i μ) stays) }
 
 -- ---- bridges
 -- a mode in which a bridge may begin

@@ -15,19 +15,20 @@ use Rattle.table.specs.Limits.{maxAtoms, maxBonds, atomCells, bondCells, FIRST,
 use Rattle.table.specs.Cells.{number, end1, end2}
 use Rattle.table.specs.Rows.{withAtom}
 use Rattle.reading_state.specs.declared.Fields.{Fields}
-use Rattle.reading_state.specs.Limits.{maxDepth, bridges}
+use Rattle.ids.specs.Limits.{maxDepth, bridges}
 use Rattle.reading_state.specs.State.{opened, closed, bridged, joined}
 use Rattle.reading.specs.Memory.{Memory, nothing, kindOf, between, bonded, begun, described, drafted, moved, awaiting, counting, joins, joinedAlready, closeRefusal}
 use Rattle.reading.specs.Memory as bytes
 use Rattle.reading.specs.Act.{bridgeBond, bridgeAct}
-use Rattle.writing_walk.specs.Token.{Bond, bond, Hook, vacant, at, hookAt, hang, meet, St, st, bridge}
-use Rattle.writing_walk.specs.Token as token
+use Rattle.writing_walk.specs.Token.{Bond, bond, bondBetween}
+use Rattle.writing_walk.specs.Reading.{Closure, vacant, at, closureAt, setClosure, meet, St, st, bridge}
+use Rattle.writing_walk.specs.Reading as token
 use Rattle.writing_walk.specs.Check.{ends, some, clash, refusedBridge}
 use Rattle.writing_walk.proofs.Count.{All, more, all-map, all-at}
 use Rattle.roundtrip.proofs.Held.{openerOf, symbolOf, Bridging, bridging-set, Branching, branching-push, branching-pop, AtomTable, atom-add, nobond, rowOfBond, BondTable, bond-add}
 
 -- row v, flag v: the row and the flag that the bytes of the atom v leave; p and q: the cells of the tables
-pub record Sim (row : ℕ → Atom) (flag : ℕ → ℕ) (p q : ℕ) (xs : List ℕ) (bs : List Bond) (h n : ℕ) (hs : List Hook) (stk : List ℕ) (μ : Memory) : Type 0 where
+pub record Sim (row : ℕ → Atom) (flag : ℕ → ℕ) (p q : ℕ) (xs : List ℕ) (bs : List Bond) (h n : ℕ) (hs : List Closure) (stk : List ℕ) (μ : Memory) : Type 0 where
   pub hub : μ .st .hub .0 ≡ h
   pub atoms : μ .st .atoms ≡ n
   pub bonds : μ .st .bonds ≡ length bs
@@ -69,14 +70,14 @@ meet-same : (j k : ℕ) → bytes.meet j k ≡ meet j k
 meet-same j zero = refl
 meet-same j (suc k) = rw (ne-eqb (suc k) 0 (λ q. omega arith))
 
-between-same : (u h k : ℕ) → between u h k ≡ rowOfBond (token.joined u h k)
+between-same : (u h k : ℕ) → between u h k ≡ rowOfBond (bondBetween u h k)
 between-same u h k = go (ltb u h)
   where
-    go : (x : Bool) → pick x (bytes.bondRow u h k) (bytes.bondRow h u k) ≡ rowOfBond (cond x (bond u h k) (bond h u k))
+    go : (x : Bool) → pick x (bytes.newBond u h k) (bytes.newBond h u k) ≡ rowOfBond (cond x (bond u h k) (bond h u k))
     go true = refl
     go false = refl
 
-joined-ordered : (u h k : ℕ) → eqb u h ≡ false → token.joined u h k .lo < token.joined u h k .hi
+joined-ordered : (u h k : ℕ) → eqb u h ≡ false → bondBetween u h k .lo < bondBetween u h k .hi
 joined-ordered u h k e = go (ltb u h) refl
   where
     go : (x : Bool) → ltb u h ≡ x → cond x (bond u h k) (bond h u k) .lo < cond x (bond u h k) (bond h u k) .hi
@@ -84,7 +85,7 @@ joined-ordered u h k e = go (ltb u h) refl
     go false y = let z = eqb-false u h e in let w = ltb-false u h y in omega arith
 
 -- an ordered bond that is not the ordered pair joins other atoms
-not-joins : (u h : ℕ) (b : Bond) → b .lo < b .hi → ends (token.joined u h 0 .lo) (token.joined u h 0 .hi) b ≡ false → ((eqb (b .lo) u && eqb (b .hi) h) || (eqb (b .lo) h && eqb (b .hi) u)) ≡ false
+not-joins : (u h : ℕ) (b : Bond) → b .lo < b .hi → ends (bondBetween u h 0 .lo) (bondBetween u h 0 .hi) b ≡ false → ((eqb (b .lo) u && eqb (b .hi) h) || (eqb (b .lo) h && eqb (b .hi) u)) ≡ false
 not-joins u h b o = go (ltb u h) refl
   where
     wrong : (v w : ℕ) → w ≤ v → (eqb (b .lo) v && eqb (b .hi) w) ≡ false
@@ -108,7 +109,7 @@ allowed true true c d h = absurd (omega arith)
 allowed false b c d h = absurd (omega arith)
 
 module _ (row : ℕ → Atom) (flag : ℕ → ℕ) (p q : ℕ) (proom : atomCells * maxAtoms ≤ p) (qroom : bondCells * maxBonds ≤ q) where
-  module _ (xs : List ℕ) (bs : List Bond) (h n : ℕ) (hs : List Hook) (stk : List ℕ) (μ : Memory) (s : Sim row flag p q xs bs h n hs stk μ) where
+  module _ (xs : List ℕ) (bs : List Bond) (h n : ℕ) (hs : List Closure) (stk : List ℕ) (μ : Memory) (s : Sim row flag p q xs bs h n hs stk μ) where
     -- a joint or a digit that waits changes nothing of this
     pub sim-await : (k : bytes.Pending) → Sim row flag p q xs bs h n hs stk (awaiting k μ)
     sim-await k = record { hub = s .hub; atoms = s .atoms; bonds = s .bonds; depth = s .depth; below = s .below; hubs = s .hubs; bridging = s .bridging; branching = s .branching; table = s .table; bonding = s .bonding }
@@ -170,7 +171,7 @@ module _ (row : ℕ → Atom) (flag : ℕ → ℕ) (p q : ℕ) (proom : atomCell
       bonding = s .bonding;
     }
 
-  pub sim-back : (xs : List ℕ) (bs : List Bond) (h n : ℕ) (hs : List Hook) (g : ℕ) (stk : List ℕ) (μ : Memory) → Sim row flag p q xs bs h n hs (g ∷ stk) μ → Sim row flag p q xs bs g n hs stk (moved (closed (μ .st)) μ)
+  pub sim-back : (xs : List ℕ) (bs : List Bond) (h n : ℕ) (hs : List Closure) (g : ℕ) (stk : List ℕ) (μ : Memory) → Sim row flag p q xs bs h n hs (g ∷ stk) μ → Sim row flag p q xs bs g n hs stk (moved (closed (μ .st)) μ)
   unfolding closed
   sim-back xs bs h n hs g stk μ s =
       let e : μ .st .depth - 1 ≡ length stk = (let a = s .depth in omega arith) in
@@ -201,7 +202,7 @@ pub record Bridged (row : ℕ → Atom) (flag : ℕ → ℕ) (p q : ℕ) (s : St
   pub holds : Holds row flag p q s memory
 
 module _ (row : ℕ → Atom) (flag : ℕ → ℕ) (p q : ℕ) (proom : atomCells * maxAtoms ≤ p) (qroom : bondCells * maxBonds ≤ q)
-    (xs : List ℕ) (bs : List Bond) (h n : ℕ) (hs : List Hook) (stk : List ℕ) (μ : Memory) (s : Sim row flag p q xs bs h n hs stk μ) (r k : ℕ) (l : suc r < bridges) (c : kindOf (μ .pending) ≡ k) where
+    (xs : List ℕ) (bs : List Bond) (h n : ℕ) (hs : List Closure) (stk : List ℕ) (μ : Memory) (s : Sim row flag p q xs bs h n hs stk μ) (r k : ℕ) (l : suc r < bridges) (c : kindOf (μ .pending) ≡ k) where
   first-end : (i : ℕ) → i < length bs → end1 (μ .bonds) i ≡ getD bs i nobond .lo
   unfolding number
   first-end i g = ap number (s .bonding .cells i FIRST g (omega arith))
@@ -210,17 +211,17 @@ module _ (row : ℕ → Atom) (flag : ℕ → ℕ) (p q : ℕ) (proom : atomCell
   unfolding number
   second-end i g = ap number (s .bonding .cells i SECOND g (omega arith))
 
-  no-join : (u i : ℕ) → i < length bs → some (ends (token.joined u h 0 .lo) (token.joined u h 0 .hi)) bs ≡ false → joins (μ .bonds) u h i ≡ false
+  no-join : (u i : ℕ) → i < length bs → some (ends (bondBetween u h 0 .lo) (bondBetween u h 0 .hi)) bs ≡ false → joins (μ .bonds) u h i ≡ false
   unfolding joins
   no-join u i a g =
       rw (first-end i a, second-end i a)
-      (not-joins u h (getD bs i nobond) (all-at (λ b. b .lo < b .hi) nobond bs i (s .bonding .ordered) a) (some-at (ends (token.joined u h 0 .lo) (token.joined u h 0 .hi)) bs i g a))
+      (not-joins u h (getD bs i nobond) (all-at (λ b. b .lo < b .hi) nobond bs i (s .bonding .ordered) a) (some-at (ends (bondBetween u h 0 .lo) (bondBetween u h 0 .hi)) bs i g a))
 
-  not-already : (u : ℕ) → some (ends (token.joined u h 0 .lo) (token.joined u h 0 .hi)) bs ≡ false → joinedAlready (μ .bonds) (length bs) u h ≡ false
+  not-already : (u : ℕ) → some (ends (bondBetween u h 0 .lo) (bondBetween u h 0 .hi)) bs ≡ false → joinedAlready (μ .bonds) (length bs) u h ≡ false
   unfolding joinedAlready
   not-already u g = ap not (each-all (λ i. not (joins (μ .bonds) u h i)) (length bs) (λ i a. ap not (no-join u i a g)))
 
-  opens : (o : ℕ) → hookAt hs r ≡ vacant → Bridged row flag p q (st xs bs h n (hang hs r (at h k)) stk) r o μ
+  opens : (o : ℕ) → closureAt hs r ≡ vacant → Bridged row flag p q (st xs bs h n (setClosure hs r (at h k)) stk) r o μ
   unfolding bridgeAct joined
   opens o e =
       let f : getD (μ .st .opener) (suc r) 0 ≡ 0 = s .bridging .openers r l ∙ ap openerOf e in
@@ -242,15 +243,15 @@ module _ (row : ℕ → Atom) (flag : ℕ → ℕ) (p q : ℕ) (proom : atomCell
         };
       }
 
-  closes : (o u j : ℕ) → hookAt hs r ≡ at u j → refusedBridge maxAtoms maxBonds maxDepth (at u j) k bs h ≡ 0 → Bridged row flag p q (st xs (bs ++ (token.joined u h (meet j k) ∷ [])) h n (hang hs r vacant) stk) r o μ
+  closes : (o u j : ℕ) → closureAt hs r ≡ at u j → refusedBridge maxAtoms maxBonds maxDepth (at u j) k bs h ≡ 0 → Bridged row flag p q (st xs (bs ++ (bondBetween u h (meet j k) ∷ [])) h n (setClosure hs r vacant) stk) r o μ
   unfolding bridgeAct joined closeRefusal
   closes o u j e z =
-      let w = allowed (ltb (length bs) maxBonds) (eqb u h) (some (ends (token.joined u h 0 .lo) (token.joined u h 0 .hi)) bs) (clash j k) z in
+      let w = allowed (ltb (length bs) maxBonds) (eqb u h) (some (ends (bondBetween u h 0 .lo) (bondBetween u h 0 .hi)) bs) (clash j k) z in
       let m = ltb-true (length bs) maxBonds (w .0) in
       let f : getD (μ .st .opener) (suc r) 0 ≡ u + 1 = s .bridging .openers r l ∙ ap openerOf e in
       let g : getD (μ .st .symbol) (suc r) 0 ≡ j = s .bridging .symbols r l ∙ ap symbolOf e in
       let d : u + 1 - 1 ≡ u = omega arith in
-      let row-is : between (u + 1 - 1) h (bytes.meet j k) ≡ rowOfBond (token.joined u h (meet j k)) = rw (d, meet-same j k) (between-same u h (meet j k)) in
+      let row-is : between (u + 1 - 1) h (bytes.meet j k) ≡ rowOfBond (bondBetween u h (meet j k)) = rw (d, meet-same j k) (between-same u h (meet j k)) in
       record {
         memory = moved (bridged (μ .st) (suc r) 0 0 0 (μ .st .bonds + 1)) (bridgeBond (suc r) μ);
         is = rw (f, g, ne-eqb (u + 1) 0 (λ y. omega arith), d, s .bonds, s .hub, c, lt-leb maxBonds (length bs) m, w .1 .0, not-already u (w .1 .1 .0), clash-same j k (w .1 .1 .1));
@@ -258,20 +259,20 @@ module _ (row : ℕ → Atom) (flag : ℕ → ℕ) (p q : ℕ) (proom : atomCell
         holds = record {
           hub = s .hub;
           atoms = s .atoms;
-          bonds = let a = s .bonds in let b = length-append bs (token.joined u h (meet j k) ∷ []) in omega arith;
+          bonds = let a = s .bonds in let b = length-append bs (bondBetween u h (meet j k) ∷ []) in omega arith;
           depth = s .depth;
           below = s .below;
           hubs = s .hubs;
           bridging = bridging-set (μ .st .opener) (μ .st .symbol) hs r vacant l (s .bridging);
           branching = s .branching;
           table = s .table;
-          bonding = rw (f, g, s .bonds, s .hub, c, row-is) (bond-add q qroom (μ .bonds) bs (token.joined u h (meet j k)) m (joined-ordered u h (meet j k) (w .1 .0)) (s .bonding));
+          bonding = rw (f, g, s .bonds, s .hub, c, row-is) (bond-add q qroom (μ .bonds) bs (bondBetween u h (meet j k)) m (joined-ordered u h (meet j k) (w .1 .0)) (s .bonding));
         };
       }
 
-  pub sim-ring : (o : ℕ) → refusedBridge maxAtoms maxBonds maxDepth (hookAt hs r) k bs h ≡ 0 → Bridged row flag p q (bridge (hookAt hs r) k r xs bs h n hs stk) r o μ
-  sim-ring o = go (hookAt hs r) refl
+  pub sim-ring : (o : ℕ) → refusedBridge maxAtoms maxBonds maxDepth (closureAt hs r) k bs h ≡ 0 → Bridged row flag p q (bridge (closureAt hs r) k r xs bs h n hs stk) r o μ
+  sim-ring o = go (closureAt hs r) refl
     where
-      go : (x : Hook) → hookAt hs r ≡ x → refusedBridge maxAtoms maxBonds maxDepth x k bs h ≡ 0 → Bridged row flag p q (bridge x k r xs bs h n hs stk) r o μ
+      go : (x : Closure) → closureAt hs r ≡ x → refusedBridge maxAtoms maxBonds maxDepth x k bs h ≡ 0 → Bridged row flag p q (bridge x k r xs bs h n hs stk) r o μ
       go vacant e z = opens o e
       go (at u j) e z = closes o u j e z

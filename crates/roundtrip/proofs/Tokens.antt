@@ -19,12 +19,13 @@ use Rattle.reading_grammar.specs.declared.State.the-variants.{At as at}
 use Rattle.reading_grammar.specs.Machine.{step, next, atomOr, bridgeOr}
 use Rattle.table.specs.Limits.{maxAtoms, maxBonds, atomCells, bondCells}
 use Rattle.table.proofs.Valid.{AtomFine}
-use Rattle.reading_state.specs.Limits.{maxDepth, bridges}
+use Rattle.ids.specs.Limits.{maxDepth, bridges}
 use Rattle.reading_state.specs.State.{opened, closed}
 use Rattle.reading.specs.Memory.{Memory, nothing, dotted, kindOf, bonded, begun, moved, awaiting, counting}
 use Rattle.reading.specs.Act.{act, modeAct, branchAct}
-use Rattle.writing_walk.specs.Token.{Bond, Tok, apart, along, ring, branch, back, Hook, hookAt, St, st, bridge}
-use Rattle.writing_walk.specs.Token as token
+use Rattle.writing_walk.specs.Token.{Bond, Tok, apart, along, ring, branch, back}
+use Rattle.writing_walk.specs.Reading.{Closure, closureAt, St, st, bridge}
+use Rattle.writing_walk.specs.Reading as token
 use Rattle.writing_walk.specs.Check.{refusedBridge}
 use Rattle.writing.specs.Spell.{atomBytes, kindBytes, bridgeBytes}
 use Rattle.roundtrip.proofs.Feed.{Takes, stays, joins, byte}
@@ -82,21 +83,21 @@ module _ (atoms bonds : List ℤ) (N m p q : ℕ) (fine-atoms : (v : ℕ) → v 
     pub holds : Is s memory
 
   -- ---- atoms, after a joint
-  room-of : (xs : List ℕ) (bs : List Bond) (h n : ℕ) (hs : List Hook) (stk : List ℕ) (μ : Memory) → Is (st xs bs h n hs stk) μ → n < maxAtoms → (bonded μ && leb maxBonds (μ .st .bonds)) ≡ false → Room μ
+  room-of : (xs : List ℕ) (bs : List Bond) (h n : ℕ) (hs : List Closure) (stk : List ℕ) (μ : Memory) → Is (st xs bs h n hs stk) μ → n < maxAtoms → (bonded μ && leb maxBonds (μ .st .bonds)) ≡ false → Room μ
   room-of xs bs h n hs stk μ s l e =
       let a = s .atoms in
       let t = s .table .long in
       record { atoms = lt-leb maxAtoms (μ .st .atoms) (omega arith); bonds = e; cells = omega arith }
 
-  pub atom-apart : (i : ℕ) (τ : State) (d : ℕ) (xs : List ℕ) (bs : List Bond) (h n : ℕ) (hs : List Hook) (stk : List ℕ) (ν : Memory) (w : ℕ) → w < N → Begins τ d → Is (st xs bs h n hs stk) ν → n < maxAtoms → bonded ν ≡ false
-      → Stepped i τ ν (f w) (token.step (apart w) (st xs bs h n hs stk)) false d
+  pub atom-apart : (i : ℕ) (τ : State) (d : ℕ) (xs : List ℕ) (bs : List Bond) (h n : ℕ) (hs : List Closure) (stk : List ℕ) (ν : Memory) (w : ℕ) → w < N → Begins τ d → Is (st xs bs h n hs stk) ν → n < maxAtoms → bonded ν ≡ false
+      → Stepped i τ ν (f w) (token.stepToken (apart w) (st xs bs h n hs stk)) false d
   unfolding begun
   atom-apart i τ d xs bs h n hs stk ν w g v s l e =
       let a = takes-atom atoms bonds m w (fine-atoms w g) i τ d ν v (room-of xs bs h n hs stk ν s l (rw e)) in
       record { state = at (seq (a .last)) d; memory = _; takes = a .is; stance = after; waits = refl; holds = sim-apart (draftRow atoms bonds m) (outsideFlag atoms bonds m) p q proom qroom xs bs h n hs stk ν s w (a .draft) l e }
 
-  atom-along : (i : ℕ) (τ : State) (d : ℕ) (xs : List ℕ) (bs : List Bond) (h n : ℕ) (hs : List Hook) (stk : List ℕ) (ν : Memory) (k w : ℕ) → w < N → Begins τ d → Is (st xs bs h n hs stk) ν → n < maxAtoms → length bs < maxBonds → 0 < n → bonded ν ≡ true → kindOf (ν .pending) ≡ k
-      → Stepped i τ ν (f w) (token.step (along k w) (st xs bs h n hs stk)) false d
+  atom-along : (i : ℕ) (τ : State) (d : ℕ) (xs : List ℕ) (bs : List Bond) (h n : ℕ) (hs : List Closure) (stk : List ℕ) (ν : Memory) (k w : ℕ) → w < N → Begins τ d → Is (st xs bs h n hs stk) ν → n < maxAtoms → length bs < maxBonds → 0 < n → bonded ν ≡ true → kindOf (ν .pending) ≡ k
+      → Stepped i τ ν (f w) (token.stepToken (along k w) (st xs bs h n hs stk)) false d
   unfolding begun
   atom-along i τ d xs bs h n hs stk ν k w g v s l c z e t =
       let y = s .bonds in
@@ -104,16 +105,16 @@ module _ (atoms bonds : List ℤ) (N m p q : ℕ) (fine-atoms : (v : ℕ) → v 
       record { state = at (seq (a .last)) d; memory = _; takes = a .is; stance = after; waits = refl; holds = sim-along (draftRow atoms bonds m) (outsideFlag atoms bonds m) p q proom qroom xs bs h n hs stk ν s k w (a .draft) l c z e t }
 
   -- ---- the five tokens
-  pub step-apart : (i : ℕ) (σ : State) (μ : Memory) (x : Bool) (d : ℕ) (xs : List ℕ) (bs : List Bond) (h n : ℕ) (hs : List Hook) (stk : List ℕ) (w : ℕ) → w < N → Stance x d σ → Is (st xs bs h n hs stk) μ → n < maxAtoms
-      → Stepped i σ μ (46 ∷ f w) (token.step (apart w) (st xs bs h n hs stk)) false d
+  pub step-apart : (i : ℕ) (σ : State) (μ : Memory) (x : Bool) (d : ℕ) (xs : List ℕ) (bs : List Bond) (h n : ℕ) (hs : List Closure) (stk : List ℕ) (w : ℕ) → w < N → Stance x d σ → Is (st xs bs h n hs stk) μ → n < maxAtoms
+      → Stepped i σ μ (46 ∷ f w) (token.stepToken (apart w) (st xs bs h n hs stk)) false d
   step-apart i σ μ x d xs bs h n hs stk w g v s l =
       let j = takes-dot i μ v in
       let ν = awaiting dotted μ in
       let a = atom-apart (i + 1) (j .state) d xs bs h n hs stk ν w g (j .begins) (sim-await (draftRow atoms bonds m) (outsideFlag atoms bonds m) p q proom qroom xs bs h n hs stk μ s dotted) l (and-false (not (eqb (μ .st .atoms) 0))) in
       record { state = a .state; memory = a .memory; takes = joins (46 ∷ []) (f w) (j .takes) (a .takes); stance = a .stance; waits = a .waits; holds = a .holds }
 
-  pub step-along : (i : ℕ) (σ : State) (μ : Memory) (x : Bool) (d : ℕ) (xs : List ℕ) (bs : List Bond) (h n : ℕ) (hs : List Hook) (stk : List ℕ) (k w : ℕ) → k ≤ 3 → w < N → Stance x d σ → μ .pending ≡ nothing → Is (st xs bs h n hs stk) μ → n < maxAtoms → length bs < maxBonds → 0 < n
-      → Stepped i σ μ (kindBytes k ++ f w) (token.step (along k w) (st xs bs h n hs stk)) false d
+  pub step-along : (i : ℕ) (σ : State) (μ : Memory) (x : Bool) (d : ℕ) (xs : List ℕ) (bs : List Bond) (h n : ℕ) (hs : List Closure) (stk : List ℕ) (k w : ℕ) → k ≤ 3 → w < N → Stance x d σ → μ .pending ≡ nothing → Is (st xs bs h n hs stk) μ → n < maxAtoms → length bs < maxBonds → 0 < n
+      → Stepped i σ μ (kindBytes k ++ f w) (token.stepToken (along k w) (st xs bs h n hs stk)) false d
   step-along i σ μ x d xs bs h n hs stk k w kk g v e s l c z =
       let j = takes-kind i μ k kk e v in
       let ν = awaiting (waiting k) μ in
@@ -122,18 +123,18 @@ module _ (atoms bonds : List ℤ) (N m p q : ℕ) (fine-atoms : (v : ℕ) → v 
       let a = atom-along (i + length (kindBytes k)) (j .state) d xs bs h n hs stk ν k w g (j .begins) (sim-await (draftRow atoms bonds m) (outsideFlag atoms bonds m) p q proom qroom xs bs h n hs stk μ s (waiting k)) l c z u (waiting-kind k .0) in
       record { state = a .state; memory = a .memory; takes = joins (kindBytes k) (f w) (j .takes) (a .takes); stance = a .stance; waits = a .waits; holds = a .holds }
 
-  pub step-ring : (i : ℕ) (x : Last) (μ : Memory) (d : ℕ) (xs : List ℕ) (bs : List Bond) (h n : ℕ) (hs : List Hook) (stk : List ℕ) (k r : ℕ) → k ≤ 3 → suc r < bridges → μ .pending ≡ nothing → Is (st xs bs h n hs stk) μ
-      → refusedBridge maxAtoms maxBonds maxDepth (hookAt hs r) k bs h ≡ 0 → Stepped i (at (seq x) d) μ (kindBytes k ++ bridgeBytes r) (token.step (ring k r) (st xs bs h n hs stk)) false d
+  pub step-ring : (i : ℕ) (x : Last) (μ : Memory) (d : ℕ) (xs : List ℕ) (bs : List Bond) (h n : ℕ) (hs : List Closure) (stk : List ℕ) (k r : ℕ) → k ≤ 3 → suc r < bridges → μ .pending ≡ nothing → Is (st xs bs h n hs stk) μ
+      → refusedBridge maxAtoms maxBonds maxDepth (closureAt hs r) k bs h ≡ 0 → Stepped i (at (seq x) d) μ (kindBytes k ++ bridgeBytes r) (token.stepToken (ring k r) (st xs bs h n hs stk)) false d
   step-ring i x μ d xs bs h n hs stk k r kk g e s z =
       let R = draftRow atoms bonds m in
       let F = outsideFlag atoms bonds m in
       let w = sim-await R F p q proom qroom xs bs h n hs stk μ s (waiting k) in
-      let a = takes-ring R F p q (bridge (hookAt hs r) k r xs bs h n hs stk) r g i x d μ k kk e
+      let a = takes-ring R F p q (bridge (closureAt hs r) k r xs bs h n hs stk) r g i x d μ k kk e
       (λ o t. sim-ring R F p q proom qroom xs bs h n hs stk (counting t (awaiting (waiting k) μ)) (sim-count R F p q proom qroom xs bs h n hs stk (awaiting (waiting k) μ) w t) r k g (waiting-kind k .0) o z) in
       record { state = at (seq plain) d; memory = a .memory; takes = a .takes; stance = after; waits = a .waits; holds = a .holds }
 
-  pub step-branch : (i : ℕ) (x : Last) (μ : Memory) (d : ℕ) (xs : List ℕ) (bs : List Bond) (h n : ℕ) (hs : List Hook) (stk : List ℕ) → Is (st xs bs h n hs stk) μ → length stk < maxDepth → 0 < n
-      → Stepped i (at (seq x) d) μ (40 ∷ []) (token.step branch (st xs bs h n hs stk)) true (suc d)
+  pub step-branch : (i : ℕ) (x : Last) (μ : Memory) (d : ℕ) (xs : List ℕ) (bs : List Bond) (h n : ℕ) (hs : List Closure) (stk : List ℕ) → Is (st xs bs h n hs stk) μ → length stk < maxDepth → 0 < n
+      → Stepped i (at (seq x) d) μ (40 ∷ []) (token.stepToken branch (st xs bs h n hs stk)) true (suc d)
   unfolding step next atomOr bridgeOr among letters nonzero bondSymbols act modeAct letterOf selectedOf branchAct
   step-branch i x μ d xs bs h n hs stk s l z =
       let y = s .depth in
@@ -146,8 +147,8 @@ module _ (atoms bonds : List ℤ) (N m p q : ℕ) (fine-atoms : (v : ℕ) → v 
         holds = sim-branch (draftRow atoms bonds m) (outsideFlag atoms bonds m) p q proom qroom xs bs h n hs stk μ s l z;
       }
 
-  pub step-back : (i : ℕ) (x : Last) (μ : Memory) (d : ℕ) (xs : List ℕ) (bs : List Bond) (h n : ℕ) (hs : List Hook) (g : ℕ) (stk : List ℕ) → Is (st xs bs h n hs (g ∷ stk)) μ
-      → Stepped i (at (seq x) (suc d)) μ (41 ∷ []) (token.step back (st xs bs h n hs (g ∷ stk))) false d
+  pub step-back : (i : ℕ) (x : Last) (μ : Memory) (d : ℕ) (xs : List ℕ) (bs : List Bond) (h n : ℕ) (hs : List Closure) (g : ℕ) (stk : List ℕ) → Is (st xs bs h n hs (g ∷ stk)) μ
+      → Stepped i (at (seq x) (suc d)) μ (41 ∷ []) (token.stepToken back (st xs bs h n hs (g ∷ stk))) false d
   unfolding step next atomOr bridgeOr among letters nonzero bondSymbols act modeAct letterOf selectedOf
   step-back i x μ d xs bs h n hs g stk s = record {
     state = at (seq plain) d;

@@ -16,13 +16,14 @@ use Rattle.reading_grammar.specs.declared.State.the-variants.{Start as opening,
 use Rattle.reading_grammar.specs.Machine.{accepting, resting}
 use Rattle.table.specs.Limits.{maxAtoms, maxBonds, atomCells, bondCells}
 use Rattle.table.proofs.Valid.{AtomFine}
-use Rattle.reading_state.specs.Limits.{maxDepth, bridges}
+use Rattle.ids.specs.Limits.{maxDepth, bridges}
 use Rattle.reading_state.specs.State.{started}
 use Rattle.reading.specs.Memory.{Memory, nothing}
 use Rattle.reading.specs.Read.{zeros, beginning}
-use Rattle.writing_walk.specs.Token.{Tok, apart, along, ring, branch, back, Hook, hookAt, St, st, start}
-use Rattle.writing_walk.specs.Token as token
-use Rattle.writing_walk.specs.Check.{refusal, fine, orNumber, reading, grammar, accepted}
+use Rattle.writing_walk.specs.Token.{Tok, apart, along, ring, branch, back}
+use Rattle.writing_walk.specs.Reading.{Closure, closureAt, St, st, startTokens}
+use Rattle.writing_walk.specs.Reading as token
+use Rattle.writing_walk.specs.Check.{refusal, fine, orNumber, reading, grammar, acceptedTokens}
 use Rattle.writing_walk.proofs.Count.{All, none, more}
 use Rattle.writing.specs.Spell.{atomBytes, tokenBytes, restBytes, tokensBytes}
 use Rattle.roundtrip.proofs.Feed.{Takes, stays, joins}
@@ -38,12 +39,12 @@ never h = let z : _≡_ {A = ℕ} 0 1 = cc in absurd (omega arith)
 -- one token of a reading that is not refused
 record Passed (t : Tok) (ts : List Tok) (s s′ : St) : Type 0 where
   here : refusal maxAtoms maxBonds maxDepth t s ≡ 0
-  rest : reading maxAtoms maxBonds maxDepth ts (token.step t s) ≡ fine s′
+  rest : reading maxAtoms maxBonds maxDepth ts (token.stepToken t s) ≡ fine s′
 
 passed : (t : Tok) (ts : List Tok) (s s′ : St) → reading maxAtoms maxBonds maxDepth (t ∷ ts) s ≡ fine s′ → Passed t ts s s′
 passed t ts s s′ = go (refusal maxAtoms maxBonds maxDepth t s) refl
   where
-    go : (c : ℕ) → refusal maxAtoms maxBonds maxDepth t s ≡ c → orNumber c (reading maxAtoms maxBonds maxDepth ts (token.step t s)) ≡ fine s′ → Passed t ts s s′
+    go : (c : ℕ) → refusal maxAtoms maxBonds maxDepth t s ≡ c → orNumber c (reading maxAtoms maxBonds maxDepth ts (token.stepToken t s)) ≡ fine s′ → Passed t ts s s′
     go zero e h = record { here = e; rest = h }
     go (suc c) e h = absurd (let z : _≡_ {A = ℕ} 0 1 = cc in omega arith)
 
@@ -84,36 +85,36 @@ module _ (atoms bonds : List ℤ) (N m p q : ℕ) (fine-atoms : (v : ℕ) → v 
       let c = passed (apart w) ts (st xs bs u n hs stk) s′ r in
       let l = ltb-true n maxAtoms (room-first (ltb n maxAtoms) (c .here)) in
       onward (46 ∷ f w) ts (step-apart atoms bonds N m p q fine-atoms proom qroom i σ μ b d xs bs u n hs stk w t v h l)
-      (λ i σ μ h e v. simulate ts (token.step (apart w) (st xs bs u n hs stk)) s′ false d i σ μ h e v y (omega arith) g (c .rest) a)
+      (λ i σ μ h e v. simulate ts (token.stepToken (apart w) (st xs bs u n hs stk)) s′ false d i σ μ h e v y (omega arith) g (c .rest) a)
   simulate (along k w ∷ ts) (st xs bs u n hs stk) s′ b d i σ μ h e v y z g r (more t a) =
       let c = passed (along k w) ts (st xs bs u n hs stk) s′ r in
       let l = room-both (ltb n maxAtoms) (ltb (length bs) maxBonds) (c .here) in
       onward (tokenBytes f (along k w)) ts (step-along atoms bonds N m p q fine-atoms proom qroom i σ μ b d xs bs u n hs stk k w (t .0) (t .1) v e h (ltb-true n maxAtoms (l .0)) (ltb-true (length bs) maxBonds (l .1)) z)
-      (λ i σ μ h e v. simulate ts (token.step (along k w) (st xs bs u n hs stk)) s′ false d i σ μ h e v y (omega arith) (along-grammar k w ts d b g) (c .rest) a)
+      (λ i σ μ h e v. simulate ts (token.stepToken (along k w) (st xs bs u n hs stk)) s′ false d i σ μ h e v y (omega arith) (along-grammar k w ts d b g) (c .rest) a)
   simulate (ring k o ∷ ts) (st xs bs u n hs stk) s′ b d i σ μ h e (after {x}) y z g r (more t a) =
       let c = passed (ring k o) ts (st xs bs u n hs stk) s′ r in
       onward (tokenBytes f (ring k o)) ts (step-ring atoms bonds N m p q fine-atoms proom qroom i x μ d xs bs u n hs stk k o (t .0) (t .1) e h (c .here))
-      (λ i σ μ h e v. simulate ts (token.step (ring k o) (st xs bs u n hs stk)) s′ false d i σ μ h e v (same (hookAt hs o) ∙ y) (more-atoms (hookAt hs o)) g (c .rest) a)
+      (λ i σ μ h e v. simulate ts (token.stepToken (ring k o) (st xs bs u n hs stk)) s′ false d i σ μ h e v (same (closureAt hs o) ∙ y) (more-atoms (closureAt hs o)) g (c .rest) a)
     where
-      same : (j : Hook) → depthOf (token.bridge j k o xs bs u n hs stk) ≡ length stk
+      same : (j : Closure) → depthOf (token.bridge j k o xs bs u n hs stk) ≡ length stk
       same token.vacant = refl
       same (token.at w j) = refl
 
-      more-atoms : (j : Hook) → 0 < nextOf (token.bridge j k o xs bs u n hs stk)
+      more-atoms : (j : Closure) → 0 < nextOf (token.bridge j k o xs bs u n hs stk)
       more-atoms token.vacant = z
       more-atoms (token.at w j) = z
   simulate (ring k o ∷ ts) (st xs bs u n hs stk) s′ b d i σ μ h e fresh y z g r a = never g
   simulate (branch ∷ ts) (st xs bs u n hs stk) s′ b d i σ μ h e (after {x}) y z g r (more t a) =
       let c = passed branch ts (st xs bs u n hs stk) s′ r in
       onward (40 ∷ []) ts (step-branch atoms bonds N m p q fine-atoms proom qroom i x μ d xs bs u n hs stk h (ltb-true (length stk) maxDepth (room-depth (ltb (length stk) maxDepth) (c .here))) z)
-      (λ i σ μ h e v. simulate ts (token.step branch (st xs bs u n hs stk)) s′ true (suc d) i σ μ h e v (ap suc y) z g (c .rest) a)
+      (λ i σ μ h e v. simulate ts (token.stepToken branch (st xs bs u n hs stk)) s′ true (suc d) i σ μ h e v (ap suc y) z g (c .rest) a)
   simulate (branch ∷ ts) (st xs bs u n hs stk) s′ b d i σ μ h e fresh y z g r a = never g
   simulate (back ∷ ts) (st xs bs u n hs stk) s′ b zero i σ μ h e v y z g r a = never g
   simulate (back ∷ ts) (st xs bs u n hs []) s′ b (suc d) i σ μ h e v y z g r a = absurd (omega arith)
   simulate (back ∷ ts) (st xs bs u n hs (w ∷ stk)) s′ b (suc d) i σ μ h e (after {x}) y z g r (more t a) =
       let c = passed back ts (st xs bs u n hs (w ∷ stk)) s′ r in
       onward (41 ∷ []) ts (step-back atoms bonds N m p q fine-atoms proom qroom i x μ d xs bs u n hs w stk h)
-      (λ i σ μ h e v. simulate ts (token.step back (st xs bs u n hs (w ∷ stk))) s′ false d i σ μ h e v (omega arith) z g (c .rest) a)
+      (λ i σ μ h e v. simulate ts (token.stepToken back (st xs bs u n hs (w ∷ stk))) s′ false d i σ μ h e v (omega arith) z g (c .rest) a)
   simulate (back ∷ ts) (st xs bs u n hs (w ∷ stk)) s′ b (suc d) i σ μ h e fresh y z g r a = never g
 
   -- ---- the beginning
@@ -125,7 +126,7 @@ module _ (atoms bonds : List ℤ) (N m p q : ℕ) (fine-atoms : (v : ℕ) → v 
         go true e = getD-replicate (length T) j (pos 0) (pos 0) (ltb-true j (length T) e)
         go false e = List·getD-eq-default (zeros T) (pos 0) (let w = ltb-false j (length T) e in let z = length-replicate (length T) (pos 0) in omega arith)
 
-    begins-empty : Now start (beginning (zeros A) (zeros B))
+    begins-empty : Now startTokens (beginning (zeros A) (zeros B))
     unfolding started
     begins-empty = record {
       hub = refl;
@@ -161,13 +162,13 @@ module _ (atoms bonds : List ℤ) (N m p q : ℕ) (fine-atoms : (v : ℕ) → v 
       pub ends : accepting state ≡ true
       pub holds : Holds (draftRow atoms bonds m) (outsideFlag atoms bonds m) p q s memory
 
-    pub text-read : (ts : List Tok) (s : St) → accepted ts ≡ true → reading maxAtoms maxBonds maxDepth ts start ≡ fine s → All (Good N) ts → Held (tokensBytes f ts) s
+    pub text-read : (ts : List Tok) (s : St) → acceptedTokens ts ≡ true → reading maxAtoms maxBonds maxDepth ts startTokens ≡ fine s → All (Good N) ts → Held (tokensBytes f ts) s
     unfolding tokensBytes accepting resting started
-    text-read [] s g r a = record { state = opening; memory = beginning (zeros A) (zeros B); takes = stays; ends = refl; holds = subst (λ (s : St). Now s (beginning (zeros A) (zeros B))) (let w : start ≡ s = cc in w) begins-empty }
+    text-read [] s g r a = record { state = opening; memory = beginning (zeros A) (zeros B); takes = stays; ends = refl; holds = subst (λ (s : St). Now s (beginning (zeros A) (zeros B))) (let w : startTokens ≡ s = cc in w) begins-empty }
     text-read (apart w ∷ ts) s g r (more t a) =
-        let c = passed (apart w) ts start s r in
+        let c = passed (apart w) ts startTokens s r in
         let b = atom-apart atoms bonds N m p q fine-atoms proom qroom 0 opening 0 [] [] 0 0 [] [] (beginning (zeros A) (zeros B)) w t begins-start begins-empty (omega arith) refl in
-        let z = onward (f w) ts b (λ i σ μ h e v. simulate ts (token.step (apart w) start) s false 0 i σ μ h e v refl (omega arith) g (c .rest) a) in
+        let z = onward (f w) ts b (λ i σ μ h e v. simulate ts (token.stepToken (apart w) startTokens) s false 0 i σ μ h e v refl (omega arith) g (c .rest) a) in
         record { state = at (seq (z .last)) 0; memory = z .memory; takes = z .takes; ends = refl; holds = z .holds }
     text-read (along k w ∷ ts) s g r a = never g
     text-read (ring k o ∷ ts) s g r a = never g

@@ -11,9 +11,9 @@ use Rattle.table_graph.specs.Graph.{matchable}
 use Rattle.table.specs.Limits.{atomCells, bondCells}
 use Rattle.table.specs.Cells.{atomCell}
 use Rattle.table.specs.Valid.{valid}
-use Rattle.reading_state.specs.Limits.{bridges, maxText}
-use Rattle.reading.specs.Read.{Told, refused, readOf}
-use Rattle.writing_walk.specs.Token.{Bond, joined, Tok, apart, along, ring, branch, back}
+use Rattle.ids.specs.Limits.{bridges, maxText}
+use Rattle.reading.specs.Read.{ReadResult, refused, readOf}
+use Rattle.writing_walk.specs.Token.{Bond, bondBetween, Tok, apart, along, ring, branch, back}
 use Rattle.writing_walk.specs.Walk.{unused}
 use Rattle.writing_walk.proofs.Count.{count}
 use Rattle.writing_walk.proofs.Read.{pending}
@@ -33,10 +33,10 @@ abbrev pub numbered : List ℕ → ℕ → ℕ
 numbered r v = getD r v 0
 
 abbrev pub renamed : List ℕ → Bond → Bond
-renamed r b = joined (numbered r (b .lo)) (numbered r (b .hi)) (b .kind)
+renamed r b = bondBetween (numbered r (b .lo)) (numbered r (b .hi)) (b .kind)
 
 -- what an accepted reading hands back
-abbrev pub accepted : ℕ → ℕ → List ℤ → List ℤ → Told
+abbrev pub accepted : ℕ → ℕ → List ℤ → List ℤ → ReadResult
 accepted n m atoms bonds = record { code = 0; offset = 0; atomCount = n; bondCount = m; atoms = atoms; bonds = bonds }
 
 -- 01, Writing: "reading back keeps every atom cell, every bond and its kind under" the renumbering: the tables T and U hold the molecule of atoms and bonds so, with 0 in the cells after
@@ -55,7 +55,7 @@ pub record RoundTrip (atoms bonds : List ℤ) (n m : ℕ) (A B : List ℤ) : Typ
   pub atoms-long : length T ≡ length A
   pub bonds-long : length U ≡ length B
   pub still-valid : valid T U n m ≡ true
-  pub again : (out ren : List ℕ) → lent T U out ren ≡ true → writeOf T U n m out ren ≡ write.accepted (textOf atoms bonds n m) (upTo (λ v. v) 0 n) out ren
+  pub again : (out ren : List ℕ) → lent T U out ren ≡ true → writeOf T U n m out ren ≡ write.writeAccepted (textOf atoms bonds n m) (upTo (λ v. v) 0 n) out ren
 
 -- "The renumbering gives each atom's walk number": a permutation of the numbers below n
 pub record Permutes (n : ℕ) (r : List ℕ) : Type 0 where

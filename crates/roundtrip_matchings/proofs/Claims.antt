@@ -13,7 +13,7 @@ use Rattle.matching.proofs.Enumeration.{cursor-found, found, after, first-match
 use Rattle.matching.proofs.Graph.{and-intro, same-bool}
 use Rattle.table_graph.specs.Graph.{delocalizedFlags, matchingOf, matchable}
 use Rattle.writing_walk.specs.Walk.{renumber}
-use Rattle.writing.specs.Write.{bondAt, bondList}
+use Rattle.writing.specs.Write.{walkBond, bondList}
 use Rattle.roundtrip_matchings.proofs.Chosen.{Carried, carried, perm-sym}
 use Rattle.roundtrip_matchings.proofs.Renamed.{Matched, matched, matching, forth, back, carried-matched}
 use Rattle.roundtrip_matchings.proofs.Sums.{graph-edges, Renumbered, flags-followed}
@@ -50,7 +50,7 @@ module _ {n m : ℕ} {order : List ℕ} {atoms bonds atoms′ bonds′ : List �
   new = matchingOf atoms′ bonds′ n m
 
   size : (t : List ℤ) → length (bondList t m) ≡ m
-  size t = length-upTo (bondAt t) 0 m
+  size t = length-upTo (walkBond t) 0 m
 
   size-renumbered : length (map (renumber order) (bondList bonds m)) ≡ m
   size-renumbered = length-map (bondList bonds m) (renumber order) ∙ size bonds

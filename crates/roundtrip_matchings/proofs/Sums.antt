@@ -18,7 +18,7 @@ use Rattle.writing_walk.proofs.Walk.{Inside}
 use Rattle.writing_walk.proofs.Trip.{Renumbering, place-lt}
 use Rattle.writing_walk.proofs.Perm.{Perm}
 use Rattle.writing_walk.proofs.Sums.{total, total-perm, weightAt, sum-place}
-use Rattle.writing.specs.Write.{bondAt, bondList}
+use Rattle.writing.specs.Write.{walkBond, bondList}
 use Rattle.roundtrip_matchings.proofs.Renamed.{edge, Followed}
 
 -- the bonds as matchings see them are the walk's bonds
@@ -28,10 +28,10 @@ upTo-map g f k zero = refl
 upTo-map {B = B} g f k (suc m) = ap {B = List B} (λ l. g (f k) ∷ l) (upTo-map g f (suc k) m)
 
 pub graph-edges : (bonds : List ℤ) (m : ℕ) → graphOf bonds m ≡ map edge (bondList bonds m)
-graph-edges bonds m = upTo-map edge (bondAt bonds) 0 m
+graph-edges bonds m = upTo-map edge (walkBond bonds) 0 m
 
 -- what a bond adds
-share-weight : (bonds : List ℤ) (a b : ℕ) → share bonds a b ≡ weightAt order a (bondAt bonds b)
+share-weight : (bonds : List ℤ) (a b : ℕ) → share bonds a b ≡ weightAt order a (walkBond bonds b)
 unfolding share touches
 share-weight bonds a b = go (eqb (end1 bonds b) a || eqb (end2 bonds b) a)
   where
@@ -39,7 +39,7 @@ share-weight bonds a b = go (eqb (end1 bonds b) a || eqb (end2 bonds b) a)
     go true = refl
     go false = refl
 
-sum-from : (bonds : List ℤ) (a k m s : ℕ) → run (addShare bonds a) k m s ≡ s + total (weightAt order a) (upTo (bondAt bonds) k m)
+sum-from : (bonds : List ℤ) (a k m s : ℕ) → run (addShare bonds a) k m s ≡ s + total (weightAt order a) (upTo (walkBond bonds) k m)
 unfolding run upTo
 sum-from bonds a k zero s = sym (add-zero s)
 sum-from bonds a k (suc m) s = omega (arith, sum-from bonds a (suc k) m (s + share bonds a k), share-weight bonds a k)

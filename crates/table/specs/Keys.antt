@@ -1,4 +1,4 @@
--- The two ends of a bond as one number, by which bonds are compared
+-- auxiliary: the two ends of a bond as one number, by which bonds are compared
 use Prim.Native.Nat.{ℕ, _+_, _*_, _-_, _<_}
 use mathlib.Core.Bool.{Bool, not}
 use mathlib.Core.List.{List}

@@ -21,7 +21,7 @@ use crate::cell;
 use ids::AtomId;
 use ids::BondId;
 
-// The row of an atom: 0 in every cell past the end of the table, and above the limit.
+// internal: the row of an atom: 0 in every cell past the end of the table, and above the limit.
 pub fn get_atom(t: &[i32], a: AtomId) -> Atom
     ensures { λ r. ⌜ r ≡ atomAt (now (t .entry)) (a .0) ⌝ }
     ensures { λ r. ⌜ AtomFits r ⌝ }
@@ -59,7 +59,7 @@ fn get_bond_beyond(t: &[i32], b: BondId) -> Bond
     }
 }
 
-// The row of a bond: 0 in every cell past the end of the table, and above the limit.
+// internal: the row of a bond: 0 in every cell past the end of the table, and above the limit.
 pub fn get_bond(t: &[i32], b: BondId) -> Bond
     ensures { λ r. ⌜ r ≡ bondAt (now (t .entry)) (b .0) ⌝ }
     ensures { λ r. ⌜ BondFits r ⌝ }

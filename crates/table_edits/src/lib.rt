@@ -63,7 +63,7 @@ fn put_atom_beyond(t: &mut [i32], a: AtomId, x: Atom)
     cell::put_atom_cell(t, a, EXTENSION, x.extension);
 }
 
-// Writes the row of an atom: no cell past the end of the table, and nothing above the limit.
+// internal: writes the row of an atom: no cell past the end of the table, and nothing above the limit.
 pub fn put_atom(t: &mut [i32], a: AtomId, x: Atom)
     ensures { λ _. ⌜ now (t .exit) ≡ putAtom (now (t .entry)) (a .0) x ⌝ }
 {
@@ -107,7 +107,7 @@ fn put_bond_beyond(t: &mut [i32], b: BondId, x: Bond)
     cell::put_bond_cell(t, b, KIND, x.kind);
 }
 
-// Writes the row of a bond: no cell past the end of the table, and nothing above the limit.
+// internal: writes the row of a bond: no cell past the end of the table, and nothing above the limit.
 pub fn put_bond(t: &mut [i32], b: BondId, x: Bond)
     ensures { λ _. ⌜ now (t .exit) ≡ putBond (now (t .entry)) (b .0) x ⌝ }
 {
@@ -121,7 +121,7 @@ pub fn put_bond(t: &mut [i32], b: BondId, x: Bond)
     lay_bond(t, b, x.first, x.second, x.kind);
 }
 
-// Zeroes a whole table.
+// internal: zeroes a whole table.
 pub fn clear(t: &mut [i32])
     ensures { λ _. ⌜ now (t .exit) ≡ replicate (length (now (t .entry))) (pos 0) ⌝ }
 {

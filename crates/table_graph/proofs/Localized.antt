@@ -16,7 +16,7 @@ use Rattle.matching.specs.Enumeration.{matchings}
 use Rattle.matching.specs.Graph.{noneFlagged}
 use Rattle.matching.specs.Model.{some?}
 use Rattle.matching.proofs.Claims.{one-zero-row}
-use Rattle.table_graph.specs.Graph.{flag, delocalizedAt, delocalizedFlag, delocalizedFlags, unselected, noneSelected, bondOf, graphOf, matchingOf, matchable}
+use Rattle.table_graph.specs.Graph.{flag, delocalizedAt, delocalizedFlag, delocalizedFlags, notSelected, noneSelected, bondOf, graphOf, matchingOf, matchable}
 
 -- flags that are all 0
 zero-flags : (f : ℕ → ℕ) (k n : ℕ) → ((j : ℕ) → j < k + n → f j ≡ 0) → noneFlagged (upTo f k n) ≡ true
@@ -25,7 +25,7 @@ zero-flags f k zero h = refl
 zero-flags f k (suc n) h = rw (h k (omega arith)) (zero-flags f (suc k) n (λ j l. h j (omega arith)))
 
 -- an atom that is not selected is not delocalized
-unselected-localized : (atoms bonds : List ℤ) (m a : ℕ) → unselected atoms a ≡ true → delocalizedAt atoms bonds m a ≡ false
+unselected-localized : (atoms bonds : List ℤ) (m a : ℕ) → notSelected atoms a ≡ true → delocalizedAt atoms bonds m a ≡ false
 unfolding delocalized
 unselected-localized atoms bonds m a h = let e : eqb (selected atoms a) 1 ≡ false = not-true (eqb (selected atoms a) 1) h in simp e
 
@@ -43,7 +43,7 @@ module _ (atoms bonds : List ℤ) (n m : ℕ) where
   module _ (h : noneSelected atoms n ≡ true) where
     pub unselected-one : matchings (matchingOf atoms bonds n m) m ≡ replicate m 0 ∷ []
     unfolding noneSelected
-    unselected-one = localized-one (λ a l. unselected-localized atoms bonds m a (each-at (unselected atoms) n a h l))
+    unselected-one = localized-one (λ a l. unselected-localized atoms bonds m a (each-at (notSelected atoms) n a h l))
 
     pub unselected-matchable : matchable atoms bonds n m ≡ true
     unfolding matchable

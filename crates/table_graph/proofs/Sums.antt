@@ -22,7 +22,7 @@ use Rattle.table.specs.Cells.{number, end1, end2, kind}
 use Rattle.table.specs.Rows.{bondAt, bondRow, BondFits}
 use Rattle.valence.specs.Valence.{order}
 use Rattle.table_graph.specs.Graph.{touches, share, addShare, bondSum}
-use Rattle.table_graph.specs.Built.{bump, withBond}
+use Rattle.table_graph.specs.Built.{bump, sumsWithBond}
 
 -- the numbers in a bond's row are those of its cells
 pub row-cells : (bonds : List ℤ) (b : ℕ) (x : Bond) → (x ≡ bondAt bonds b) × BondFits x → b < maxBonds
@@ -118,8 +118,8 @@ ends-two e f i x n = go (eqb e i) (eqb f i) refl refl
     go true false p q = add-zero x
     go false z p q = omega arith
 
-pub bond-at : (bonds : List ℤ) (b i : ℕ) (s : List ℕ) → i < length s → getD (withBond bonds b s) i 0 ≡ getD s i 0 + share bonds i b
-unfolding withBond share touches
+pub bond-at : (bonds : List ℤ) (b i : ℕ) (s : List ℕ) → i < length s → getD (sumsWithBond bonds b s) i 0 ≡ getD s i 0 + share bonds i b
+unfolding sumsWithBond share touches
 bond-at bonds b i s l = go (eqb e f) refl
   where
     e : ℕ
@@ -137,8 +137,8 @@ bond-at bonds b i s l = go (eqb e f) refl
         let w : i < length (bump s e x) = simp length-set l in
         omega (arith, bump-at (bump s e x) f x i w, bump-at s e x i l, ends-two e f i x (eqb-false e f h))
 
-pub bond-length : (bonds : List ℤ) (b : ℕ) (s : List ℕ) → length (withBond bonds b s) ≡ length s
-unfolding withBond
+pub bond-length : (bonds : List ℤ) (b : ℕ) (s : List ℕ) → length (sumsWithBond bonds b s) ≡ length s
+unfolding sumsWithBond
 bond-length bonds b s = go (eqb (end1 bonds b) (end2 bonds b))
   where
     x : ℕ
@@ -148,24 +148,24 @@ bond-length bonds b s = go (eqb (end1 bonds b) (end2 bonds b))
     go true = simp length-set
     go false = simp length-set
 
-pub sums-more : (bonds : List ℤ) (b len : ℕ) → withBond bonds b (sumsTo bonds b len) ≡ sumsTo bonds (b + 1) len
+pub sums-more : (bonds : List ℤ) (b len : ℕ) → sumsWithBond bonds b (sumsTo bonds b len) ≡ sumsTo bonds (b + 1) len
 sums-more bonds b len =
     let s = sumsTo bonds b len in
     let n : length s ≡ len = length-upTo (bondSum bonds b) 0 len in
-    let n2 : length (withBond bonds b s) ≡ len = bond-length bonds b s ∙ n in
-    ext-getD 0 (withBond bonds b s) (sumsTo bonds (b + 1) len) (n2 ∙ sym (length-upTo (bondSum bonds (b + 1)) 0 len))
+    let n2 : length (sumsWithBond bonds b s) ≡ len = bond-length bonds b s ∙ n in
+    ext-getD 0 (sumsWithBond bonds b s) (sumsTo bonds (b + 1) len) (n2 ∙ sym (length-upTo (bondSum bonds (b + 1)) 0 len))
     (λ i l.
     let l1 : i < len = omega arith in
     let l2 : i < length s = omega arith in
     bond-at bonds b i s l2 ∙ ap (λ (k : ℕ). k + share bonds i b) (upTo-at (bondSum bonds b) len i 0 l1) ∙ sym (sum-more bonds b i) ∙ sym (upTo-at (bondSum bonds (b + 1)) len i 0 l1))
 
 -- the two paths of adding one bond
-pub one-end : (bonds : List ℤ) (b : ℕ) (s : List ℕ) {e f k x : ℕ} {s1 : List ℕ} → e ≡ end1 bonds b → f ≡ end2 bonds b → k ≡ kind bonds b → x ≡ order k → e ≡ f → s1 ≡ bump s e x → s1 ≡ withBond bonds b s
-unfolding withBond
+pub one-end : (bonds : List ℤ) (b : ℕ) (s : List ℕ) {e f k x : ℕ} {s1 : List ℕ} → e ≡ end1 bonds b → f ≡ end2 bonds b → k ≡ kind bonds b → x ≡ order k → e ≡ f → s1 ≡ bump s e x → s1 ≡ sumsWithBond bonds b s
+unfolding sumsWithBond
 one-end bonds b s pe pf pk px q e1 = let w : end1 bonds b ≡ end2 bonds b = sym pe ∙ q ∙ pf in simp (e1, px, pk, pe, eq-eqb (end1 bonds b) (end2 bonds b) w)
 
-pub two-ends : (bonds : List ℤ) (b : ℕ) (s : List ℕ) {e f k x : ℕ} {s1 s2 : List ℕ} → e ≡ end1 bonds b → f ≡ end2 bonds b → k ≡ kind bonds b → x ≡ order k → (e ≡ f → ⊥) → s1 ≡ bump s e x → s2 ≡ bump s1 f x → s2 ≡ withBond bonds b s
-unfolding withBond
+pub two-ends : (bonds : List ℤ) (b : ℕ) (s : List ℕ) {e f k x : ℕ} {s1 s2 : List ℕ} → e ≡ end1 bonds b → f ≡ end2 bonds b → k ≡ kind bonds b → x ≡ order k → (e ≡ f → ⊥) → s1 ≡ bump s e x → s2 ≡ bump s1 f x → s2 ≡ sumsWithBond bonds b s
+unfolding sumsWithBond
 two-ends bonds b s pe pf pk px q e1 e2 =
     let w : end1 bonds b ≡ end2 bonds b → ⊥ = λ h. q (pe ∙ h ∙ sym pf) in
     simp (e2, e1, px, pk, pe, pf, ne-eqb (end1 bonds b) (end2 bonds b) w)
@@ -180,8 +180,8 @@ sums-bound bonds b len e a = rw e (sums-small bonds b len a)
 pub second-bound : (s : List ℕ) (e f x n : ℕ) → e < f → ((a : ℕ) → getD s a 0 ≤ n) → getD (bump s e x) f 0 ≤ n
 second-bound s e f x n l h = rw (getD-set-other s e f (getD s e 0 + x) 0 (λ q. omega arith)) (h f)
 
-pub sums-step : (bonds : List ℤ) (b len : ℕ) {s t : List ℕ} → s ≡ sumsTo bonds b len → t ≡ withBond bonds b s → t ≡ sumsTo bonds (b + 1) len
-sums-step bonds b len e h = h ∙ ap (withBond bonds b) e ∙ sums-more bonds b len
+pub sums-step : (bonds : List ℤ) (b len : ℕ) {s t : List ℕ} → s ≡ sumsTo bonds b len → t ≡ sumsWithBond bonds b s → t ≡ sumsTo bonds (b + 1) len
+sums-step bonds b len e h = h ∙ ap (sumsWithBond bonds b) e ∙ sums-more bonds b len
 
 pub sums-length : (bonds : List ℤ) (b len : ℕ) {s : List ℕ} → s ≡ sumsTo bonds b len → length s ≡ len
 sums-length bonds b len e = ap length e ∙ length-upTo (bondSum bonds b) 0 len

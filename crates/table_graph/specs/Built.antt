@@ -1,4 +1,4 @@
--- What the buffers hold that the graph of a molecule is built in
+-- auxiliary: what the buffers hold that the graph of a molecule is built in
 use Prim.Native.Nat.{ℕ, _+_, _<_, _≤_}
 use mathlib.Core.Path.{_≡_}
 use mathlib.Core.List.{List}
@@ -17,8 +17,8 @@ abbrev pub bump : List ℕ → ℕ → ℕ → List ℕ
 bump sums i x = set sums i (getD sums i 0 + x)
 
 -- the bond sums with one bond more: its order added at each of its ends
-unfoldable pub withBond : List ℤ → ℕ → List ℕ → List ℕ
-withBond bonds b sums =
+unfoldable pub sumsWithBond : List ℤ → ℕ → List ℕ → List ℕ
+sumsWithBond bonds b sums =
     let e = end1 bonds b in
     let f = end2 bonds b in
     let x = order (kind bonds b) in

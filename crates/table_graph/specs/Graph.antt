@@ -41,11 +41,11 @@ abbrev pub elidedFlag : List ℤ → ℕ → ℕ
 elidedFlag bonds b = flag (eqb (kind bonds b) 0)
 
 -- none of n atoms is selected
-abbrev pub unselected : List ℤ → ℕ → Bool
-unselected atoms a = not (eqb (selected atoms a) 1)
+abbrev pub notSelected : List ℤ → ℕ → Bool
+notSelected atoms a = not (eqb (selected atoms a) 1)
 
 unfoldable pub noneSelected : List ℤ → ℕ → Bool
-noneSelected atoms n = each (unselected atoms) 0 n
+noneSelected atoms n = each (notSelected atoms) 0 n
 
 -- the flags of n atoms, and the bonds, as matchings see them
 abbrev pub delocalizedFlags : List ℤ → List ℤ → ℕ → ℕ → List ℕ

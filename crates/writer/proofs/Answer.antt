@@ -14,10 +14,10 @@ use Rattle.loops.specs.Loop.{pick, upTo}
 use Rattle.loops.proofs.Loops.{length-upTo}
 use Rattle.table.specs.Limits.{maxAtoms}
 use Rattle.table.specs.Valid.{valid, enough}
-use Rattle.reading_state.specs.Limits.{maxText}
+use Rattle.ids.specs.Limits.{maxText}
 use Rattle.writing_walk.specs.Emit.{pre}
 use Rattle.writing_walk.specs.Walk.{forestOf, place}
-use Rattle.writing.specs.Write.{Told, bondList, tokens, textOf, renumbering, fewBridges, shallow, refused, short, filled, accepted, writeValid, lent, writeOf}
+use Rattle.writing.specs.Write.{WriteResult, bondList, tokens, textOf, renumbering, fewBridges, shallow, writeRefused, writeShort, filled, writeAccepted, writeValid, lent, writeOf}
 use Rattle.buffer.specs.Pen.{Pen, pen, putByte, writes, Wrote}
 use Rattle.writer.specs.Told.{Said}
 
@@ -123,19 +123,19 @@ renumbering-is bonds n m = refl
 
 -- ---- the answers
 module _ {atoms bonds : List ℤ} {n m : ℕ} {few flat : Bool} {p q : Pen} (s : Said atoms bonds n m few flat p q) (out ren : List ℕ) where
-  pub tells14 : few ≡ false → refused 14 out ren ≡ writeValid atoms bonds n m out ren
+  pub tells14 : few ≡ false → writeRefused 14 out ren ≡ writeValid atoms bonds n m out ren
   unfolding writeValid
   tells14 e = sym (rw (sym (s .numbers) ∙ e))
 
-  pub tells15 : few ≡ true → flat ≡ false → refused 15 out ren ≡ writeValid atoms bonds n m out ren
+  pub tells15 : few ≡ true → flat ≡ false → writeRefused 15 out ren ≡ writeValid atoms bonds n m out ren
   unfolding writeValid
   tells15 e f = sym (rw (sym (s .numbers) ∙ e, sym (s .depth) ∙ f))
 
-  pub tells16 : few ≡ true → flat ≡ true → leb (length (textOf atoms bonds n m)) maxText ≡ false → refused 16 out ren ≡ writeValid atoms bonds n m out ren
+  pub tells16 : few ≡ true → flat ≡ true → leb (length (textOf atoms bonds n m)) maxText ≡ false → writeRefused 16 out ren ≡ writeValid atoms bonds n m out ren
   unfolding writeValid
   tells16 e f g = sym (rw (sym (s .numbers) ∙ e, sym (s .depth) ∙ f, g))
 
-  pub tells0 : few ≡ true → flat ≡ true → leb (length (textOf atoms bonds n m)) maxText ≡ true → accepted (textOf atoms bonds n m) (renumbering bonds n m) out ren ≡ writeValid atoms bonds n m out ren
+  pub tells0 : few ≡ true → flat ≡ true → leb (length (textOf atoms bonds n m)) maxText ≡ true → writeAccepted (textOf atoms bonds n m) (renumbering bonds n m) out ren ≡ writeValid atoms bonds n m out ren
   unfolding writeValid
   tells0 e f g = sym (rw (sym (s .numbers) ∙ e, sym (s .depth) ∙ f, g))
 
@@ -144,17 +144,17 @@ pub part-long : (part out : List ℕ) → length part ≡ length (take maxText o
 part-long part out e h = omega (arith, length-append part (drop maxText out), length-drop maxText out, length-take-le maxText out h)
 
 pub zeroed : (c : ℕ) (out ren o1 o2 r2 : List ℕ) → length o1 ≡ length out → o2 ≡ replicate (length o1) 0 → r2 ≡ replicate (length ren) 0
-    → _≡_ {A = Told} (record { code = c; size = 0; output = o2; numbers = r2 }) (refused c out ren)
+    → _≡_ {A = WriteResult} (record { code = c; size = 0; output = o2; numbers = r2 }) (writeRefused c out ren)
 zeroed c out ren o1 o2 r2 l e f = λ i. record { code = c; size = 0; output = (e ∙ ap (λ (x : ℕ). replicate x 0) l) i; numbers = f i }
 
 module _ {atoms bonds : List ℤ} {n m : ℕ} {few flat : Bool} (out ren part : List ℕ) (at : ℕ) (room : maxText ≤ length out) (pl : length part ≡ length (take maxText out))
     (s : Said atoms bonds n m few flat (pen (take maxText out) 0) (pen part at)) (e : few ≡ true) (f : flat ≡ true) where
-  pub told16 : maxText < at → refused 16 out ren ≡ writeValid atoms bonds n m out ren
+  pub told16 : maxText < at → writeRefused 16 out ren ≡ writeValid atoms bonds n m out ren
   told16 h = tells16 s out ren e f (too-long (textOf atoms bonds n m) out part at room (s .text e) h)
 
   pub told0 : at ≤ maxText → (number o2 r2 : List ℕ) → ((a : ℕ) → a < n → getD number a 0 ≡ suc (place (pre (forestOf n (bondList bonds m))) a))
       → o2 ≡ take at (part ++ drop maxText out) ++ replicate (length (part ++ drop maxText out) - at) 0 → r2 ≡ upTo (λ a. getD number a 0 - 1) 0 n ++ replicate (length ren - n) 0
-      → _≡_ {A = Told} (record { code = 0; size = at; output = o2; numbers = r2 }) (writeValid atoms bonds n m out ren)
+      → _≡_ {A = WriteResult} (record { code = 0; size = at; output = o2; numbers = r2 }) (writeValid atoms bonds n m out ren)
   told0 h number o2 r2 nu eo er =
       let l = textOf atoms bonds n m in
       let w = s .text e in
@@ -170,20 +170,20 @@ module _ {atoms bonds : List ℤ} {n m : ℕ} {few flat : Bool} (out ren part : 
       renumbers number nu = same-numbers ren n (λ a. getD number a 0 - 1) (renumbering bonds n m) (place (pre (forestOf n (bondList bonds m)))) (renumbering-is bonds n m) (λ a i. (let q = nu a i in omega arith))
 
 -- ---- 1 and 13
-pub short1 : (atoms bonds : List ℤ) (n m : ℕ) (out ren : List ℕ) → enough atoms bonds ≡ false → short out ren ≡ writeOf atoms bonds n m out ren
+pub short1 : (atoms bonds : List ℤ) (n m : ℕ) (out ren : List ℕ) → enough atoms bonds ≡ false → writeShort out ren ≡ writeOf atoms bonds n m out ren
 unfolding writeOf
 short1 atoms bonds n m out ren e = sym (rw e)
 
-pub short2 : (atoms bonds : List ℤ) (n m : ℕ) (out ren : List ℕ) → enough atoms bonds ≡ true → length out < maxText → short out ren ≡ writeOf atoms bonds n m out ren
+pub short2 : (atoms bonds : List ℤ) (n m : ℕ) (out ren : List ℕ) → enough atoms bonds ≡ true → length out < maxText → writeShort out ren ≡ writeOf atoms bonds n m out ren
 unfolding writeOf
 short2 atoms bonds n m out ren e h = sym (rw (e, lt-leb maxText (length out) h))
 
-pub short3 : (atoms bonds : List ℤ) (n m : ℕ) (out ren : List ℕ) → enough atoms bonds ≡ true → maxText ≤ length out → length ren < maxAtoms → short out ren ≡ writeOf atoms bonds n m out ren
+pub short3 : (atoms bonds : List ℤ) (n m : ℕ) (out ren : List ℕ) → enough atoms bonds ≡ true → maxText ≤ length out → length ren < maxAtoms → writeShort out ren ≡ writeOf atoms bonds n m out ren
 unfolding writeOf
 short3 atoms bonds n m out ren e h g = sym (rw (e, le-leb maxText (length out) h, lt-leb maxAtoms (length ren) g))
 
 module _ (atoms bonds : List ℤ) (n m : ℕ) (out ren : List ℕ) (e : enough atoms bonds ≡ true) (h : maxText ≤ length out) (g : maxAtoms ≤ length ren) where
-  pub told13 : valid atoms bonds n m ≡ false → refused 13 out ren ≡ writeOf atoms bonds n m out ren
+  pub told13 : valid atoms bonds n m ≡ false → writeRefused 13 out ren ≡ writeOf atoms bonds n m out ren
   unfolding writeOf
   told13 v = sym (rw (e, le-leb maxText (length out) h, le-leb maxAtoms (length ren) g, v))
 

@@ -15,29 +15,30 @@ use Rattle.table.specs.Cells.{number, atomCell, end1, end2}
 use Rattle.table.specs.Valid.{Valid, sameEnds}
 use Rattle.table.proofs.Valid.{atom-row, bond-row, kind-small, hydrogens-small, apart-at, range-high}
 use Rattle.table_graph.specs.Graph.{bondSum}
-use Rattle.reading_state.specs.Limits.{maxDepth}
+use Rattle.ids.specs.Limits.{maxDepth}
 use Rattle.writing_walk.specs.Token.{Bond, Tok}
 use Rattle.writing_walk.specs.Emit.{Forest, leaf, node, size, pre, Slot, text, closeAll}
-use Rattle.writing_walk.specs.Walk.{forestOf, member, relabel, closing, opening, unused, write}
-use Rattle.writing_walk.specs.Check.{ends, nests}
+use Rattle.writing_walk.specs.Walk.{forestOf, member, relabel, closingBonds, openingBonds, unused, write}
+use Rattle.writing_walk.specs.Check.{ends}
+use Rattle.writing_walk.specs.Depth.{nests}
 use Rattle.writing_walk.specs.Flat.{kinds, ups, flat, rowsOf}
 use Rattle.writing_walk.proofs.Count.{bit, count, All, none, more, all-append, and-left, and-right}
 use Rattle.writing_walk.proofs.Whole.{inv-start}
 use Rattle.writing_walk.proofs.Trip.{renumbering, place-lt, size-length, back-of}
 use Rattle.writing_walk.proofs.Twice.{Distinct}
 use Rattle.writing_walk.proofs.Rows.{rows-text}
-use Rattle.writing.specs.Spell.{atomBytes, unbracketed, tokensBytes}
-use Rattle.writing.specs.Write.{bondAt, bondList, tokens, textOf, fewBridges}
+use Rattle.writing.specs.Spell.{atomBytes, tokensBytes, spelledAtom}
+use Rattle.writing.specs.Write.{walkBond, bondList, tokens, textOf, fewBridges}
 use Rattle.buffer.specs.Pen.{Pen}
 use Rattle.buffer.proofs.Laws.{as-is}
-use Rattle.writing_atoms.specs.Fields.{AtomFits, outside, spelledAtom}
-use Rattle.writing_visit.specs.Tour.{BondsFit, Room, Kept, Walked}
+use Rattle.writing_atoms.specs.Fields.{AtomFits}
+use Rattle.writing_visit.specs.Visit.{BondsFit, Room, Kept, Walked}
 use Rattle.writing_visit.specs.Wires.{wires, Wired}
 use Rattle.writing_visit.proofs.Ways.{bonds-inside}
 use Rattle.writing_visit.proofs.Wires.{fit-same, wired-at, wired-list}
 use Rattle.writing_visit.proofs.Laws.{length-kinds, length-ups, room-kept}
 use Rattle.writing_bridges.specs.Slots.{Slots, end, rest, closesFrom, opensFrom, closeBytes, openBytes}
-use Rattle.writing_bridges.specs.Unused.{bag, addBond, inWalk, Numbered, BagRoom}
+use Rattle.writing_bridges.specs.Unused.{bondArrays, addBond, inWalk, Numbered, BondRoom}
 use Rattle.writing_bridges.proofs.Listed.{Listed, listed}
 use Rattle.writer.specs.Emit.{Ready, headBytes, moreAt, leadBytes, Texted, Pending, bytesFrom, nextSlots}
 use Rattle.writer.specs.Nest.{nestFrom, depthAfter}
@@ -72,12 +73,12 @@ module _ {A : Type 0} (p : A → Bool) (f : ℕ → A) where
 
 -- what valid tables give
 module _ {atoms bonds : List ℤ} {n m : ℕ} (v : Valid atoms bonds n m) where
-  pub fit : BondsFit (bondAt bonds) n m
+  pub fit : BondsFit (walkBond bonds) n m
   fit = record { few-atoms = v .few-atoms; few-bonds = v .few-bonds; ends = λ b h. (let r = bond-row v b h in (r .order, r .second)); kinds = λ b h. (let r = kind-small v b h in omega arith) }
 
   pub distinct : Distinct (bondList bonds m)
   unfolding sameEnds
-  distinct a c = count-once (ends a c) (bondAt bonds) 0 m (λ i j g l p q.
+  distinct a c = count-once (ends a c) (walkBond bonds) 0 m (λ i j g l p q.
       (let e1 : end1 bonds j ≡ end1 bonds i = eqb-true (end1 bonds j) a (and-left (eqb (end1 bonds j) a) (eqb (end2 bonds j) c) q) ∙ sym (eqb-true (end1 bonds i) a (and-left (eqb (end1 bonds i) a) (eqb (end2 bonds i) c) p)) in
       let e2 : end2 bonds j ≡ end2 bonds i = eqb-true (end2 bonds j) c (and-right (eqb (end1 bonds j) a) (eqb (end2 bonds j) c) q) ∙ sym (eqb-true (end2 bonds i) c (and-right (eqb (end1 bonds i) a) (eqb (end2 bonds i) c) p)) in
       let f : sameEnds bonds j i ≡ false = apart-at v j i (omega arith) g in
@@ -111,8 +112,7 @@ module _ {atoms bonds : List ℤ} {n m : ℕ} (v : Valid atoms bonds n m) where
 
 -- an atom's bytes, with its bond sum
 spelled-is : (atoms bonds : List ℤ) (m a s : ℕ) → s ≡ bondSum bonds m a → spelledAtom atoms a s ≡ atomBytes atoms bonds m a
-unfolding spelledAtom outside atomBytes unbracketed
-spelled-is atoms bonds m a s e = rw e
+spelled-is atoms bonds m a s e = ap (spelledAtom atoms a) e
 
 same-atoms : (G : Forest) → relabel (λ a. a) G ≡ G
 same-atoms leaf = refl
@@ -209,11 +209,11 @@ module _ {atoms bonds : List ℤ} {n m : ℕ} (v : Valid atoms bonds n m) {o w u
       let U = unused n (bondList bonds m) in
       let N = upTo f 0 k in
       let g = atomBytes atoms bonds m in
-      let pe : Pending N 0 [] = inv-start N (closing n N) (opening n N) (back-of n N (bridges-inside br)) in
+      let pe : Pending N 0 [] = inv-start N (closingBonds n N) (openingBonds n N) (back-of n N (bridges-inside br)) in
       let T = tx .told f [] br (ls .kind-at) (zero-slots f k 99) pe in
-      let tok : tokens bonds n m ≡ flat (closing n N) (opening n N) (rowsOf ws ks us 0) 0 [] =
-      ap (λ (H : Forest). text (closing n U) (opening n U) H 0 []) (same-atoms G) ∙ sym (rows-text (closing n U) (opening n U) G [])
-      ∙ ap (λ (W : List Bond). flat (closing n W) (opening n W) (rowsOf ws ks us 0) 0 []) (sym (ls .all)) in
+      let tok : tokens bonds n m ≡ flat (closingBonds n N) (openingBonds n N) (rowsOf ws ks us 0) 0 [] =
+      ap (λ (H : Forest). text (closingBonds n U) (openingBonds n U) H 0 []) (same-atoms G) ∙ sym (rows-text (closingBonds n U) (openingBonds n U) G [])
+      ∙ ap (λ (W : List Bond). flat (closingBonds n W) (openingBonds n W) (rowsOf ws ks us 0) 0 []) (sym (ls .all)) in
       let mo : (x : ℕ) → x < n → moreAt u last x ≡ member (getD us x 0) (drop (suc x) us) = more-at u us last n l0 lu (walked .up) (λ x h. (let y = parents-fit x h in omega arith)) el in
       let hd : (x : ℕ) → x < n → headBytes atoms o u kd last sums x ≡ leadBytes x (getD us x 0) (member (getD us x 0) (drop (suc x) us)) (getD ks x 0) ++ g (getD ws x 0) =
       λ x h. (λ i. leadBytes x (walked .up x h i) (mo x h i) (walked .kind x h i) ++ spelledAtom atoms (getD o x 0) (getD sums (getD o x 0) 0))
@@ -222,7 +222,7 @@ module _ {atoms bonds : List ℤ} {n m : ℕ} (v : Valid atoms bonds n m) {o w u
       ap (tokensBytes g) tok ∙ text-bytes ws ks us n lw lk lu f k br g n [] refl (λ h. first-root G) ∙ sym (bytes-same (headBytes atoms o u kd last sums) (headAt ws ks us n lw lk lu f k br g) f n k n 0 [] (omega arith) hd) in
       record {
         numbers = T .0 ∙ sym (ap fewBridges tok ∙ few-from ws ks us n lw lk lu f k br g n 0 [] (omega arith) pe (omega arith));
-        depth = sh ∙ nest-same u us (moreAt u last) (laterOne ws ks us n lw lk lu) n n 0 0 (omega arith) (walked .up) mo ∙ sym (ap (λ (ts : List Tok). nests maxAtoms maxBonds maxDepth ts 0) tok ∙ nests-from ws ks us n lw lk lu f k br g n 0 0 [] (omega arith) (omega arith));
+        depth = sh ∙ nest-same u us (moreAt u last) (laterOne ws ks us n lw lk lu) n n 0 0 (omega arith) (walked .up) mo ∙ sym (ap (λ (ts : List Tok). nests maxDepth ts 0) tok ∙ nests-from ws ks us n lw lk lu f k br g n 0 0 [] (omega arith) (omega arith));
         text = λ y. as-is tb (T .1 y);
       }
 
@@ -237,13 +237,13 @@ module _ {atoms bonds : List ℤ} {n m : ℕ} {o w u kd ea eb ks sums : List ℕ
   pub held-sums : length sums ≡ maxAtoms
   held-sums = ap length (h .summed) ∙ length-upTo (bondSum bonds m) 0 maxAtoms
 
-  pub held-listed : {l j q l2 h2 q2 : List ℕ} {k : ℕ} → BagRoom l j q → bag l2 h2 q2 k ≡ run (λ b. addBond u (inWalk (wires ea eb ks) n m b)) 0 m (bag l j q 0) → Listed (bondList bonds m) n l2 h2 q2 k
+  pub held-listed : {l j q l2 h2 q2 : List ℕ} {k : ℕ} → BondRoom l j q → bondArrays l2 h2 q2 k ≡ run (λ b. addBond u (inWalk (wires ea eb ks) n m b)) 0 m (bondArrays l j q 0) → Listed (bondList bonds m) n l2 h2 q2 k
   held-listed {l} {j} {q} {l2} {h2} {q2} {k} r e =
       let d : Distinct (upTo (wires ea eb ks) 0 m) = subst Distinct (sym (wired-list (h .wired))) (distinct (h .valid)) in
       subst (λ (bs : List Bond). Listed bs n l2 h2 q2 k) (wired-list (h .wired)) (listed held-fit d held-numbered l j q l2 h2 q2 k r e)
 
 -- the arrays that writing makes have room
-pub bag-zeros : BagRoom (replicate 250 0) (replicate 250 0) (replicate 250 0)
+pub bag-zeros : BondRoom (replicate 250 0) (replicate 250 0) (replicate 250 0)
 bag-zeros = record { los = lit≤ tt; his = lit≤ tt; kinds = lit≤ tt }
 
 pub sums-at : (sums : List ℕ) (g : ℕ → ℕ) (n l : ℕ) → sums ≡ upTo g 0 l → n ≤ l → (a : ℕ) → a < n → getD sums a 0 ≡ g a

@@ -10,18 +10,18 @@ use lib.Dec.{eqb, leb, ltb}
 use borrow.Author.Tests.{eq-eqb, ne-eqb, le-leb, lt-leb, leb-true, leb-false, lt-ltb, le-ltb}
 use Rattle.loops.specs.Loop.{pick, upTo}
 use Rattle.table.specs.Limits.{maxAtoms, maxBonds}
-use Rattle.reading_state.specs.Limits.{maxDepth}
+use Rattle.ids.specs.Limits.{maxDepth}
 use Rattle.writing_walk.specs.Token.{Bond, Tok, apart, along, ring, branch, back}
 use Rattle.writing_walk.specs.Emit.{Slot, find, release, lowest, insert, closeAll, closeToks, openToks, ringToks}
-use Rattle.writing_walk.specs.Flat.{Stand, root, first, later, Row, lead, child, flat, standOf, rowsOf}
-use Rattle.writing_walk.specs.Check.{nests}
+use Rattle.writing_walk.specs.Flat.{Position, root, first, later, WalkRow, lead, child, flat, positionOf, rowsOf}
+use Rattle.writing_walk.specs.Depth.{nests}
 use Rattle.writing_bridges.specs.Slots.{Bridged}
 use Rattle.writer.specs.Emit.{nextSlots}
 use Rattle.writer.specs.Nest.{depthLeft, depthAfter, nestFrom}
 use Rattle.writer.proofs.Tokens.{rowsFrom, laterOne, rows-end, c, o, flat-step}
 
 abbrev N : List Tok → ℕ → Bool
-N ts d = nests maxAtoms maxBonds maxDepth ts d
+N ts d = nests maxDepth ts d
 
 close-nests : (l : List Bond) (t : List Slot) (ts : List Tok) (d : ℕ) → N (closeToks l t ++ ts) d ≡ N ts d
 close-nests [] t ts d = refl
@@ -51,7 +51,7 @@ back-nests ts zero = let z : 0 - 1 ≡ 0 = omega arith in ap (N ts) (sym z)
 back-nests ts (suc d) = let z : suc d - 1 ≡ d = omega arith in ap (N ts) (sym z)
 
 lead-nests : (u x k w : ℕ) (m : Bool) (ts : List Tok) (R : ℕ → Bool) (d : ℕ) → d ≤ maxDepth → ((e : ℕ) → e ≤ maxDepth → N ts e ≡ R e)
-    → N (lead (standOf u x) m k w ++ ts) d ≡ (leb (depthAfter d u m x) maxDepth && R (depthAfter d u m x))
+    → N (lead (positionOf u x) m k w ++ ts) d ≡ (leb (depthAfter d u m x) maxDepth && R (depthAfter d u m x))
 unfolding depthAfter depthLeft
 lead-nests zero x k w m ts R d h r = r d h ∙ sym (rw (le-leb d maxDepth h))
 lead-nests (suc p) x k w m ts R d h r = rw (ne-eqb (suc p) 0 (omega arith)) (go (eqb (suc p) x))
@@ -64,7 +64,7 @@ module _ (ws ks us : List ℕ) (n : ℕ) (lw : length ws ≡ n) (lk : length ks 
   pub nests-from : (d x depth : ℕ) (t : List Slot) → x + d ≡ n → depth ≤ maxDepth
       → N (flat (c ws ks us n lw lk lu f k br g) (o ws ks us n lw lk lu f k br g) (rowsFrom ws ks us n lw lk lu x) x t) depth ≡ nestFrom us (laterOne ws ks us n lw lk lu) x d depth
   unfolding nestFrom
-  nests-from zero x depth t e h = ap (λ (r : List Row). N (flat (c ws ks us n lw lk lu f k br g) (o ws ks us n lw lk lu f k br g) r x t) depth) (rows-end ws ks us n lw lk lu x (omega arith))
+  nests-from zero x depth t e h = ap (λ (r : List WalkRow). N (flat (c ws ks us n lw lk lu f k br g) (o ws ks us n lw lk lu f k br g) r x t) depth) (rows-end ws ks us n lw lk lu x (omega arith))
   nests-from (suc d) x depth t e h =
       let C = c ws ks us n lw lk lu f k br g in
       let O = o ws ks us n lw lk lu f k br g in

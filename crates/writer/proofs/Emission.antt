@@ -12,15 +12,14 @@ use borrow.Author.Tests.{eq-eqb, ne-eqb}
 use Rattle.loops.specs.Loop.{pick, upTo}
 use Rattle.writing_walk.specs.Token.{Bond}
 use Rattle.writing_walk.specs.Emit.{Slot, closeAll, openAll}
-use Rattle.writing_walk.specs.Walk.{closing, opening}
+use Rattle.writing_walk.specs.Walk.{closingBonds, openingBonds}
 use Rattle.writing_walk.proofs.Count.{count, All, none, more}
 use Rattle.writing_walk.proofs.Read.{openOf, Within, pending, Back, closes-within, inv-rings}
 use Rattle.writing_walk.proofs.Walk.{Inside}
 use Rattle.writing_walk.proofs.Trip.{back-of}
-use Rattle.writing.specs.Spell.{kindBytes}
+use Rattle.writing.specs.Spell.{kindBytes, spelledAtom}
 use Rattle.buffer.specs.Pen.{Pen, pen, Wrote}
 use Rattle.buffer.proofs.Laws.{also, as-is, nothing}
-use Rattle.writing_atoms.specs.Fields.{spelledAtom}
 use Rattle.writing_bridges.specs.Slots.{Bridged, Slots, closesFrom, opensFrom, fits, Ended}
 use Rattle.writer.specs.Emit.{leaveBytes, enterBytes, leadBytes, headBytes, moreAt, Emitted, Texted, Pending, nextSlots, bytesFrom, fewFrom}
 
@@ -82,21 +81,21 @@ module _ {f : ℕ → Bond} {n k : ℕ} {los his : List ℕ} (br : Bridged f n k
   pub bridges-inside : Inside n (upTo f 0 k)
   bridges-inside = all-upTo (λ b. (b .lo < b .hi) × (b .hi < n)) f 0 k (λ i a b. (br .ordered i (omega arith), br .inside i (omega arith)))
 
-  pub closes-are : (x : ℕ) → closing n (upTo f 0 k) x ≡ closesFrom f n k x 0
+  pub closes-are : (x : ℕ) → closingBonds n (upTo f 0 k) x ≡ closesFrom f n k x 0
   closes-are x = let z : n - 0 ≡ n = omega arith in rw z
 
-  pub opens-are : (x : ℕ) → opening n (upTo f 0 k) x ≡ opensFrom f n k x 0
+  pub opens-are : (x : ℕ) → openingBonds n (upTo f 0 k) x ≡ opensFrom f n k x 0
   opens-are x = let z : n - 0 ≡ n = omega arith in rw z
 
   -- what closes is open
   pub open-there : (x : ℕ) (t : List Slot) → Pending (upTo f 0 k) x t → Within (closesFrom f n k x 0) (openOf t)
   open-there x t v =
-      subst (λ (l : List Bond). Within l (openOf t)) (closes-are x) (closes-within (upTo f 0 k) (closing n (upTo f 0 k)) (opening n (upTo f 0 k)) (back-of n (upTo f 0 k) bridges-inside) x t v)
+      subst (λ (l : List Bond). Within l (openOf t)) (closes-are x) (closes-within (upTo f 0 k) (closingBonds n (upTo f 0 k)) (openingBonds n (upTo f 0 k)) (back-of n (upTo f 0 k) bridges-inside) x t v)
 
   pub pending-next : (x : ℕ) (t : List Slot) → Pending (upTo f 0 k) x t → Pending (upTo f 0 k) (suc x) (nextSlots f n k x t)
   pending-next x t v =
       subst (λ (l : List Slot). Pending (upTo f 0 k) (suc x) l) (λ i. openAll (opens-are x i) (closeAll (closes-are x i) t))
-      (inv-rings (upTo f 0 k) (closing n (upTo f 0 k)) (opening n (upTo f 0 k)) (back-of n (upTo f 0 k) bridges-inside) x t v)
+      (inv-rings (upTo f 0 k) (closingBonds n (upTo f 0 k)) (openingBonds n (upTo f 0 k)) (back-of n (upTo f 0 k) bridges-inside) x t v)
 
 -- the loop stands before the atom x
 pub record Going (head : ℕ → List ℕ) (f : ℕ → Bond) (n k : ℕ) (a : List ℕ) (t : List Slot) (p : Pen) (x : ℕ) (c : List ℕ) (q : Pen) : Type 0 where

@@ -10,7 +10,7 @@ use lib.Seq.{drop-cons, getD-set-same, getD-set-other}
 use lib.Dec.{eqb, leb, ltb}
 use borrow.Author.Tests.{eq-eqb, ne-eqb, eqb-true, eqb-false, le-leb, lt-leb, leb-true, leb-false, lt-ltb, le-ltb}
 use Rattle.loops.specs.Loop.{pick, run}
-use Rattle.reading_state.specs.Limits.{maxDepth}
+use Rattle.ids.specs.Limits.{maxDepth}
 use Rattle.writing_walk.specs.Walk.{member}
 use Rattle.writer.specs.Emit.{moreAt}
 use Rattle.writer.specs.Nest.{depthLeft, depthAfter, nestFrom}

@@ -9,11 +9,11 @@ use lib.Seq.{drop-cons}
 use lib.Dec.{eqb, ltb}
 use borrow.Author.Tests.{eq-eqb, ne-eqb, eqb-true, eqb-false, lt-ltb, le-ltb, ltb-true, ltb-false}
 use Rattle.loops.specs.Loop.{pick, upTo}
-use Rattle.reading_state.specs.Limits.{bridges}
+use Rattle.ids.specs.Limits.{bridges}
 use Rattle.writing_walk.specs.Token.{Bond, Tok, apart, along, ring, branch, back}
 use Rattle.writing_walk.specs.Emit.{Slot, find, release, lowest, insert, closeAll, closeToks, openAll, openToks, rings, ringToks}
-use Rattle.writing_walk.specs.Walk.{member, closing, opening}
-use Rattle.writing_walk.specs.Flat.{Stand, root, first, later, Row, row, lead, child, flat, standOf, rowsOf}
+use Rattle.writing_walk.specs.Walk.{member, closingBonds, openingBonds}
+use Rattle.writing_walk.specs.Flat.{Position, root, first, later, WalkRow, walkRow, lead, child, flat, positionOf, rowsOf}
 use Rattle.writing_walk.proofs.Count.{All, none, more, all-append}
 use Rattle.writing_walk.proofs.Read.{openOf, Within}
 use Rattle.writing_walk.proofs.Bridges.{Low, close-low, close-length, insert-length}
@@ -44,7 +44,7 @@ module _ (g : ℕ → List ℕ) where
   child-rest true k w = ap (λ (l : List ℕ). 40 ∷ l) (append-nil (kindBytes k ++ g w))
   child-rest false k w = append-nil (kindBytes k ++ g w)
 
-  lead-rest : (x u k w : ℕ) (m : Bool) → 0 < x → restBytes g (lead (standOf u x) m k w) ≡ leadBytes x u m k ++ g w
+  lead-rest : (x u k w : ℕ) (m : Bool) → 0 < x → restBytes g (lead (positionOf u x) m k w) ≡ leadBytes x u m k ++ g w
   unfolding restBytes leadBytes leaveBytes
   lead-rest x zero k w m h = rw (ne-eqb x 0 (omega arith)) (ap (λ (l : List ℕ). 46 ∷ l) (append-nil (g w)))
   lead-rest x (suc u) k w m h = go (eqb (suc u) x)
@@ -69,7 +69,7 @@ few-append (ring k r ∷ a) b = ap (λ (t : Bool). ltb (suc r) bridges && t) (fe
 few-append (branch ∷ a) b = few-append a b
 few-append (back ∷ a) b = few-append a b
 
-few-lead : (s : Stand) (m : Bool) (k w : ℕ) → fewBridges (lead s m k w) ≡ true
+few-lead : (s : Position) (m : Bool) (k w : ℕ) → fewBridges (lead s m k w) ≡ true
 unfolding fewBridges
 few-lead root m k w = refl
 few-lead first true k w = refl
@@ -109,13 +109,13 @@ fits-long (b ∷ l) t h e = go (ltb (lowest t) 99) refl e (fits-long l (insert b
 
 -- the walk's lists, from the place x on
 module _ (ws ks us : List ℕ) (n : ℕ) (lw : length ws ≡ n) (lk : length ks ≡ n) (lu : length us ≡ n) where
-  abbrev pub rowsFrom : ℕ → List Row
+  abbrev pub rowsFrom : ℕ → List WalkRow
   rowsFrom x = rowsOf (drop x ws) (drop x ks) (drop x us) x
 
   abbrev pub laterOne : ℕ → Bool
   laterOne x = member (getD us x 0) (drop (suc x) us)
 
-  rows-step : (x : ℕ) → x < n → rowsFrom x ≡ row (getD ws x 0) (getD ks x 0) (standOf (getD us x 0) x) (laterOne x) ∷ rowsFrom (suc x)
+  rows-step : (x : ℕ) → x < n → rowsFrom x ≡ walkRow (getD ws x 0) (getD ks x 0) (positionOf (getD us x 0) x) (laterOne x) ∷ rowsFrom (suc x)
   rows-step x h =
       let a : x < length ws = omega arith in
       let b : x < length ks = omega arith in
@@ -129,10 +129,10 @@ module _ (ws ks us : List ℕ) (n : ℕ) (lw : length ws ≡ n) (lk : length ks 
 
   module _ (f : ℕ → Bond) (k : ℕ) {los his : List ℕ} (br : Bridged f n k los his) (g : ℕ → List ℕ) where
     abbrev pub c : ℕ → List Bond
-    c = closing n (upTo f 0 k)
+    c = closingBonds n (upTo f 0 k)
 
     abbrev pub o : ℕ → List Bond
-    o = opening n (upTo f 0 k)
+    o = openingBonds n (upTo f 0 k)
 
     abbrev pub headAt : ℕ → List ℕ
     headAt x = leadBytes x (getD us x 0) (laterOne x) (getD ks x 0) ++ g (getD ws x 0)
@@ -147,17 +147,17 @@ module _ (ws ks us : List ℕ) (n : ℕ) (lw : length ws ≡ n) (lk : length ks 
     next-is x t = λ i. openAll (opens-are br x i) (closeAll (closes-are br x i) t)
 
     pub flat-step : (x : ℕ) (t : List Slot) → x < n → flat c o (rowsFrom x) x t
-        ≡ lead (standOf (getD us x 0) x) (laterOne x) (getD ks x 0) (getD ws x 0) ++ (ringToks c o x t ++ flat c o (rowsFrom (suc x)) (suc x) (nextSlots f n k x t))
+        ≡ lead (positionOf (getD us x 0) x) (laterOne x) (getD ks x 0) (getD ws x 0) ++ (ringToks c o x t ++ flat c o (rowsFrom (suc x)) (suc x) (nextSlots f n k x t))
     flat-step x t h =
-        ap (λ (l : List Row). flat c o l x t) (rows-step x h)
-        ∙ ap (λ (s : List Slot). lead (standOf (getD us x 0) x) (laterOne x) (getD ks x 0) (getD ws x 0) ++ (ringToks c o x t ++ flat c o (rowsFrom (suc x)) (suc x) s)) (next-is x t)
+        ap (λ (l : List WalkRow). flat c o l x t) (rows-step x h)
+        ∙ ap (λ (s : List Slot). lead (positionOf (getD us x 0) x) (laterOne x) (getD ks x 0) (getD ws x 0) ++ (ringToks c o x t ++ flat c o (rowsFrom (suc x)) (suc x) s)) (next-is x t)
 
     -- the bytes
     pub bytes-from : (d x : ℕ) (t : List Slot) → x + d ≡ n → 0 < x → restBytes g (flat c o (rowsFrom x) x t) ≡ bytesFrom headAt f n k x d t
     unfolding bytesFrom restBytes
-    bytes-from zero x t e h = ap (λ (l : List Row). restBytes g (flat c o l x t)) (rows-end x (omega arith))
+    bytes-from zero x t e h = ap (λ (l : List WalkRow). restBytes g (flat c o l x t)) (rows-end x (omega arith))
     bytes-from (suc d) x t e h =
-        let L = lead (standOf (getD us x 0) x) (laterOne x) (getD ks x 0) (getD ws x 0) in
+        let L = lead (positionOf (getD us x 0) x) (laterOne x) (getD ks x 0) (getD ws x 0) in
         let R = ringToks c o x t in
         let T = flat c o (rowsFrom (suc x)) (suc x) (nextSlots f n k x t) in
         ap (restBytes g) (flat-step x t (omega arith)) ∙ rest-append g L (R ++ T) ∙ ap (λ (l : List ℕ). restBytes g L ++ l) (rest-append g R T)
@@ -172,14 +172,14 @@ module _ (ws ks us : List ℕ) (n : ℕ) (lw : length ws ≡ n) (lk : length ks 
         let T = flat c o (rowsFrom 1) 1 (nextSlots f n k 0 t) in
         let w = getD ws 0 0 in
         let H : headAt 0 ≡ g w = ap (λ (u : ℕ). leadBytes 0 u (laterOne 0) (getD ks 0 0) ++ g w) z in
-        ap (tokensBytes g) (flat-step 0 t (omega arith) ∙ ap (λ (u : ℕ). lead (standOf u 0) (laterOne 0) (getD ks 0 0) w ++ (R ++ T)) z)
+        ap (tokensBytes g) (flat-step 0 t (omega arith) ∙ ap (λ (u : ℕ). lead (positionOf u 0) (laterOne 0) (getD ks 0 0) w ++ (R ++ T)) z)
         ∙ ap (λ (l : List ℕ). g w ++ l) (rest-append g R T ∙ (λ i. ring-rest 0 t i ++ bytes-from d 1 (nextSlots f n k 0 t) (omega arith) (omega arith) i))
         ∙ sym (append-assoc (g w) (closeBytes (closesFrom f n k 0 0) t ++ openBytes (opensFrom f n k 0 0) (closeAll (closesFrom f n k 0 0) t)) (bytesFrom headAt f n k 1 d (nextSlots f n k 0 t)))
         ∙ ap (λ (h : List ℕ). (h ++ (closeBytes (closesFrom f n k 0 0) t ++ openBytes (opensFrom f n k 0 0) (closeAll (closesFrom f n k 0 0) t))) ++ bytesFrom headAt f n k 1 d (nextSlots f n k 0 t)) (sym H)
 
     text-none : (t : List Slot) → 0 ≡ n → tokensBytes g (flat c o (rowsFrom 0) 0 t) ≡ bytesFrom headAt f n k 0 0 t
     unfolding bytesFrom tokensBytes
-    text-none t e = ap (λ (l : List Row). tokensBytes g (flat c o l 0 t)) (rows-end 0 (omega arith))
+    text-none t e = ap (λ (l : List WalkRow). tokensBytes g (flat c o l 0 t)) (rows-end 0 (omega arith))
 
     pub text-bytes : (d : ℕ) (t : List Slot) → d ≡ n → (0 < n → getD us 0 0 ≡ 0) → tokensBytes g (flat c o (rowsFrom 0) 0 t) ≡ bytesFrom headAt f n k 0 d t
     text-bytes zero t e z = text-none t e
@@ -187,15 +187,15 @@ module _ (ws ks us : List ℕ) (n : ℕ) (lw : length ws ≡ n) (lk : length ks 
 
     pub few-from : (d x : ℕ) (t : List Slot) → x + d ≡ n → Pending (upTo f 0 k) x t → length t ≤ 99 → fewBridges (flat c o (rowsFrom x) x t) ≡ fewFrom 99 f n k x d t
     unfolding fewFrom fewBridges
-    few-from zero x t e v l = ap (λ (r : List Row). fewBridges (flat c o r x t)) (rows-end x (omega arith))
+    few-from zero x t e v l = ap (λ (r : List WalkRow). fewBridges (flat c o r x t)) (rows-end x (omega arith))
     few-from (suc d) x t e v l =
-        let L = lead (standOf (getD us x 0) x) (laterOne x) (getD ks x 0) (getD ws x 0) in
+        let L = lead (positionOf (getD us x 0) x) (laterOne x) (getD ks x 0) (getD ws x 0) in
         let C = closesFrom f n k x 0 in
         let O = opensFrom f n k x 0 in
         let T = flat c o (rowsFrom (suc x)) (suc x) (nextSlots f n k x t) in
         let low : fewBridges (closeToks C t) ≡ true = few-low (closeToks C t) (close-low 99 C t (open-there br x t v) l) in
         ap fewBridges (flat-step x t (omega arith)) ∙ few-append L (ringToks c o x t ++ T)
-        ∙ (λ i. few-lead (standOf (getD us x 0) x) (laterOne x) (getD ks x 0) (getD ws x 0) i && few-append (ringToks c o x t) T i)
+        ∙ (λ i. few-lead (positionOf (getD us x 0) x) (laterOne x) (getD ks x 0) (getD ws x 0) i && few-append (ringToks c o x t) T i)
         ∙ ap (λ (r : List Tok). fewBridges r && fewBridges T) (λ i. closeToks (closes-are br x i) t ++ openToks (opens-are br x i) (closeAll (closes-are br x i) t))
         ∙ ap (λ (b : Bool). b && fewBridges T) (few-append (closeToks C t) (openToks O (closeAll C t)) ∙ (λ i. low i && few-open O (closeAll C t) i))
         ∙ go (fits 99 O (closeAll C t)) refl (few-from d (suc x) (nextSlots f n k x t) (omega arith) (pending-next br x t v))

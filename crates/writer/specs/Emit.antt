@@ -1,4 +1,4 @@
--- Emission by arrays: what is written at an atom of the walk (01, Writing)
+-- auxiliary: emission by arrays: what is written at an atom of the walk (01, Writing)
 use Prim.Native.Nat.{ℕ, zero, suc, _+_, _<_, _≤_}
 use mathlib.Core.Path.{_≡_}
 use mathlib.Core.Bool.{Bool, true, false, not, _&&_}
@@ -12,9 +12,9 @@ use Rattle.writing_walk.specs.Token.{Bond}
 use Rattle.writing_walk.specs.Emit.{Slot, closeAll, openAll}
 use Rattle.writing_walk.proofs.Count.{count}
 use Rattle.writing_walk.proofs.Read.{openOf, Within, pending}
-use Rattle.writing.specs.Spell.{kindBytes}
+use Rattle.writing.specs.Spell.{kindBytes, spelledAtom}
 use Rattle.buffer.specs.Pen.{Pen, Wrote}
-use Rattle.writing_atoms.specs.Fields.{AtomFits, spelledAtom}
+use Rattle.writing_atoms.specs.Fields.{AtomFits}
 use Rattle.writing_bridges.specs.Slots.{Bridged, Slots, closesFrom, opensFrom, closeBytes, openBytes, fits}
 
 unfoldable pub leaveBytes : ℕ → ℕ → List ℕ

@@ -1,11 +1,11 @@
--- How deep the written branches nest, by the parents in walk order (01, Writing; refusal 15)
+-- auxiliary: how deep the written branches nest, by the parents in walk order (01, Writing; refusal 15)
 use Prim.Native.Nat.{ℕ, zero, suc, _+_, _-_}
 use mathlib.Core.Bool.{Bool, true, false, _&&_}
 use mathlib.Core.List.{List}
 use lib.ListN.{getD}
 use lib.Dec.{eqb, leb, ltb}
 use Rattle.loops.specs.Loop.{pick}
-use Rattle.reading_state.specs.Limits.{maxDepth}
+use Rattle.ids.specs.Limits.{maxDepth}
 
 -- a branch is left before a child that is not the first
 unfoldable pub depthLeft : ℕ → ℕ → ℕ → ℕ

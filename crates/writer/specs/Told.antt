@@ -13,14 +13,14 @@ use Rattle.table_graph.specs.Graph.{bondSum}
 use Rattle.writing_walk.specs.Emit.{pre}
 use Rattle.writing_walk.specs.Walk.{forestOf, place}
 use Rattle.buffer.specs.Pen.{Pen, Wrote}
-use Rattle.writing.specs.Write.{Told, bondList, tokens, textOf, fewBridges, shallow}
-use Rattle.writing_visit.specs.Tour.{Room, Walked}
+use Rattle.writing.specs.Write.{WriteResult, bondList, tokens, textOf, fewBridges, shallow}
+use Rattle.writing_visit.specs.Visit.{Room, Walked}
 use Rattle.writing_visit.specs.Wires.{Wired}
 use Rattle.writer.specs.declared.Written.{Written}
 use Rattle.writer.specs.declared.Written.the-variants.{Text, Refused}
 
 -- an answer with the output and the renumbering as they are then
-abbrev pub told : Written → List ℕ → List ℕ → Told
+abbrev pub told : Written → List ℕ → List ℕ → WriteResult
 told (Text n) out ren = record { code = 0; size = n; output = out; numbers = ren }
 told (Refused r) out ren = record { code = codeOf r; size = 0; output = out; numbers = ren }
 

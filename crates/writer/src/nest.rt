@@ -6,7 +6,7 @@ ghost use Rattle.loops.specs.Loop.{run};
 ghost use Rattle.table.specs.Limits.{maxAtoms};
 ghost use Rattle.writer.specs.Emit.{moreAt};
 ghost use Rattle.writer.specs.Nest.{depthLeft, depthAfter, nestFrom};
-use reading_state::MAX_DEPTH;
+use ids::MAX_DEPTH;
 
 // internal: for each parent, by its walk number plus 1, its last child.
 pub fn last_children(up: &[u16], n: usize, last: &mut [u16])

@@ -54,14 +54,21 @@ abbrev pub neutral : ℤ → Bool
 neutral (pos n) = eqb n 0
 neutral (negsuc n) = false
 
--- "without brackets exactly if isotope, charge and extension are 0, its letter is allowed outside, and read there it would get the same hydrogens"
-unfoldable pub unbracketed : List ℤ → List ℤ → ℕ → ℕ → Bool
-unbracketed atoms bonds m a =
+-- "without brackets exactly if isotope, charge and extension are 0, its letter is allowed outside, and read there it would get the same hydrogens"; sum: its bond sum
+unfoldable pub withoutBrackets : List ℤ → ℕ → ℕ → Bool
+withoutBrackets atoms a sum =
     eqb (number (atomCell atoms a ISOTOPE)) 0 && neutral (atomCell atoms a CHARGE) && eqb (number (atomCell atoms a EXTENSION)) 0
-    && bare (element atoms a) && eqb (implied (element atoms a) (selected atoms a) (bondSum bonds m a)) (hydrogens atoms a)
+    && bare (element atoms a) && eqb (implied (element atoms a) (selected atoms a) sum) (hydrogens atoms a)
 
-unfoldable pub atomBytes : List ℤ → List ℤ → ℕ → ℕ → List ℕ
-atomBytes atoms bonds m a = pick (unbracketed atoms bonds m a) (symbolBytes (element atoms a) (selected atoms a)) (bracketBytes atoms a)
+unfoldable pub spelledAtom : List ℤ → ℕ → ℕ → List ℕ
+spelledAtom atoms a sum = pick (withoutBrackets atoms a sum) (symbolBytes (element atoms a) (selected atoms a)) (bracketBytes atoms a)
+
+-- of an atom of a molecule
+abbrev pub unbracketed : List ℤ → List ℤ → ℕ → ℕ → Bool
+unbracketed atoms bonds m a = withoutBrackets atoms a (bondSum bonds m a)
+
+abbrev pub atomBytes : List ℤ → List ℤ → ℕ → ℕ → List ℕ
+atomBytes atoms bonds m a = spelledAtom atoms a (bondSum bonds m a)
 
 -- "kind 0 is written as nothing"
 unfoldable pub kindBytes : ℕ → List ℕ

@@ -9,19 +9,19 @@ use Rattle.loops.specs.Loop.{pick, upTo}
 use Rattle.table.specs.Limits.{maxAtoms, maxBonds}
 use Rattle.table.specs.Cells.{end1, end2, kind}
 use Rattle.table.specs.Valid.{valid, enough}
-use Rattle.reading_state.specs.Limits.{maxDepth, bridges, maxText}
+use Rattle.ids.specs.Limits.{maxDepth, bridges, maxText}
 use Rattle.writing_walk.specs.Token.{Bond, bond, Tok, apart, along, ring, branch, back}
 use Rattle.writing_walk.specs.Emit.{pre}
 use Rattle.writing_walk.specs.Walk.{forestOf, place, write}
-use Rattle.writing_walk.specs.Check.{nests}
+use Rattle.writing_walk.specs.Depth.{nests}
 use Rattle.writing.specs.Spell.{atomBytes, tokensBytes}
 
-abbrev pub bondAt : List ℤ → ℕ → Bond
-bondAt bonds b = bond (end1 bonds b) (end2 bonds b) (kind bonds b)
+abbrev pub walkBond : List ℤ → ℕ → Bond
+walkBond bonds b = bond (end1 bonds b) (end2 bonds b) (kind bonds b)
 
 -- the bonds of a molecule, by ascending number
 abbrev pub bondList : List ℤ → ℕ → List Bond
-bondList bonds m = upTo (bondAt bonds) 0 m
+bondList bonds m = upTo (walkBond bonds) 0 m
 
 -- the tokens of the walk, with atom numbers
 unfoldable pub tokens : List ℤ → ℕ → ℕ → List Tok
@@ -46,42 +46,42 @@ fewBridges (back ∷ ts) = fewBridges ts
 
 -- 15: "the written branches nest over 64 deep"
 abbrev pub shallow : List Tok → Bool
-shallow ts = nests maxAtoms maxBonds maxDepth ts 0
+shallow ts = nests maxDepth ts 0
 
 -- what writing hands back: 0 with the length, or a code with the length 0; the output and the renumbering as they are then
-pub record Told : Type 0 where
+pub record WriteResult : Type 0 where
   pub code : ℕ
   pub size : ℕ
   pub output : List ℕ
   pub numbers : List ℕ
 
-abbrev pub refused : ℕ → List ℕ → List ℕ → Told
-refused c out ren = record { code = c; size = 0; output = replicate (length out) 0; numbers = replicate (length ren) 0 }
+abbrev pub writeRefused : ℕ → List ℕ → List ℕ → WriteResult
+writeRefused c out ren = record { code = c; size = 0; output = replicate (length out) 0; numbers = replicate (length ren) 0 }
 
-abbrev pub short : List ℕ → List ℕ → Told
-short out ren = record { code = 1; size = 0; output = out; numbers = ren }
+abbrev pub writeShort : List ℕ → List ℕ → WriteResult
+writeShort out ren = record { code = 1; size = 0; output = out; numbers = ren }
 
 -- "An acceptance zeroes the unused rest"
 abbrev pub filled : List ℕ → ℕ → List ℕ
 filled l n = l ++ replicate (n - length l) 0
 
-abbrev pub accepted : List ℕ → List ℕ → List ℕ → List ℕ → Told
-accepted text order out ren =
+abbrev pub writeAccepted : List ℕ → List ℕ → List ℕ → List ℕ → WriteResult
+writeAccepted text order out ren =
     record { code = 0; size = length text; output = filled text (length out); numbers = filled order (length ren) }
 
 -- "14, 15, 16 over the whole walk"
-unfoldable pub writeValid : List ℤ → List ℤ → ℕ → ℕ → List ℕ → List ℕ → Told
+unfoldable pub writeValid : List ℤ → List ℤ → ℕ → ℕ → List ℕ → List ℕ → WriteResult
 writeValid atoms bonds n m out ren =
     pick (fewBridges (tokens bonds n m))
     (pick (shallow (tokens bonds n m))
-    (pick (leb (length (textOf atoms bonds n m)) maxText) (accepted (textOf atoms bonds n m) (renumbering bonds n m) out ren) (refused 16 out ren))
-    (refused 15 out ren))
-    (refused 14 out ren)
+    (pick (leb (length (textOf atoms bonds n m)) maxText) (writeAccepted (textOf atoms bonds n m) (renumbering bonds n m) out ren) (writeRefused 16 out ren))
+    (writeRefused 15 out ren))
+    (writeRefused 14 out ren)
 
 abbrev pub lent : List ℤ → List ℤ → List ℕ → List ℕ → Bool
 lent atoms bonds out ren = enough atoms bonds && leb maxText (length out) && leb maxAtoms (length ren)
 
 -- 1, 13, then 14, 15, 16
-unfoldable pub writeOf : List ℤ → List ℤ → ℕ → ℕ → List ℕ → List ℕ → Told
+unfoldable pub writeOf : List ℤ → List ℤ → ℕ → ℕ → List ℕ → List ℕ → WriteResult
 writeOf atoms bonds n m out ren =
-    pick (lent atoms bonds out ren) (pick (valid atoms bonds n m) (writeValid atoms bonds n m out ren) (refused 13 out ren)) (short out ren)
+    pick (lent atoms bonds out ren) (pick (valid atoms bonds n m) (writeValid atoms bonds n m out ren) (writeRefused 13 out ren)) (writeShort out ren)

@@ -18,8 +18,8 @@ use Rattle.element.specs.Lookup.{bytesOf, selectedBytes, spelling}
 use Rattle.element.specs.declared.Spelling.{Spelling}
 use Rattle.table.specs.Limits.{ISOTOPE, CHARGE, EXTENSION}
 use Rattle.table.specs.Cells.{number, inRange, atomCell, element, selected, hydrogens}
-use Rattle.writing.specs.Spell.{digitByte, decimal, kindBytes, bridgeBytes, isotopeBytes, symbolBytes, sizeBytes, hydrogenBytes, chargeBytes, extensionBytes, bracketBytes, neutral}
-use Rattle.writing_atoms.specs.Fields.{letters, outside, spelledAtom}
+use Rattle.writing.specs.Spell.{digitByte, decimal, kindBytes, bridgeBytes, isotopeBytes, symbolBytes, sizeBytes, hydrogenBytes, chargeBytes, extensionBytes, bracketBytes, neutral, withoutBrackets, spelledAtom}
+use Rattle.writing_atoms.specs.Fields.{letters}
 
 -- the digits of a number
 pub digits1 : (x : ℕ) → x < 10 → decimal x ≡ digitByte x ∷ []
@@ -198,10 +198,10 @@ neutral-is (pos n) = go (eqb n 0) refl
     go true e = let z = eqb-true n 0 e in rw (le-leb 0 n (omega arith), le-leb n 0 (omega arith))
     go false e = let z = eqb-false n 0 e in rw (le-leb 0 n (omega arith), lt-leb n 0 (omega arith))
 
-pub bare-atom : (t : List ℤ) (a sum e s : ℕ) → outside t a sum ≡ true → e ≡ element t a → s ≡ selected t a → spelledAtom t a sum ≡ symbolBytes e s
+pub bare-atom : (t : List ℤ) (a sum e s : ℕ) → withoutBrackets t a sum ≡ true → e ≡ element t a → s ≡ selected t a → spelledAtom t a sum ≡ symbolBytes e s
 unfolding spelledAtom
 bare-atom t a sum e s h p q = simp (h, p, q)
 
-pub bracket-atom : (t : List ℤ) (a sum : ℕ) → outside t a sum ≡ false → spelledAtom t a sum ≡ bracketBytes t a
+pub bracket-atom : (t : List ℤ) (a sum : ℕ) → withoutBrackets t a sum ≡ false → spelledAtom t a sum ≡ bracketBytes t a
 unfolding spelledAtom
 bracket-atom t a sum h = simp h

@@ -6,8 +6,8 @@ ghost use lib.IntN.{pos, negsuc};
 ghost use Rattle.table.specs.Limits.{maxAtoms};
 ghost use Rattle.table.specs.Cells.{inRange};
 ghost use Rattle.buffer.specs.Pen.{pen, Wrote};
-ghost use Rattle.writing_atoms.specs.Fields.{letters, AtomFits, outside, spelledAtom};
-ghost use Rattle.writing.specs.Spell.{isotopeBytes, symbolBytes, hydrogenBytes, sizeBytes, chargeBytes, extensionBytes, bracketBytes};
+ghost use Rattle.writing_atoms.specs.Fields.{letters, AtomFits};
+ghost use Rattle.writing.specs.Spell.{isotopeBytes, symbolBytes, hydrogenBytes, sizeBytes, chargeBytes, extensionBytes, bracketBytes, withoutBrackets, spelledAtom};
 use crate::decimal;
 use element::Spelling;
 use ids::AtomId;
@@ -120,7 +120,7 @@ fn bracket(atoms: &[i32], a: AtomId, out: &mut [u8], at: usize) -> usize
 fn is_outside(atoms: &[i32], a: AtomId, sum: usize) -> bool
     requires { ⌜ a .0 < maxAtoms ⌝ }
     requires { ⌜ AtomFits (now atoms) (a .0) ⌝ }
-    ensures { λ r. ⌜ r ≡ outside (now (atoms .entry)) (a .0) sum ⌝ }
+    ensures { λ r. ⌜ r ≡ withoutBrackets (now (atoms .entry)) (a .0) sum ⌝ }
 {
     let e = table::cell::atom_number(atoms, a, ELEMENT);
     let implied = valence::implied(e, table::cell::atom_number(atoms, a, SELECTED), sum);

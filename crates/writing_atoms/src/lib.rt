@@ -11,7 +11,7 @@ fn digit(out: &mut [u8], at: usize, d: usize) -> usize
     requires { ⌜ d < 10 ⌝ }
     ensures { λ r. ⌜ Wrote (digitByte d ∷ []) (pen (now (out .entry)) at) (pen (now (out .exit)) r) ⌝ }
 {
-    buffer::put(out, at, 48 + d as u8)
+    buffer::put(out, at, b'0' + d as u8)
 }
 
 // internal: a number in decimal.
@@ -37,7 +37,7 @@ pub fn decimal(out: &mut [u8], at: usize, x: usize) -> usize
     digit(out, at, x % 10)
 }
 
-// The symbol of a bond's kind; nothing for an elided bond.
+// internal: the symbol of a bond's kind; nothing for an elided bond.
 pub fn bond_symbol(out: &mut [u8], at: usize, k: usize) -> usize
     ensures { λ r. ⌜ Wrote (kindBytes k) (pen (now (out .entry)) at) (pen (now (out .exit)) r) ⌝ }
 {

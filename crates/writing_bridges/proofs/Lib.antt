@@ -1,6 +1,6 @@
 pub mod Slots
 pub mod Sweep
 pub mod Laws
-pub mod Bag
+pub mod BondArrays
 pub mod Spare
 pub mod Listed

@@ -17,10 +17,10 @@ use Rattle.writing_walk.specs.Flat.{ups}
 use Rattle.writing_walk.proofs.Count.{bit, count, All, none, more, all-map}
 use Rattle.writing_walk.proofs.Trip.{inside-renumbered, inside-unused}
 use Rattle.writing_walk.proofs.Twice.{Distinct}
-use Rattle.writing_visit.specs.Tour.{lay, BondsFit}
+use Rattle.writing_visit.specs.Visit.{lay, BondsFit}
 use Rattle.writing_visit.proofs.Ways.{bonds-inside}
 use Rattle.writing_visit.proofs.Roots.{laid-at}
-use Rattle.writing_bridges.specs.Unused.{Bag, bag, treeBond, addBond, inWalk, Numbered, BagRoom}
+use Rattle.writing_bridges.specs.Unused.{BondArrays, bondArrays, treeBond, addBond, inWalk, Numbered, BondRoom}
 use Rattle.writing_bridges.specs.Slots.{Bridged}
 use Rattle.writing_bridges.proofs.Spare.{keep-same, unused-is, distinct-unused}
 
@@ -29,24 +29,24 @@ module _ (up : List ℕ) (R : ℕ → Bond) where
   abbrev spare : Bond → Bool
   spare b = not (treeBond up b)
 
-  laid : Bag → List Bond → Bag
-  laid g W = bag (lay (g .used) (map (λ b. b .lo) W) (g .los)) (lay (g .used) (map (λ b. b .hi) W) (g .his)) (lay (g .used) (map (λ b. b .kind) W) (g .kinds)) (g .used + length W)
+  laid : BondArrays → List Bond → BondArrays
+  laid g W = bondArrays (lay (g .used) (map (λ b. b .lo) W) (g .los)) (lay (g .used) (map (λ b. b .hi) W) (g .his)) (lay (g .used) (map (λ b. b .kind) W) (g .kinds)) (g .used + length W)
 
-  laid-none : (g : Bag) → g ≡ laid g []
+  laid-none : (g : BondArrays) → g ≡ laid g []
   unfolding laid lay
-  laid-none g = let e : g .used ≡ g .used + 0 = omega arith in ap (bag (g .los) (g .his) (g .kinds)) e
+  laid-none g = let e : g .used ≡ g .used + 0 = omega arith in ap (bondArrays (g .los) (g .his) (g .kinds)) e
 
-  laid-step : (b : Bond) (g : Bag) (W : List Bond) → laid (addBond up b g) W ≡ laid g (keepIf (spare b) b W)
+  laid-step : (b : Bond) (g : BondArrays) (W : List Bond) → laid (addBond up b g) W ≡ laid g (keepIf (spare b) b W)
   unfolding laid lay addBond
   laid-step b g W = go (treeBond up b)
     where
-      go : (t : Bool) → laid (pick t g (bag (set (g .los) (g .used) (b .lo)) (set (g .his) (g .used) (b .hi)) (set (g .kinds) (g .used) (b .kind)) (suc (g .used)))) W ≡ laid g (keepIf (not t) b W)
+      go : (t : Bool) → laid (pick t g (bondArrays (set (g .los) (g .used) (b .lo)) (set (g .his) (g .used) (b .hi)) (set (g .kinds) (g .used) (b .kind)) (suc (g .used)))) W ≡ laid g (keepIf (not t) b W)
       go true = refl
       go false =
           let e : suc (g .used) + length W ≡ g .used + suc (length W) = omega arith in
-          ap (bag (lay (suc (g .used)) (map (λ b. b .lo) W) (set (g .los) (g .used) (b .lo))) (lay (suc (g .used)) (map (λ b. b .hi) W) (set (g .his) (g .used) (b .hi))) (lay (suc (g .used)) (map (λ b. b .kind) W) (set (g .kinds) (g .used) (b .kind)))) e
+          ap (bondArrays (lay (suc (g .used)) (map (λ b. b .lo) W) (set (g .los) (g .used) (b .lo))) (lay (suc (g .used)) (map (λ b. b .hi) W) (set (g .his) (g .used) (b .hi))) (lay (suc (g .used)) (map (λ b. b .kind) W) (set (g .kinds) (g .used) (b .kind)))) e
 
-  bag-run : (b d : ℕ) (g : Bag) → run (λ i. addBond up (R i)) b d g ≡ laid g (keep spare (upTo R b d))
+  bag-run : (b d : ℕ) (g : BondArrays) → run (λ i. addBond up (R i)) b d g ≡ laid g (keep spare (upTo R b d))
   unfolding run upTo
   bag-run b zero g = laid-none g
   bag-run b (suc d) g = bag-run (suc b) d (addBond up (R b) g) ∙ laid-step (R b) g (keep spare (upTo R (suc b) d))
@@ -146,14 +146,14 @@ module _ {bonds : ℕ → Bond} {n m : ℕ} {v u : List ℕ} (fit : BondsFit bon
       ∙ ap (keep (λ b. not (treeBond u b))) e)
 
   -- THE STATEMENT
-  pub listed : (l h q l2 h2 q2 : List ℕ) (k : ℕ) → BagRoom l h q → bag l2 h2 q2 k ≡ run (λ b. addBond u (inWalk bonds n m b)) 0 m (bag l h q 0) → Listed (upTo bonds 0 m) n l2 h2 q2 k
+  pub listed : (l h q l2 h2 q2 : List ℕ) (k : ℕ) → BondRoom l h q → bondArrays l2 h2 q2 k ≡ run (λ b. addBond u (inWalk bonds n m b)) 0 m (bondArrays l h q 0) → Listed (upTo bonds 0 m) n l2 h2 q2 k
   unfolding laid
   listed l h q l2 h2 q2 k room e =
       let U = unused n bs in
-      let E = e ∙ bag-run u (inWalk bonds n m) 0 m (bag l h q 0) ∙ ap (laid u (inWalk bonds n m) (bag l h q 0)) spare-list in
+      let E = e ∙ bag-run u (inWalk bonds n m) 0 m (bondArrays l h q 0) ∙ ap (laid u (inWalk bonds n m) (bondArrays l h q 0)) spare-list in
       let i = bonds-inside fit in
       let z : 0 + length U ≡ length U = omega arith in
-      let len : k ≡ length U = ap (λ (g : Bag). g .used) E ∙ z in
+      let len : k ≡ length U = ap (λ (g : BondArrays). g .used) E ∙ z in
       let short : length U ≤ m = (let a = keep-length (spare u (inWalk bonds n m)) (upTo (inWalk bonds n m) 0 m) in let b = upTo-long (inWalk bonds n m) 0 m in let c = ap length spare-list in omega arith) in
       let f = fit .few-bonds in
       let r1 = room .los in
@@ -163,12 +163,12 @@ module _ {bonds : ℕ → Bond} {n m : ℕ} {v u : List ℕ} (fit : BondsFit bon
         bond-at = λ j. getD U j (bond 0 0 0);
         few = omega arith;
         bridged = record {
-          lo = field-at (λ b. b .lo) U l l2 k len (ap (λ (g : Bag). g .los) E) (omega arith);
-          hi = field-at (λ b. b .hi) U h h2 k len (ap (λ (g : Bag). g .his) E) (omega arith);
+          lo = field-at (λ b. b .lo) U l l2 k len (ap (λ (g : BondArrays). g .los) E) (omega arith);
+          hi = field-at (λ b. b .hi) U h h2 k len (ap (λ (g : BondArrays). g .his) E) (omega arith);
           ordered = λ j y. all-place (bond 0 0 0) (λ b. (b .lo < b .hi) × (b .hi < n)) U (inside-unused n bs i) j (omega arith) .0;
           inside = λ j y. all-place (bond 0 0 0) (λ b. (b .lo < b .hi) × (b .hi < n)) U (inside-unused n bs i) j (omega arith) .1;
           apart = λ a c y w. same-place U (distinct-unused n bs i distinct) a c (omega arith) (omega arith);
         };
-        kind-at = field-at (λ b. b .kind) U q q2 k len (ap (λ (g : Bag). g .kinds) E) (omega arith);
+        kind-at = field-at (λ b. b .kind) U q q2 k len (ap (λ (g : BondArrays). g .kinds) E) (omega arith);
         all = ap (upTo (λ j. getD U j (bond 0 0 0)) 0) len ∙ places (bond 0 0 0) U;
       }

@@ -1,4 +1,4 @@
--- The bridges that are open, in an array: a slot holds 0, or the number of a bridge bond plus 1 (01, Writing)
+-- auxiliary: the bridges that are open, in an array: a slot holds 0, or the number of a bridge bond plus 1 (01, Writing)
 use Prim.Native.Nat.{ℕ, suc, _-_, _<_, _≤_}
 use mathlib.Core.Path.{_≡_}
 use mathlib.Core.Bool.{Bool, true, _&&_}

@@ -1,4 +1,4 @@
--- The bonds that the walk does not use, in three arrays (01, Writing: they become bridges)
+-- auxiliary: the bonds that the walk does not use, in three arrays (01, Writing: they become bridges)
 use Prim.Native.Nat.{ℕ, suc, _-_, _<_, _≤_}
 use mathlib.Core.Path.{_≡_}
 use mathlib.Core.Bool.{Bool}
@@ -13,22 +13,22 @@ use Rattle.writing_walk.specs.Walk.{forestOf, place, renumber}
 use Rattle.writing_walk.specs.Flat.{ups}
 
 -- three arrays, and how many of their places are used
-pub record Bag : Type 0 where
+pub record BondArrays : Type 0 where
   pub los : List ℕ
   pub his : List ℕ
   pub kinds : List ℕ
   pub used : ℕ
 
-abbrev pub bag : List ℕ → List ℕ → List ℕ → ℕ → Bag
-bag l h k c = record { los = l; his = h; kinds = k; used = c }
+abbrev pub bondArrays : List ℕ → List ℕ → List ℕ → ℕ → BondArrays
+bondArrays l h k c = record { los = l; his = h; kinds = k; used = c }
 
 -- a bond in walk numbers that joins an atom to its parent
 abbrev pub treeBond : List ℕ → Bond → Bool
 treeBond up b = eqb (getD up (b .hi) 0) (suc (b .lo))
 
 -- a bond that is none is added
-unfoldable pub addBond : List ℕ → Bond → Bag → Bag
-addBond up b g = pick (treeBond up b) g (bag (set (g .los) (g .used) (b .lo)) (set (g .his) (g .used) (b .hi)) (set (g .kinds) (g .used) (b .kind)) (suc (g .used)))
+unfoldable pub addBond : List ℕ → Bond → BondArrays → BondArrays
+addBond up b g = pick (treeBond up b) g (bondArrays (set (g .los) (g .used) (b .lo)) (set (g .his) (g .used) (b .hi)) (set (g .kinds) (g .used) (b .kind)) (suc (g .used)))
 
 -- the bond b in walk numbers
 unfoldable pub inWalk : (ℕ → Bond) → ℕ → ℕ → ℕ → Bond
@@ -43,7 +43,7 @@ pub record Numbered (bs : List Bond) (n : ℕ) (v u : List ℕ) : Type 0 where
   pub ups : maxAtoms ≤ length u
 
 -- the arrays have room
-pub record BagRoom (l h k : List ℕ) : Type 0 where
+pub record BondRoom (l h k : List ℕ) : Type 0 where
   pub los : maxBonds ≤ length l
   pub his : maxBonds ≤ length h
   pub kinds : maxBonds ≤ length k
@@ -53,8 +53,8 @@ abbrev pub many : ℕ
 many = 65535
 
 -- the mark of an end of the bond i, from the mark before
-unfoldable pub markOf : ℕ → ℕ → ℕ
-markOf m i = pick (eqb m 0) (suc i) many
+unfoldable pub endMark : ℕ → ℕ → ℕ
+endMark m i = pick (eqb m 0) (suc i) many
 
 -- m is the mark of an end of the bond i
 pub record Mark (m i : ℕ) : Type 0 where

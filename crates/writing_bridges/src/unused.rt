@@ -5,9 +5,9 @@ ghost use lib.ListN.{length, replicate};
 ghost use Rattle.loops.specs.Loop.{run, upTo};
 ghost use Rattle.table.specs.Limits.{maxAtoms, maxBonds};
 ghost use Rattle.writing_walk.specs.Token.{bond};
-ghost use Rattle.writing_visit.specs.Tour.{BondsFit};
+ghost use Rattle.writing_visit.specs.Visit.{BondsFit};
 ghost use Rattle.writing_visit.specs.Wires.{wires};
-ghost use Rattle.writing_bridges.specs.Unused.{bag, addBond, inWalk, Numbered, BagRoom, markOf, Marked};
+ghost use Rattle.writing_bridges.specs.Unused.{bondArrays, addBond, inWalk, Numbered, BondRoom, endMark, Marked};
 use ids::BondId;
 use table::MAX_ATOMS;
 use table::MAX_BONDS;
@@ -18,7 +18,7 @@ pub const MANY: u16 = 65535;
 // The mark of a walk number that is an end of the bond i, from its mark before.
 fn mark(old: u16, i: usize) -> u16
     requires { ⌜ i < maxBonds ⌝ }
-    ensures { λ r. ⌜ r ≡ markOf old i ⌝ }
+    ensures { λ r. ⌜ r ≡ endMark old i ⌝ }
 {
     if old == 0 { (i + 1) as u16 } else { MANY }
 }
@@ -36,12 +36,12 @@ fn add_bond(
     used: usize,
 ) -> usize
     requires { ⌜ maxAtoms ≤ length (now up) ⌝ }
-    requires { ⌜ BagRoom (now los) (now his) (now kinds) ⌝ }
+    requires { ⌜ BondRoom (now los) (now his) (now kinds) ⌝ }
     requires { ⌜ Marked (now marks) (now los) (now his) used ⌝ }
     requires { ⌜ (0 < p) × (p < q) ⌝ }
     requires { ⌜ (q ≤ maxAtoms) × (used < maxBonds) ⌝ }
     requires { ⌜ kind < 4 ⌝ }
-    ensures { λ r. ⌜ bag (now (los .exit)) (now (his .exit)) (now (kinds .exit)) r ≡ addBond (now (up .entry)) (bond (p - 1) (q - 1) kind) (bag (now (los .entry)) (now (his .entry)) (now (kinds .entry)) used) ⌝ }
+    ensures { λ r. ⌜ bondArrays (now (los .exit)) (now (his .exit)) (now (kinds .exit)) r ≡ addBond (now (up .entry)) (bond (p - 1) (q - 1) kind) (bondArrays (now (los .entry)) (now (his .entry)) (now (kinds .entry)) used) ⌝ }
     ensures { λ r. ⌜ Marked (now (marks .exit)) (now (los .exit)) (now (his .exit)) r ⌝ }
 {
     let low = p - 1;
@@ -75,10 +75,10 @@ fn add_unused(
 ) -> usize
     requires { ⌜ BondsFit (wires (now ea) (now eb) (now ks)) n m ⌝ }
     requires { ⌜ Numbered (upTo (wires (now ea) (now eb) (now ks)) 0 m) n (now number) (now up) ⌝ }
-    requires { ⌜ BagRoom (now los) (now his) (now kinds) ⌝ }
+    requires { ⌜ BondRoom (now los) (now his) (now kinds) ⌝ }
     requires { ⌜ Marked (now marks) (now los) (now his) used ⌝ }
     requires { ⌜ (b .0 < m) × (used < maxBonds) ⌝ }
-    ensures { λ r. ⌜ bag (now (los .exit)) (now (his .exit)) (now (kinds .exit)) r ≡ addBond (now (up .entry)) (inWalk (wires (now (ea .entry)) (now (eb .entry)) (now (ks .entry))) n m (b .0)) (bag (now (los .entry)) (now (his .entry)) (now (kinds .entry)) used) ⌝ }
+    ensures { λ r. ⌜ bondArrays (now (los .exit)) (now (his .exit)) (now (kinds .exit)) r ≡ addBond (now (up .entry)) (inWalk (wires (now (ea .entry)) (now (eb .entry)) (now (ks .entry))) n m (b .0)) (bondArrays (now (los .entry)) (now (his .entry)) (now (kinds .entry)) used) ⌝ }
     ensures { λ r. ⌜ Marked (now (marks .exit)) (now (los .exit)) (now (his .exit)) r ⌝ }
 {
     let i = b.0;
@@ -109,9 +109,9 @@ pub fn unused(
 ) -> usize
     requires { ⌜ BondsFit (wires (now ea) (now eb) (now ks)) n m ⌝ }
     requires { ⌜ Numbered (upTo (wires (now ea) (now eb) (now ks)) 0 m) n (now number) (now up) ⌝ }
-    requires { ⌜ BagRoom (now los) (now his) (now kinds) ⌝ }
+    requires { ⌜ BondRoom (now los) (now his) (now kinds) ⌝ }
     requires { ⌜ now marks ≡ replicate maxAtoms 0 ⌝ }
-    ensures { λ r. ⌜ bag (now (los .exit)) (now (his .exit)) (now (kinds .exit)) r ≡ run (λ b. addBond (now (up .entry)) (inWalk (wires (now (ea .entry)) (now (eb .entry)) (now (ks .entry))) n m b)) 0 m (bag (now (los .entry)) (now (his .entry)) (now (kinds .entry)) 0) ⌝ }
+    ensures { λ r. ⌜ bondArrays (now (los .exit)) (now (his .exit)) (now (kinds .exit)) r ≡ run (λ b. addBond (now (up .entry)) (inWalk (wires (now (ea .entry)) (now (eb .entry)) (now (ks .entry))) n m b)) 0 m (bondArrays (now (los .entry)) (now (his .entry)) (now (kinds .entry)) 0) ⌝ }
     ensures { λ r. ⌜ Marked (now (marks .exit)) (now (los .exit)) (now (his .exit)) r ⌝ }
 {
     let mut used = 0;

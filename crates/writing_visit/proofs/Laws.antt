@@ -11,7 +11,7 @@ use Rattle.writing_walk.specs.Emit.{Forest, leaf, node, size, pre}
 use Rattle.writing_walk.specs.Walk.{member}
 use Rattle.writing_walk.specs.Flat.{kinds, ups}
 use Rattle.writing_walk.proofs.Trip.{size-length}
-use Rattle.writing_visit.specs.Tour.{touching, firstFrom, otherEnd, lay, grow, unseen, BondsFit, Room, Kept, Stands, Sheet, sheet, Laid, Grown, markOf}
+use Rattle.writing_visit.specs.Visit.{touching, firstFrom, otherEnd, lay, grow, unseen, BondsFit, Room, Kept, Visited, WalkArrays, walkArrays, Laid, Grown, walkMark}
 use Rattle.writing_visit.proofs.Ways.{Next, next-is, other-below, grow-same, grow-end, grow-skip, grow-visit}
 use Rattle.writing_visit.proofs.Seen.{unmarked, marked, room-left, stands-add, stands-cast, unseen-set}
 
@@ -29,15 +29,15 @@ length-ups leaf p n = refl
 length-ups (node w k f g) p n = ap suc (length-append (ups f (suc n) (suc n)) (ups g p (suc n + size f)) ∙ (λ i. length-ups f (suc n) (suc n) i + length-ups g p (suc n + size f) i))
 
 -- nothing is added
-pub laid-leaf : (n p : ℕ) (s : List ℕ) (x : Sheet) → Stands n s (x .count) (x .number) → Laid n p leaf s x x
+pub laid-leaf : (n p : ℕ) (s : List ℕ) (x : WalkArrays) → Visited n s (x .count) (x .number) → Laid n p leaf s x x
 unfolding lay
 laid-leaf n p s x st = record { order = refl; kind = refl; up = refl; stands = stands-cast n (x .count) s (s ++ []) (x .number) (sym (append-nil s)) st }
 
 -- an atom, what is below it, and what comes after it
-pub laid-node : (n p w k : ℕ) (f g : Forest) (s : List ℕ) (o v v1 u q : List ℕ) (c : ℕ) (y z : Sheet) → length s ≡ c
-    → Laid n (suc c) f (s ++ (w ∷ [])) (sheet (set o c w) v1 (set u c p) (set q c k) (c + 1)) y
+pub laid-node : (n p w k : ℕ) (f g : Forest) (s : List ℕ) (o v v1 u q : List ℕ) (c : ℕ) (y z : WalkArrays) → length s ≡ c
+    → Laid n (suc c) f (s ++ (w ∷ [])) (walkArrays (set o c w) v1 (set u c p) (set q c k) (c + 1)) y
     → Laid n p g ((s ++ (w ∷ [])) ++ pre f) y z
-    → Laid n p (node w k f g) s (sheet o v u q c) z
+    → Laid n p (node w k f g) s (walkArrays o v u q c) z
 unfolding lay
 laid-node n p w k f g s o v v1 u q c y z e a b =
     let d : c + 1 ≡ suc c = add-one c in
@@ -59,12 +59,12 @@ seen-less v1 v2 a count h e q =
     let x : unseen v2 ≡ unseen (set v1 a (suc count)) = ap unseen (q ∙ ap (set v1 a) (add-one count)) in
     omega arith
 
-laid-cast : (n p : ℕ) (F G : Forest) (s : List ℕ) (x y : Sheet) → F ≡ G → Laid n p G s x y → Laid n p F s x y
+laid-cast : (n p : ℕ) (F G : Forest) (s : List ℕ) (x y : WalkArrays) → F ≡ G → Laid n p G s x y → Laid n p F s x y
 laid-cast n p F G s x y e l = subst (λ (H : Forest). Laid n p H s x y) (sym e) l
 
 module _ {bonds : ℕ → Bond} {n m : ℕ} (fit : BondsFit bonds n m) where
   -- from the next bond at an atom, so from any number before it
-  pub grown-from : (p v from r : ℕ) (x y : Sheet) → from ≤ m → r ≡ firstFrom (touching bonds v) from (m - from) → Grown n p (grow bonds n m v r) x y → Grown n p (grow bonds n m v from) x y
+  pub grown-from : (p v from r : ℕ) (x y : WalkArrays) → from ≤ m → r ≡ firstFrom (touching bonds v) from (m - from) → Grown n p (grow bonds n m v r) x y → Grown n p (grow bonds n m v from) x y
   grown-from p v from r x y h e g =
       record {
         fewer = g .fewer;
@@ -72,7 +72,7 @@ module _ {bonds : ℕ → Bond} {n m : ℕ} (fit : BondsFit bonds n m) where
       }
 
   -- no bond is left
-  pub at-end : (p v b : ℕ) (x : Sheet) → m ≤ b → Grown n p (grow bonds n m v b) x x
+  pub at-end : (p v b : ℕ) (x : WalkArrays) → m ≤ b → Grown n p (grow bonds n m v b) x x
   at-end p v b x h = record { fewer = omega arith; laid = λ s st. laid-cast n p (grow bonds n m v b s) leaf s x x (grow-end fit v b h s) (laid-leaf n p s x st) }
 
   -- b is a bond at v, and r the next one
@@ -84,13 +84,13 @@ module _ {bonds : ℕ → Bond} {n m : ℕ} (fit : BondsFit bonds n m) where
     w = otherEnd bonds b v
 
     -- the other end was visited
-    pub at-seen : (p : ℕ) (x y : Sheet) (z : ℕ) → z ≡ otherEnd bonds b v → (getD (x .number) z 0 ≡ 0 → ⊥) → Grown n p (grow bonds n m v r) x y → Grown n p (grow bonds n m v b) x y
+    pub at-seen : (p : ℕ) (x y : WalkArrays) (z : ℕ) → z ≡ otherEnd bonds b v → (getD (x .number) z 0 ≡ 0 → ⊥) → Grown n p (grow bonds n m v r) x y → Grown n p (grow bonds n m v b) x y
     at-seen p x y z e k g =
         record {
           fewer = g .fewer;
           laid = λ s st.
               let i = other-below fit v b h in
-              let q : markOf s w ≡ getD (x .number) z 0 = sym (ap (λ (j : ℕ). getD (x .number) j 0) e ∙ st .marks w i) in
+              let q : walkMark s w ≡ getD (x .number) z 0 = sym (ap (λ (j : ℕ). getD (x .number) j 0) e ∙ st .marks w i) in
               laid-cast n p (grow bonds n m v b s) (grow bonds n m v r s) s x y (grow-skip fit v b r h here next s (marked s w (λ j. k (sym q ∙ j)))) (g .laid s st);
         }
 
@@ -98,18 +98,18 @@ module _ {bonds : ℕ → Bond} {n m : ℕ} (fit : BondsFit bonds n m) where
       below : a < n
       below = rw e (other-below fit v b h)
 
-      apart : (s : List ℕ) → Stands n s count v1 → member a s ≡ false
+      apart : (s : List ℕ) → Visited n s count v1 → member a s ≡ false
       apart s st = unmarked s a (sym (st .marks a below) ∙ fresh)
 
       -- all n atoms were visited: this cannot be
-      pub at-full : n ≤ count → Grown n (suc hub) (grow bonds n m v b) (sheet o v1 u q count) (sheet o v1 u q count)
+      pub at-full : n ≤ count → Grown n (suc hub) (grow bonds n m v b) (walkArrays o v1 u q count) (walkArrays o v1 u q count)
       at-full l = record { fewer = omega arith; laid = λ s st. absurd (let g = room-left n a count s v1 st below (apart s st) in omega arith) }
 
       -- the other end is visited, then the rest
-      pub at-new : (k : ℕ) (o2 v2 u2 q2 : List ℕ) (y z : Sheet) → k ≡ bonds b .kind → n ≤ length v1
+      pub at-new : (k : ℕ) (o2 v2 u2 q2 : List ℕ) (y z : WalkArrays) → k ≡ bonds b .kind → n ≤ length v1
           → o2 ≡ set o count a → v2 ≡ set v1 a (count + 1) → u2 ≡ set u count (hub + 1) → q2 ≡ set q count k
-          → Grown n (suc count) (grow bonds n m a 0) (sheet o2 v2 u2 q2 (count + 1)) y → Grown n (suc hub) (grow bonds n m v r) y z
-          → Grown n (suc hub) (grow bonds n m v b) (sheet o v1 u q count) z
+          → Grown n (suc count) (grow bonds n m a 0) (walkArrays o2 v2 u2 q2 (count + 1)) y → Grown n (suc hub) (grow bonds n m v r) y z
+          → Grown n (suc hub) (grow bonds n m v b) (walkArrays o v1 u q count) z
       at-new k o2 v2 u2 q2 y z ek long eo ev eu eq one two =
           let i = below in
           let d = seen-less v1 v2 a count (omega arith) fresh ev in
@@ -117,48 +117,48 @@ module _ {bonds : ℕ → Bond} {n m : ℕ} (fit : BondsFit bonds n m) where
           let f2 = two .fewer in
           record { fewer = omega arith; laid = laid }
         where
-          laid : (s : List ℕ) → Stands n s count v1 → Laid n (suc hub) (grow bonds n m v b s) s (sheet o v1 u q count) z
+          laid : (s : List ℕ) → Visited n s count v1 → Laid n (suc hub) (grow bonds n m v b s) s (walkArrays o v1 u q count) z
           laid s st =
               let m0 = apart s st in
               let i = below in
-              let st1 : Stands n (s ++ (a ∷ [])) (count + 1) v2 = rw ev (stands-add n a count s v1 st i long m0) in
+              let st1 : Visited n (s ++ (a ∷ [])) (count + 1) v2 = rw ev (stands-add n a count s v1 st i long m0) in
               let f = grow bonds n m a 0 (s ++ (a ∷ [])) in
               let l1 = one .laid (s ++ (a ∷ [])) st1 in
-              let l1′ : Laid n (suc count) f (s ++ (a ∷ [])) (sheet (set o count a) v2 (set u count (suc hub)) (set q count k) (count + 1)) y =
-              subst (λ (x : Sheet). Laid n (suc count) f (s ++ (a ∷ [])) x y) (λ i. sheet (eo i) v2 ((eu ∙ ap (set u count) (add-one hub)) i) (eq i) (count + 1)) l1 in
+              let l1′ : Laid n (suc count) f (s ++ (a ∷ [])) (walkArrays (set o count a) v2 (set u count (suc hub)) (set q count k) (count + 1)) y =
+              subst (λ (x : WalkArrays). Laid n (suc count) f (s ++ (a ∷ [])) x y) (λ i. walkArrays (eo i) v2 ((eu ∙ ap (set u count) (add-one hub)) i) (eq i) (count + 1)) l1 in
               let l2 = two .laid ((s ++ (a ∷ [])) ++ pre f) (l1 .stands) in
               let g = grow bonds n m v r ((s ++ (a ∷ [])) ++ pre f) in
               let m1 : member (otherEnd bonds b v) s ≡ false = subst (λ (x : ℕ). member x s ≡ false) e m0 in
               let same : grow bonds n m v b s ≡ node a k f g =
               grow-visit fit v b r h here next s m1 f (λ i. grow bonds n m (e i) 0 (s ++ (e i ∷ [])))
               ∙ (λ i. node (sym e i) (sym ek i) f (grow bonds n m v r ((s ++ (sym e i ∷ [])) ++ pre f))) in
-              laid-cast n (suc hub) (grow bonds n m v b s) (node a k f g) s (sheet o v1 u q count) z same
+              laid-cast n (suc hub) (grow bonds n m v b s) (node a k f g) s (walkArrays o v1 u q count) z same
               (laid-node n (suc hub) a k f g s o v1 v2 u q count y z (st .long) l1′ l2)
 
 -- the walk at v stands at the bond b: what is left from there is what is left from the start
-pub record Left (bonds : ℕ → Bond) (n m v hub from b : ℕ) (x y : Sheet) : Type 0 where
+pub record Left (bonds : ℕ → Bond) (n m v hub from b : ℕ) (x y : WalkArrays) : Type 0 where
   pub within : b ≤ m
   pub here : b < m → touching bonds v b ≡ true
   pub fewer : unseen (y .number) ≤ unseen (x .number)
-  pub rest : (z : Sheet) → Grown n (suc hub) (grow bonds n m v b) y z → Grown n (suc hub) (grow bonds n m v from) x z
+  pub rest : (z : WalkArrays) → Grown n (suc hub) (grow bonds n m v b) y z → Grown n (suc hub) (grow bonds n m v from) x z
 
-pub left-start : (bonds : ℕ → Bond) (n m v hub from : ℕ) (x : Sheet) → from ≤ m → (from < m → touching bonds v from ≡ true) → Left bonds n m v hub from from x x
+pub left-start : (bonds : ℕ → Bond) (n m v hub from : ℕ) (x : WalkArrays) → from ≤ m → (from < m → touching bonds v from ≡ true) → Left bonds n m v hub from from x x
 left-start bonds n m v hub from x h here = record { within = h; here = here; fewer = omega arith; rest = λ z g. g }
 
 module _ {bonds : ℕ → Bond} {n m : ℕ} (fit : BondsFit bonds n m) {v hub from b : ℕ} where
-  pub left-end : (x y : Sheet) → Left bonds n m v hub from b x y → m ≤ b → Grown n (suc hub) (grow bonds n m v from) x y
+  pub left-end : (x y : WalkArrays) → Left bonds n m v hub from b x y → m ≤ b → Grown n (suc hub) (grow bonds n m v from) x y
   left-end x y l h = l .rest y (at-end fit (suc hub) v b y h)
 
   module _ (r : ℕ) (h : b < m) (found : r ≡ firstFrom (touching bonds v) (suc b) (m - suc b)) where
-    pub left-seen : (x y : Sheet) → Left bonds n m v hub from b x y → (z : ℕ) → z ≡ otherEnd bonds b v → (getD (y .number) z 0 ≡ 0 → ⊥) → Left bonds n m v hub from r x y
+    pub left-seen : (x y : WalkArrays) → Left bonds n m v hub from b x y → (z : ℕ) → z ≡ otherEnd bonds b v → (getD (y .number) z 0 ≡ 0 → ⊥) → Left bonds n m v hub from r x y
     left-seen x y l z e k =
         let after = next-is bonds v m (suc b) r (omega arith) found in
         record { within = after .high; here = after .here; fewer = l .fewer; rest = λ t g. l .rest t (at-seen fit v b r h (l .here h) found (suc hub) y t z e k g) }
 
-    pub left-new : (x : Sheet) (o v1 u q : List ℕ) (count : ℕ) → Left bonds n m v hub from b x (sheet o v1 u q count)
+    pub left-new : (x : WalkArrays) (o v1 u q : List ℕ) (count : ℕ) → Left bonds n m v hub from b x (walkArrays o v1 u q count)
         → (a k hd : ℕ) → a ≡ otherEnd bonds b v → getD v1 a 0 ≡ 0 → k ≡ bonds b .kind → hd ≡ firstFrom (touching bonds a) 0 (m - 0) → n ≤ length v1
         → (o2 v2 u2 q2 : List ℕ) → o2 ≡ set o count a → v2 ≡ set v1 a (count + 1) → u2 ≡ set u count (hub + 1) → q2 ≡ set q count k
-        → (y : Sheet) → Grown n (suc count) (grow bonds n m a hd) (sheet o2 v2 u2 q2 (count + 1)) y
+        → (y : WalkArrays) → Grown n (suc count) (grow bonds n m a hd) (walkArrays o2 v2 u2 q2 (count + 1)) y
         → Left bonds n m v hub from r x y
     left-new x o v1 u q count l a k hd e fresh ek ed long o2 v2 u2 q2 eo ev eu eq y one =
         let i : a < n = rw e (other-below fit v b h) in
@@ -170,13 +170,13 @@ module _ {bonds : ℕ → Bond} {n m : ℕ} (fit : BondsFit bonds n m) {v hub fr
           within = after .high;
           here = after .here;
           fewer = omega arith;
-          rest = λ z g. l .rest z (at-new fit v b r h (l .here h) found hub o v1 u q count a e fresh k o2 v2 u2 q2 y z ek long eo ev eu eq (grown-from fit (suc count) a 0 hd (sheet o2 v2 u2 q2 (count + 1)) y (omega arith) ed one) g);
+          rest = λ z g. l .rest z (at-new fit v b r h (l .here h) found hub o v1 u q count a e fresh k o2 v2 u2 q2 y z ek long eo ev eu eq (grown-from fit (suc count) a 0 hd (walkArrays o2 v2 u2 q2 (count + 1)) y (omega arith) ed one) g);
         }
 
-  pub left-full : (x : Sheet) (o v1 u q : List ℕ) (count : ℕ) → Left bonds n m v hub from b x (sheet o v1 u q count) → b < m
-      → (a : ℕ) → a ≡ otherEnd bonds b v → getD v1 a 0 ≡ 0 → n ≤ count → Grown n (suc hub) (grow bonds n m v from) x (sheet o v1 u q count)
+  pub left-full : (x : WalkArrays) (o v1 u q : List ℕ) (count : ℕ) → Left bonds n m v hub from b x (walkArrays o v1 u q count) → b < m
+      → (a : ℕ) → a ≡ otherEnd bonds b v → getD v1 a 0 ≡ 0 → n ≤ count → Grown n (suc hub) (grow bonds n m v from) x (walkArrays o v1 u q count)
   left-full x o v1 u q count l h a e fresh full =
-      l .rest (sheet o v1 u q count) (at-full fit v b (firstFrom (touching bonds v) (suc b) (m - suc b)) h (l .here h) refl hub o v1 u q count a e fresh full)
+      l .rest (walkArrays o v1 u q count) (at-full fit v b (firstFrom (touching bonds v) (suc b) (m - suc b)) h (l .here h) refl hub o v1 u q count a e fresh full)
 
 -- the arrays stay as long as they were
 pub kept-same : {o v u k : List ℕ} → Kept o v u k o v u k

@@ -11,7 +11,7 @@ use borrow.Author.Tests.{eqb-true, eqb-false}
 use Rattle.loops.specs.Loop.{pick}
 use Rattle.table.specs.Limits.{maxAtoms}
 use Rattle.writing_walk.specs.Token.{Bond}
-use Rattle.writing_visit.specs.Tour.{touching, firstFrom, nextAfter, BondsFit, Linked}
+use Rattle.writing_visit.specs.Visit.{touching, firstFrom, nextAfter, BondsFit, Linked}
 use Rattle.writing_visit.proofs.Ways.{next-is}
 
 all-same : (k m v : ℕ) → v < k → getD (replicate k m) v 0 ≡ m

@@ -10,12 +10,12 @@ use lib.Seq.{getD-set-same, getD-set-other}
 use Rattle.loops.specs.Loop.{pick, upTo}
 use Rattle.writing_walk.specs.Token.{Bond}
 use Rattle.writing_walk.specs.Emit.{Forest, leaf, node, size, pre}
-use Rattle.writing_walk.specs.Walk.{Way, way, member, ways, tour, walk, roots, forestOf, place}
+use Rattle.writing_walk.specs.Walk.{Neighbour, neighbour, member, neighbours, visitInTurn, walk, roots, forestOf, place}
 use Rattle.writing_walk.specs.Flat.{kinds, ups}
 use Rattle.writing_walk.proofs.Count.{none}
 use Rattle.writing_walk.proofs.Walk.{times, same-fuel, absent}
 use Rattle.writing_walk.proofs.Trip.{size-length, renumbering}
-use Rattle.writing_visit.specs.Tour.{lay, grow, markOf, BondsFit, Room, Stands, Sheet, sheet, Laid, Grown, rootForest, Walked}
+use Rattle.writing_visit.specs.Visit.{lay, grow, walkMark, BondsFit, Room, Visited, WalkArrays, walkArrays, Laid, Grown, rootForest, Walked}
 use Rattle.writing_visit.proofs.Ways.{bonds-inside}
 use Rattle.writing_visit.proofs.Seen.{unmarked, marked, room-left, stands-add, stands-cast}
 use Rattle.writing_visit.proofs.Laws.{lay-append, length-kinds, length-ups, laid-leaf, laid-node, seen-less}
@@ -28,13 +28,13 @@ record Split (R F G : Forest) : Type 0 where
 module _ (bonds : ℕ → Bond) (n m : ℕ) where
   -- the roots that are left, after the first of them
   abbrev left : ℕ → List ℕ → Forest
-  left a s = tour (walk (upTo bonds 0 m) n) (roots a (n - a)) s
+  left a s = visitInTurn (walk (upTo bonds 0 m) n) (roots a (n - a)) s
 
   -- the loop stands before the root a
-  pub record Sofar (x : Sheet) (a : ℕ) (y : Sheet) : Type 0 where
+  pub record Sofar (x : WalkArrays) (a : ℕ) (y : WalkArrays) : Type 0 where
     pub within : a ≤ n
     pub seen : List ℕ
-    pub stands : Stands n seen (y .count) (y .number)
+    pub stands : Visited n seen (y .count) (y .number)
     pub whole : seen ++ pre (left a seen) ≡ pre (forestOf n (upTo bonds 0 m))
     pub order : lay (y .count) (pre (left a seen)) (y .order) ≡ lay 0 (pre (forestOf n (upTo bonds 0 m))) (x .order)
     pub kind : lay (y .count) (kinds (left a seen)) (y .kind) ≡ lay 0 (kinds (forestOf n (upTo bonds 0 m))) (x .kind)
@@ -52,37 +52,37 @@ module _ {bonds : ℕ → Bond} {n m : ℕ} (fit : BondsFit bonds n m) where
   unfolding rootForest grow
   root-fresh a s e =
       let z : m - 0 ≡ m = omega arith in
-      let g : walk bs n a (s ++ (a ∷ [])) ≡ tour (walk bs n) (ways a (upTo bonds 0 (m - 0))) (s ++ (a ∷ [])) = same-fuel n bs (bonds-inside fit) a (s ++ (a ∷ [])) ∙ simp z in
+      let g : walk bs n a (s ++ (a ∷ [])) ≡ visitInTurn (walk bs n) (neighbours a (upTo bonds 0 (m - 0))) (s ++ (a ∷ [])) = same-fuel n bs (bonds-inside fit) a (s ++ (a ∷ [])) ∙ simp z in
       rw (e, g)
 
   module _ (o v u q : List ℕ) (count a : ℕ) (h : a < n) where
-    pub root-skip : (getD v a 0 ≡ 0 → ⊥) → Grown n 0 (rootForest bonds n m a) (sheet o v u q count) (sheet o v u q count)
-    root-skip k = record { fewer = omega arith; laid = λ s st. subst (λ (F : Forest). Laid n 0 F s (sheet o v u q count) (sheet o v u q count)) (sym (root-seen a s (marked s a (λ i. k (st .marks a h ∙ i))))) (laid-leaf n 0 s (sheet o v u q count) st) }
+    pub root-skip : (getD v a 0 ≡ 0 → ⊥) → Grown n 0 (rootForest bonds n m a) (walkArrays o v u q count) (walkArrays o v u q count)
+    root-skip k = record { fewer = omega arith; laid = λ s st. subst (λ (F : Forest). Laid n 0 F s (walkArrays o v u q count) (walkArrays o v u q count)) (sym (root-seen a s (marked s a (λ i. k (st .marks a h ∙ i))))) (laid-leaf n 0 s (walkArrays o v u q count) st) }
 
-    pub root-full : getD v a 0 ≡ 0 → n ≤ count → Grown n 0 (rootForest bonds n m a) (sheet o v u q count) (sheet o v u q count)
+    pub root-full : getD v a 0 ≡ 0 → n ≤ count → Grown n 0 (rootForest bonds n m a) (walkArrays o v u q count) (walkArrays o v u q count)
     root-full e l = record { fewer = omega arith; laid = λ s st. absurd (let g = room-left n a count s v st h (unmarked s a (sym (st .marks a h) ∙ e)) in omega arith) }
 
-    pub root-new : (o2 v2 u2 q2 : List ℕ) (z : Sheet) → getD v a 0 ≡ 0 → n ≤ length v
+    pub root-new : (o2 v2 u2 q2 : List ℕ) (z : WalkArrays) → getD v a 0 ≡ 0 → n ≤ length v
         → o2 ≡ set o count a → v2 ≡ set v a (count + 1) → u2 ≡ set u count 0 → q2 ≡ set q count 0
-        → Grown n (suc count) (grow bonds n m a 0) (sheet o2 v2 u2 q2 (count + 1)) z
-        → Grown n 0 (rootForest bonds n m a) (sheet o v u q count) z
+        → Grown n (suc count) (grow bonds n m a 0) (walkArrays o2 v2 u2 q2 (count + 1)) z
+        → Grown n 0 (rootForest bonds n m a) (walkArrays o v u q count) z
     root-new o2 v2 u2 q2 z e long eo ev eu eq one =
         let d = seen-less v v2 a count (omega arith) e ev in
         let f = one .fewer in
         record { fewer = omega arith; laid = laid }
       where
-        laid : (s : List ℕ) → Stands n s count v → Laid n 0 (rootForest bonds n m a s) s (sheet o v u q count) z
+        laid : (s : List ℕ) → Visited n s count v → Laid n 0 (rootForest bonds n m a s) s (walkArrays o v u q count) z
         laid s st =
             let m0 = unmarked s a (sym (st .marks a h) ∙ e) in
-            let st1 : Stands n (s ++ (a ∷ [])) (count + 1) v2 = rw ev (stands-add n a count s v st h long m0) in
+            let st1 : Visited n (s ++ (a ∷ [])) (count + 1) v2 = rw ev (stands-add n a count s v st h long m0) in
             let f = grow bonds n m a 0 (s ++ (a ∷ [])) in
             let l1 = one .laid (s ++ (a ∷ [])) st1 in
-            let l1′ : Laid n (suc count) f (s ++ (a ∷ [])) (sheet (set o count a) v2 (set u count 0) (set q count 0) (count + 1)) z =
-            subst (λ (x : Sheet). Laid n (suc count) f (s ++ (a ∷ [])) x z) (λ i. sheet (eo i) v2 (eu i) (eq i) (count + 1)) l1 in
-            subst (λ (F : Forest). Laid n 0 F s (sheet o v u q count) z) (sym (root-fresh a s m0))
+            let l1′ : Laid n (suc count) f (s ++ (a ∷ [])) (walkArrays (set o count a) v2 (set u count 0) (set q count 0) (count + 1)) z =
+            subst (λ (x : WalkArrays). Laid n (suc count) f (s ++ (a ∷ [])) x z) (λ i. walkArrays (eo i) v2 (eu i) (eq i) (count + 1)) l1 in
+            subst (λ (F : Forest). Laid n 0 F s (walkArrays o v u q count) z) (sym (root-fresh a s m0))
             (laid-node n 0 a 0 f leaf s o v v2 u q count z z (st .long) l1′ (laid-leaf n 0 ((s ++ (a ∷ [])) ++ pre f) z (l1 .stands)))
 
-  split : (a : ℕ) (s : List ℕ) (cs : List Way) → Split (rootForest bonds n m a s) (tour (walk bs n) (way a 0 ∷ cs) s) (tour (walk bs n) cs (s ++ pre (rootForest bonds n m a s)))
+  split : (a : ℕ) (s : List ℕ) (cs : List Neighbour) → Split (rootForest bonds n m a s) (visitInTurn (walk bs n) (neighbour a 0 ∷ cs) s) (visitInTurn (walk bs n) cs (s ++ pre (rootForest bonds n m a s)))
   unfolding rootForest
   split a s cs = go (member a s)
     where
@@ -90,7 +90,7 @@ module _ {bonds : ℕ → Bond} {n m : ℕ} (fit : BondsFit bonds n m) where
       f = walk bs n a (s ++ (a ∷ []))
 
       go : (t : Bool) → Split (cond t leaf (node a 0 f leaf))
-          (cond t (tour (walk bs n) cs s) (node a 0 f (tour (walk bs n) cs ((s ++ (a ∷ [])) ++ pre f)))) (tour (walk bs n) cs (s ++ pre (cond t leaf (node a 0 f leaf))))
+          (cond t (visitInTurn (walk bs n) cs s) (node a 0 f (visitInTurn (walk bs n) cs ((s ++ (a ∷ [])) ++ pre f)))) (visitInTurn (walk bs n) cs (s ++ pre (cond t leaf (node a 0 f leaf))))
       go true =
           let e : s ++ [] ≡ s = append-nil s in
           record { order = rw e; kind = rw e; up = λ c. (let z : c + 0 ≡ c = omega arith in rw (e, z)) }
@@ -107,8 +107,8 @@ module _ {bonds : ℕ → Bond} {n m : ℕ} (fit : BondsFit bonds n m) where
   unmark zero (suc k) = refl
   unmark (suc a) (suc k) = unmark a k
 
-  pub sofar-start : (o v u k : List ℕ) → v ≡ replicate (length v) 0 → Sofar bonds n m (sheet o v u k 0) 0 (sheet o v u k 0)
-  unfolding forestOf markOf
+  pub sofar-start : (o v u k : List ℕ) → v ≡ replicate (length v) 0 → Sofar bonds n m (walkArrays o v u k 0) 0 (walkArrays o v u k 0)
+  unfolding forestOf walkMark
   sofar-start o v u k e =
       let z : n - 0 ≡ n = omega arith in
       record {
@@ -121,17 +121,17 @@ module _ {bonds : ℕ → Bond} {n m : ℕ} (fit : BondsFit bonds n m) where
         up = rw z;
       }
 
-  pub sofar-step : (x y z : Sheet) (a : ℕ) → a < n → Sofar bonds n m x a y → Grown n 0 (rootForest bonds n m a) y z → Sofar bonds n m x (a + 1) z
+  pub sofar-step : (x y z : WalkArrays) (a : ℕ) → a < n → Sofar bonds n m x a y → Grown n 0 (rootForest bonds n m a) y z → Sofar bonds n m x (a + 1) z
   sofar-step x y z a h b g =
       let s = b .seen in
       let R = rootForest bonds n m a s in
       let l = g .laid s (b .stands) in
       let d : n - a ≡ suc (n - (a + 1)) = omega arith in
-      let q : roots a (n - a) ≡ way a 0 ∷ roots (a + 1) (n - (a + 1)) = rw (d, add-one a) in
+      let q : roots a (n - a) ≡ neighbour a 0 ∷ roots (a + 1) (n - (a + 1)) = rw (d, add-one a) in
       let w = split a s (roots (a + 1) (n - (a + 1))) in
       let G = left bonds n m (a + 1) (s ++ pre R) in
-      let F = tour (walk bs n) (way a 0 ∷ roots (a + 1) (n - (a + 1))) s in
-      let e : left bonds n m a s ≡ F = ap (λ (cs : List Way). tour (walk bs n) cs s) q in
+      let F = visitInTurn (walk bs n) (neighbour a 0 ∷ roots (a + 1) (n - (a + 1))) s in
+      let e : left bonds n m a s ≡ F = ap (λ (cs : List Neighbour). visitInTurn (walk bs n) cs s) q in
       let c : z .count ≡ y .count + size R = sym (l .stands .long) ∙ length-append s (pre R) ∙ omega (arith, b .stands .long, size-length R) in
       record {
         within = omega arith;
@@ -172,8 +172,8 @@ pub laid-at : (l t : List ℕ) (x : ℕ) → x < length l → length l ≤ lengt
 laid-at l t x h g = let z : 0 + x ≡ x = omega arith in rw z at (lay-at l 0 t x h (omega arith))
 
 module _ {bonds : ℕ → Bond} {n m : ℕ} (fit : BondsFit bonds n m) where
-  pub sofar-end : (o v u k : List ℕ) (y : Sheet) (a : ℕ) → n ≤ a → Room o v u k → Sofar bonds n m (sheet o v u k 0) a y → Walked (upTo bonds 0 m) n (y .order) (y .number) (y .up) (y .kind)
-  unfolding markOf lay
+  pub sofar-end : (o v u k : List ℕ) (y : WalkArrays) (a : ℕ) → n ≤ a → Room o v u k → Sofar bonds n m (walkArrays o v u k 0) a y → Walked (upTo bonds 0 m) n (y .order) (y .number) (y .up) (y .kind)
+  unfolding walkMark lay
   sofar-end o v u k y a h room b =
       let bs = upTo bonds 0 m in
       let F = forestOf n bs in
@@ -185,12 +185,12 @@ module _ {bonds : ℕ → Bond} {n m : ℕ} (fit : BondsFit bonds n m) where
       let ro = room .order in
       let ru = room .up in
       let rk = room .kind in
-      let e : tour (walk bs n) (roots a (n - a)) (b .seen) ≡ leaf = rw z in
+      let e : visitInTurn (walk bs n) (roots a (n - a)) (b .seen) ≡ leaf = rw z in
       let eo : y .order ≡ lay 0 (pre F) o = ap (λ (T : Forest). lay (y .count) (pre T) (y .order)) (sym e) ∙ b .order in
       let ek : y .kind ≡ lay 0 (kinds F) k = ap (λ (T : Forest). lay (y .count) (kinds T) (y .kind)) (sym e) ∙ b .kind in
       let eu : y .up ≡ lay 0 (ups F 0 0) u = ap (λ (T : Forest). lay (y .count) (ups T 0 (y .count)) (y .up)) (sym e) ∙ b .up in
       let es : b .seen ≡ pre F = sym (append-nil (b .seen)) ∙ ap (λ (T : Forest). b .seen ++ pre T) (sym e) ∙ b .whole in
-      let st : Stands n (pre F) (y .count) (y .number) = stands-cast n (y .count) (b .seen) (pre F) (y .number) es (b .stands) in
+      let st : Visited n (pre F) (y .count) (y .number) = stands-cast n (y .count) (b .seen) (pre F) (y .number) es (b .stands) in
       record {
         order = λ x i. ap (λ (l : List ℕ). getD l x 0) eo ∙ laid-at (pre F) o x (omega arith) (omega arith);
         number = λ x i. st .marks x i ∙ there x (pre F) (r .every x i);

@@ -14,19 +14,19 @@ use Rattle.writing_walk.specs.Walk.{member, place}
 use Rattle.writing_walk.proofs.Count.{bit, count, All, none, more, all-append, eqb-same, never}
 use Rattle.writing_walk.proofs.Walk.{times, Once, absent, once-add, member-append}
 use Rattle.writing_walk.proofs.Trip.{below-suc, all-count, place-at}
-use Rattle.writing_visit.specs.Tour.{markOf, unseen, Stands}
+use Rattle.writing_visit.specs.Visit.{walkMark, unseen, Visited}
 
 -- the mark tells whether an atom was visited
-pub unmarked : (s : List ℕ) (v : ℕ) → markOf s v ≡ 0 → member v s ≡ false
-unfolding markOf
+pub unmarked : (s : List ℕ) (v : ℕ) → walkMark s v ≡ 0 → member v s ≡ false
+unfolding walkMark
 unmarked s v = go (member v s)
   where
     go : (t : Bool) → pick t (suc (place s v)) 0 ≡ 0 → t ≡ false
     go true e = absurd (omega arith)
     go false e = refl
 
-pub marked : (s : List ℕ) (v : ℕ) → (markOf s v ≡ 0 → ⊥) → member v s ≡ true
-unfolding markOf
+pub marked : (s : List ℕ) (v : ℕ) → (walkMark s v ≡ 0 → ⊥) → member v s ≡ true
+unfolding walkMark
 marked s v = go (member v s)
   where
     go : (t : Bool) → (pick t (suc (place s v)) 0 ≡ 0 → ⊥) → t ≡ true
@@ -52,7 +52,7 @@ fewer (suc n) w l o h e = go (eqb w n) refl (fewer n w l o)
         omega (arith, below-suc n l, few n l o)
     go false g r = let i = eqb-false w n g in omega (arith, below-suc n l, r (omega arith) e, o n)
 
-pub room-left : (n w count : ℕ) (s number : List ℕ) → Stands n s count number → w < n → member w s ≡ false → count < n
+pub room-left : (n w count : ℕ) (s number : List ℕ) → Visited n s count number → w < n → member w s ≡ false → count < n
 room-left n w count s number st h e = omega (arith, st .long, all-count n s (st .inside), fewer n w s (st .once) h (absent w s e))
 
 -- one atom more
@@ -64,19 +64,19 @@ place-append v (x ∷ s) t e = go (eqb v x) e (place-append v s t)
     go true e f = refl
     go false e f = ap suc (f e)
 
-mark-other : (s : List ℕ) (v w : ℕ) → (v ≡ w → ⊥) → markOf s v ≡ markOf (s ++ (w ∷ [])) v
-unfolding markOf
+mark-other : (s : List ℕ) (v w : ℕ) → (v ≡ w → ⊥) → walkMark s v ≡ walkMark (s ++ (w ∷ [])) v
+unfolding walkMark
 mark-other s v w h = go (member v s) refl
   where
     go : (t : Bool) → member v s ≡ t → pick t (suc (place s v)) 0 ≡ pick (member v (s ++ (w ∷ []))) (suc (place (s ++ (w ∷ [])) v)) 0
     go true e = sym (rw (member-append v s (w ∷ []), e, place-append v s (w ∷ []) e))
     go false e = sym (rw (member-append v s (w ∷ []), e, ne-eqb v w h))
 
-mark-here : (s : List ℕ) (w : ℕ) → member w s ≡ false → suc (length s) ≡ markOf (s ++ (w ∷ [])) w
-unfolding markOf
+mark-here : (s : List ℕ) (w : ℕ) → member w s ≡ false → suc (length s) ≡ walkMark (s ++ (w ∷ [])) w
+unfolding walkMark
 mark-here s w e = sym (rw (member-append w s (w ∷ []), e, eqb-same w, place-at w s [] (absent w s e)))
 
-pub stands-add : (n w count : ℕ) (s number : List ℕ) → Stands n s count number → w < n → n ≤ length number → member w s ≡ false → Stands n (s ++ (w ∷ [])) (count + 1) (set number w (count + 1))
+pub stands-add : (n w count : ℕ) (s number : List ℕ) → Visited n s count number → w < n → n ≤ length number → member w s ≡ false → Visited n (s ++ (w ∷ [])) (count + 1) (set number w (count + 1))
 stands-add n w count s number st h g e =
     let z : w < length number = omega arith in
     record {
@@ -86,7 +86,7 @@ stands-add n w count s number st h g e =
       marks = λ v i. go v i (eqb v w) refl;
     }
   where
-    go : (v : ℕ) → v < n → (t : Bool) → eqb v w ≡ t → getD (set number w (count + 1)) v 0 ≡ markOf (s ++ (w ∷ [])) v
+    go : (v : ℕ) → v < n → (t : Bool) → eqb v w ≡ t → getD (set number w (count + 1)) v 0 ≡ walkMark (s ++ (w ∷ [])) v
     go v i true q =
         let y : v ≡ w = eqb-true v w q in
         let x : w < length number = omega arith in
@@ -95,8 +95,8 @@ stands-add n w count s number st h g e =
         let y = eqb-false v w q in
         getD-set-other number w v (count + 1) 0 y ∙ st .marks v i ∙ mark-other s v w y
 
-pub stands-cast : (n count : ℕ) (s t number : List ℕ) → s ≡ t → Stands n s count number → Stands n t count number
-stands-cast n count s t number e st = subst (λ (l : List ℕ). Stands n l count number) e st
+pub stands-cast : (n count : ℕ) (s t number : List ℕ) → s ≡ t → Visited n s count number → Visited n t count number
+stands-cast n count s t number e st = subst (λ (l : List ℕ). Visited n l count number) e st
 
 first-set : (a b : Bool) (u : ℕ) → a ≡ false → b ≡ true → pick a (suc u) u + 1 ≡ pick b (suc u) u
 first-set true b u e h = absurd (never true refl e)

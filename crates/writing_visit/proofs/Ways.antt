@@ -8,28 +8,28 @@ use lib.Dec.{eqb}
 use Rattle.loops.specs.Loop.{pick, upTo}
 use Rattle.writing_walk.specs.Token.{Bond}
 use Rattle.writing_walk.specs.Emit.{Forest, leaf, node, pre}
-use Rattle.writing_walk.specs.Walk.{Way, way, member, ways, tour, walk}
+use Rattle.writing_walk.specs.Walk.{Neighbour, neighbour, member, neighbours, visitInTurn, walk}
 use Rattle.writing_walk.proofs.Count.{All, none, more}
 use Rattle.writing_walk.proofs.Walk.{Inside, same-fuel}
-use Rattle.writing_visit.specs.Tour.{touching, firstFrom, otherEnd, waysFrom, grow, BondsFit}
+use Rattle.writing_visit.specs.Visit.{touching, firstFrom, otherEnd, neighboursFrom, grow, BondsFit}
 
 module _ (bonds : ℕ → Bond) (v : ℕ) where
-  apart : (k : ℕ) (l : List Bond) → touching bonds v k ≡ false → ways v (bonds k ∷ l) ≡ ways v l
+  apart : (k : ℕ) (l : List Bond) → touching bonds v k ≡ false → neighbours v (bonds k ∷ l) ≡ neighbours v l
   unfolding touching
   apart k l e = go (eqb (bonds k .lo) v) (eqb (bonds k .hi) v) e
     where
       go : (a b : Bool) → (a || b) ≡ false
-          → cond a (way (bonds k .hi) (bonds k .kind) ∷ ways v l) (cond b (way (bonds k .lo) (bonds k .kind) ∷ ways v l) (ways v l)) ≡ ways v l
+          → cond a (neighbour (bonds k .hi) (bonds k .kind) ∷ neighbours v l) (cond b (neighbour (bonds k .lo) (bonds k .kind) ∷ neighbours v l) (neighbours v l)) ≡ neighbours v l
       go true b e = absurd (let z : _≡_ {A = ℕ} 0 1 = cc in omega arith)
       go false true e = absurd (let z : _≡_ {A = ℕ} 0 1 = cc in omega arith)
       go false false e = refl
 
-  together : (k : ℕ) (l : List Bond) → touching bonds v k ≡ true → ways v (bonds k ∷ l) ≡ way (otherEnd bonds k v) (bonds k .kind) ∷ ways v l
+  together : (k : ℕ) (l : List Bond) → touching bonds v k ≡ true → neighbours v (bonds k ∷ l) ≡ neighbour (otherEnd bonds k v) (bonds k .kind) ∷ neighbours v l
   unfolding touching
   together k l e = go (eqb (bonds k .lo) v) (eqb (bonds k .hi) v) e
     where
       go : (a b : Bool) → (a || b) ≡ true
-          → cond a (way (bonds k .hi) (bonds k .kind) ∷ ways v l) (cond b (way (bonds k .lo) (bonds k .kind) ∷ ways v l) (ways v l)) ≡ way (pick a (bonds k .hi) (bonds k .lo)) (bonds k .kind) ∷ ways v l
+          → cond a (neighbour (bonds k .hi) (bonds k .kind) ∷ neighbours v l) (cond b (neighbour (bonds k .lo) (bonds k .kind) ∷ neighbours v l) (neighbours v l)) ≡ neighbour (pick a (bonds k .hi) (bonds k .lo)) (bonds k .kind) ∷ neighbours v l
       go true b e = refl
       go false true e = refl
       go false false e = absurd (let z : _≡_ {A = ℕ} 0 1 = cc in omega arith)
@@ -39,7 +39,7 @@ module _ (bonds : ℕ → Bond) (v : ℕ) where
     pub low : from ≤ r
     pub high : r ≤ m
     pub here : r < m → touching bonds v r ≡ true
-    pub same : waysFrom bonds m v from ≡ waysFrom bonds m v r
+    pub same : neighboursFrom bonds m v from ≡ neighboursFrom bonds m v r
 
   next-from : (m d k : ℕ) → k + d ≡ m → Next m k (firstFrom (touching bonds v) k d)
   unfolding firstFrom upTo
@@ -56,11 +56,11 @@ module _ (bonds : ℕ → Bond) (v : ℕ) where
   pub next-is : (m from r : ℕ) → from ≤ m → r ≡ firstFrom (touching bonds v) from (m - from) → Next m from r
   next-is m from r h e = subst (Next m from) (sym e) (next-from m (m - from) from (omega arith))
 
-  pub ways-here : (m r : ℕ) → r < m → touching bonds v r ≡ true → waysFrom bonds m v r ≡ way (otherEnd bonds r v) (bonds r .kind) ∷ waysFrom bonds m v (suc r)
+  pub ways-here : (m r : ℕ) → r < m → touching bonds v r ≡ true → neighboursFrom bonds m v r ≡ neighbour (otherEnd bonds r v) (bonds r .kind) ∷ neighboursFrom bonds m v (suc r)
   unfolding upTo
   ways-here m r h e = let x : m - r ≡ suc (m - suc r) = omega arith in simp x (together r (upTo bonds (suc r) (m - suc r)) e)
 
-  pub ways-end : (m r : ℕ) → m ≤ r → waysFrom bonds m v r ≡ []
+  pub ways-end : (m r : ℕ) → m ≤ r → neighboursFrom bonds m v r ≡ []
   unfolding upTo
   ways-end m r h = let x : m - r ≡ 0 = omega arith in simp x
 
@@ -84,23 +84,23 @@ module _ {bonds : ℕ → Bond} {n m : ℕ} (fit : BondsFit bonds n m) where
   -- the forest at an atom from a bond number on is that from the next bond at it
   pub grow-same : (v from r : ℕ) → Next bonds v m from r → (s : List ℕ) → grow bonds n m v from s ≡ grow bonds n m v r s
   unfolding grow
-  grow-same v from r x s = ap (λ cs. tour (walk (upTo bonds 0 m) n) cs s) (x .same)
+  grow-same v from r x s = ap (λ cs. visitInTurn (walk (upTo bonds 0 m) n) cs s) (x .same)
 
   pub grow-end : (v b : ℕ) → m ≤ b → (s : List ℕ) → grow bonds n m v b s ≡ leaf
   unfolding grow
-  grow-end v b h s = ap (λ cs. tour (walk (upTo bonds 0 m) n) cs s) (ways-end bonds v m b h)
+  grow-end v b h s = ap (λ cs. visitInTurn (walk (upTo bonds 0 m) n) cs s) (ways-end bonds v m b h)
 
   -- the forest at an atom from one of its bonds on, and from the next one
   module _ (v b r : ℕ) (h : b < m) (here : touching bonds v b ≡ true) (x : Next bonds v m (suc b) r) (s : List ℕ) where
     abbrev w : ℕ
     w = otherEnd bonds b v
 
-    around : waysFrom bonds m v b ≡ way w (bonds b .kind) ∷ waysFrom bonds m v r
-    around = ways-here bonds v m b h here ∙ ap (λ (cs : List Way). way w (bonds b .kind) ∷ cs) (x .same)
+    around : neighboursFrom bonds m v b ≡ neighbour w (bonds b .kind) ∷ neighboursFrom bonds m v r
+    around = ways-here bonds v m b h here ∙ ap (λ (cs : List Neighbour). neighbour w (bonds b .kind) ∷ cs) (x .same)
 
     pub grow-skip : member w s ≡ true → grow bonds n m v b s ≡ grow bonds n m v r s
     unfolding grow
-    grow-skip e = ap (λ cs. tour (walk (upTo bonds 0 m) n) cs s) around ∙ rw e
+    grow-skip e = ap (λ cs. visitInTurn (walk (upTo bonds 0 m) n) cs s) around ∙ rw e
 
     pub grow-visit : member w s ≡ false → (f : Forest) → f ≡ grow bonds n m w 0 (s ++ (w ∷ []))
         → grow bonds n m v b s ≡ node w (bonds b .kind) f (grow bonds n m v r ((s ++ (w ∷ [])) ++ pre f))
@@ -108,4 +108,4 @@ module _ {bonds : ℕ → Bond} {n m : ℕ} (fit : BondsFit bonds n m) where
     grow-visit e f q =
         let z : m - 0 ≡ m = omega arith in
         let g : walk (upTo bonds 0 m) n w (s ++ (w ∷ [])) ≡ f = same-fuel n (upTo bonds 0 m) bonds-inside w (s ++ (w ∷ [])) ∙ sym (q ∙ simp z) in
-        ap (λ cs. tour (walk (upTo bonds 0 m) n) cs s) around ∙ rw (e, g)
+        ap (λ cs. visitInTurn (walk (upTo bonds 0 m) n) cs s) around ∙ rw (e, g)

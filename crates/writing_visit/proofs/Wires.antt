@@ -14,13 +14,13 @@ use Rattle.loops.proofs.Loops.{length-upTo, upTo-at}
 use Rattle.table.specs.Limits.{maxAtoms, maxBonds}
 use Rattle.table.specs.Cells.{end1, end2, kind}
 use Rattle.table_graph.specs.Graph.{share, addShare, bondSum}
-use Rattle.table_graph.specs.Built.{bump, withBond}
+use Rattle.table_graph.specs.Built.{bump, sumsWithBond}
 use Rattle.table_graph.proofs.Graph.{upTo-ext}
 use Rattle.table_graph.proofs.Sums.{share-small, bond-at, bond-length, two-ends}
 use Rattle.valence.specs.Valence.{order}
 use Rattle.writing_walk.specs.Token.{Bond, bond}
-use Rattle.writing.specs.Write.{bondAt, bondList}
-use Rattle.writing_visit.specs.Tour.{touching, firstFrom, BondsFit, Linked, Walked}
+use Rattle.writing.specs.Write.{walkBond, bondList}
+use Rattle.writing_visit.specs.Visit.{touching, firstFrom, BondsFit, Linked, Walked}
 use Rattle.writing_visit.specs.Wires.{wires, Wired, sumFrom, Places}
 use Rattle.writing_visit.proofs.Lists.{linked-start, linked-cast, linked-step}
 
@@ -76,11 +76,11 @@ module _ {bonds : List ℤ} {m : ℕ} where
         kinds = λ c i j. ap (λ (t : List ℕ). getD t c 0) pk ∙ note m (kind bonds) ks k q rk eq (w .kinds) c i j;
       }
 
-  pub wired-at : {ea eb ks : List ℕ} → Wired bonds m 0 ea eb ks → (b : ℕ) → b < m → bondAt bonds b ≡ wires ea eb ks b
+  pub wired-at : {ea eb ks : List ℕ} → Wired bonds m 0 ea eb ks → (b : ℕ) → b < m → walkBond bonds b ≡ wires ea eb ks b
   wired-at w b h = λ i. bond (sym (w .firsts b (omega arith) h) i) (sym (w .seconds b (omega arith) h) i) (sym (w .kinds b (omega arith) h) i)
 
   pub wired-list : {ea eb ks : List ℕ} → Wired bonds m 0 ea eb ks → upTo (wires ea eb ks) 0 m ≡ bondList bonds m
-  wired-list {ea} {eb} {ks} w = upTo-ext (wires ea eb ks) (bondAt bonds) 0 m (λ b h. sym (wired-at w b (omega arith)))
+  wired-list {ea} {eb} {ks} w = upTo-ext (wires ea eb ks) (walkBond bonds) 0 m (λ b h. sym (wired-at w b (omega arith)))
 
   pub walked-table : {n : ℕ} {ea eb ks o v u k : List ℕ} → Wired bonds m 0 ea eb ks → Walked (upTo (wires ea eb ks) 0 m) n o v u k → Walked (bondList bonds m) n o v u k
   walked-table {n} {ea} {eb} {ks} {o} {v} {u} {k} w d = subst (λ (bs : List Bond). Walked bs n o v u k) (wired-list w) d
@@ -111,7 +111,7 @@ module _ (bonds : List ℤ) (m : ℕ) where
   pub sums-start : {s : List ℕ} → s ≡ replicate maxAtoms 0 → s ≡ upTo (sumFrom bonds m m) 0 maxAtoms
   sums-start e = e ∙ zeros 0 maxAtoms
 
-  pub sums-before : (b : ℕ) {s t : List ℕ} → b < m → s ≡ upTo (sumFrom bonds m (suc b)) 0 maxAtoms → t ≡ withBond bonds b s → t ≡ upTo (sumFrom bonds m b) 0 maxAtoms
+  pub sums-before : (b : ℕ) {s t : List ℕ} → b < m → s ≡ upTo (sumFrom bonds m (suc b)) 0 maxAtoms → t ≡ sumsWithBond bonds b s → t ≡ upTo (sumFrom bonds m b) 0 maxAtoms
   sums-before b {s} {t} h e q =
       let n : length s ≡ maxAtoms = ap length e ∙ length-upTo (sumFrom bonds m (suc b)) 0 maxAtoms in
       let n2 : length t ≡ maxAtoms = ap length q ∙ bond-length bonds b s ∙ n in
@@ -140,7 +140,7 @@ module _ (bonds : List ℤ) (m : ℕ) where
 -- the bonds from b on are noted and linked
 pub record Noted (bonds : List ℤ) (m b : ℕ) (head after behind ea eb ks sums : List ℕ) : Type 0 where
   pub within : b ≤ m
-  pub linked : Linked (bondAt bonds) m b head after behind
+  pub linked : Linked (walkBond bonds) m b head after behind
   pub wired : Wired bonds m b ea eb ks
   pub summed : sums ≡ upTo (sumFrom bonds m b) 0 maxAtoms
   pub heads : length head ≡ maxAtoms
@@ -158,7 +158,7 @@ module _ {bonds : List ℤ} {m : ℕ} where
         places = p;
       }
 
-  module _ (fit : BondsFit (bondAt bonds) maxAtoms m) {b : ℕ} {head after behind ea eb ks sums : List ℕ} (n : Noted bonds m b head after behind ea eb ks sums) (some : 0 < b) where
+  module _ (fit : BondsFit (walkBond bonds) maxAtoms m) {b : ℕ} {head after behind ea eb ks sums : List ℕ} (n : Noted bonds m b head after behind ea eb ks sums) (some : 0 < b) where
     pub noted-step : (e f q : ℕ) → e ≡ end1 bonds (b - 1) → f ≡ end2 bonds (b - 1) → q ≡ kind bonds (b - 1)
         → (head2 after2 behind2 ea2 eb2 ks2 sums2 : List ℕ)
         → head2 ≡ set (set head e (b - 1)) f (b - 1) → after2 ≡ set after (b - 1) (getD head e 0) → behind2 ≡ set behind (b - 1) (getD head f 0)

@@ -1,2 +1,2 @@
-pub mod Tour
+pub mod Visit
 pub mod Wires

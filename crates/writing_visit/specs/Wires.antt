@@ -1,4 +1,4 @@
--- The bonds of a molecule in arrays: the ends, the kinds and the bond sums
+-- auxiliary: the bonds of a molecule in arrays: the ends, the kinds and the bond sums
 use Prim.Native.Nat.{ℕ, _-_, _<_, _≤_}
 use mathlib.Core.Path.{_≡_}
 use mathlib.Core.List.{List}

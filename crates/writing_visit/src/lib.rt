@@ -10,8 +10,8 @@ ghost use Rattle.table.specs.Cells.{end1, end2, kind};
 ghost use Rattle.valence.specs.Valence.{order};
 ghost use Rattle.table_graph.specs.Graph.{bondSum};
 ghost use Rattle.table_graph.specs.Built.{bump};
-ghost use Rattle.writing.specs.Write.{bondAt, bondList};
-ghost use Rattle.writing_visit.specs.Tour.{touching, grow, rootForest, BondsFit, Linked, Room, Kept, sheet, Grown, Walked};
+ghost use Rattle.writing.specs.Write.{walkBond, bondList};
+ghost use Rattle.writing_visit.specs.Visit.{touching, grow, rootForest, BondsFit, Linked, Room, Kept, walkArrays, Grown, Walked};
 ghost use Rattle.writing_visit.specs.Wires.{wires, Wired, Places};
 use ids::AtomId;
 use ids::BondId;
@@ -103,7 +103,7 @@ fn link(
     ks: &mut [u8; MAX_BONDS],
     sums: &mut [u16; MAX_ATOMS],
 )
-    requires { ⌜ BondsFit (bondAt (now bonds)) maxAtoms m ⌝ }
+    requires { ⌜ BondsFit (walkBond (now bonds)) maxAtoms m ⌝ }
     requires { ⌜ (now head ≡ replicate maxAtoms m) × (now sums ≡ replicate maxAtoms 0) ⌝ }
     requires { ⌜ Places (now after) (now behind) (now ea) (now eb) (now ks) ⌝ }
     ensures { λ _. ⌜ Linked (wires (now (ea .exit)) (now (eb .exit)) (now (ks .exit))) m 0 (now (head .exit)) (now (after .exit)) (now (behind .exit)) ⌝ }
@@ -203,7 +203,7 @@ fn visit(
     requires { ⌜ Room (now order) (now number) (now up) (now kind) ⌝ }
     requires { ⌜ (hub < maxAtoms) × (from ≤ m) ⌝ }
     requires { ⌜ (from < m → touching (wires (now ea) (now eb) (now ks)) (v .0) from ≡ true) ⌝ }
-    ensures { λ r. ⌜ Grown n (suc hub) (grow (wires (now (ea .entry)) (now (eb .entry)) (now (ks .entry))) n m (v .0) from) (sheet (now (order .entry)) (now (number .entry)) (now (up .entry)) (now (kind .entry)) count) (sheet (now (order .exit)) (now (number .exit)) (now (up .exit)) (now (kind .exit)) r) ⌝ }
+    ensures { λ r. ⌜ Grown n (suc hub) (grow (wires (now (ea .entry)) (now (eb .entry)) (now (ks .entry))) n m (v .0) from) (walkArrays (now (order .entry)) (now (number .entry)) (now (up .entry)) (now (kind .entry)) count) (walkArrays (now (order .exit)) (now (number .exit)) (now (up .exit)) (now (kind .exit)) r) ⌝ }
     ensures { λ _. ⌜ Kept (now (order .entry)) (now (number .entry)) (now (up .entry)) (now (kind .entry)) (now (order .exit)) (now (number .exit)) (now (up .exit)) (now (kind .exit)) ⌝ }
 {
     let mut b = from;
@@ -264,7 +264,7 @@ fn root(
     requires { ⌜ Linked (wires (now ea) (now eb) (now ks)) m 0 (now head) (now after) (now behind) ⌝ }
     requires { ⌜ Room (now order) (now number) (now up) (now kind) ⌝ }
     requires { ⌜ a .0 < n ⌝ }
-    ensures { λ r. ⌜ Grown n 0 (rootForest (wires (now (ea .entry)) (now (eb .entry)) (now (ks .entry))) n m (a .0)) (sheet (now (order .entry)) (now (number .entry)) (now (up .entry)) (now (kind .entry)) count) (sheet (now (order .exit)) (now (number .exit)) (now (up .exit)) (now (kind .exit)) r) ⌝ }
+    ensures { λ r. ⌜ Grown n 0 (rootForest (wires (now (ea .entry)) (now (eb .entry)) (now (ks .entry))) n m (a .0)) (walkArrays (now (order .entry)) (now (number .entry)) (now (up .entry)) (now (kind .entry)) count) (walkArrays (now (order .exit)) (now (number .exit)) (now (up .exit)) (now (kind .exit)) r) ⌝ }
     ensures { λ _. ⌜ Kept (now (order .entry)) (now (number .entry)) (now (up .entry)) (now (kind .entry)) (now (order .exit)) (now (number .exit)) (now (up .exit)) (now (kind .exit)) ⌝ }
 {
     let v = a.0;
@@ -309,7 +309,7 @@ pub fn walk(
     ks: &mut [u8; MAX_BONDS],
     sums: &mut [u16; MAX_ATOMS],
 )
-    requires { ⌜ BondsFit (bondAt (now bonds)) n m ⌝ }
+    requires { ⌜ BondsFit (walkBond (now bonds)) n m ⌝ }
     requires { ⌜ Room (now order) (now number) (now up) (now kind) ⌝ }
     requires { ⌜ now number ≡ replicate (length (now number)) 0 ⌝ }
     requires { ⌜ (maxBonds ≤ length (now ea)) × (maxBonds ≤ length (now eb)) ⌝ }

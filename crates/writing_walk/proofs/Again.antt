@@ -9,7 +9,7 @@ use lib.ListN.{length, length-append}
 use borrow.Author.Tests.{ne-eqb, eqb-true, eqb-false, ltb-true, ltb-false}
 use Rattle.writing_walk.specs.Token.{Bond, bond, eqBond}
 use Rattle.writing_walk.specs.Emit.{Forest, leaf, node, size, pre, done, doneAll}
-use Rattle.writing_walk.specs.Walk.{Way, way, member, ways, roots, place, renumber}
+use Rattle.writing_walk.specs.Walk.{Neighbour, neighbour, member, neighbours, roots, place, renumber}
 use Rattle.writing_walk.proofs.Count.{bit, count, count-append, eqb-same, bond-same, All, none, more, all-map, all-append}
 use Rattle.writing_walk.proofs.Read.{Back, below, closes-at, ClosesAt}
 use Rattle.writing_walk.proofs.Walk.{times, range, Once, Dfs, end, skip, visit, Inside}
@@ -53,15 +53,15 @@ out-range : (w a d : ℕ) → a + d ≤ w → member w (range a d) ≡ false
 out-range w a zero h = refl
 out-range w a (suc d) h = rw (ne-eqb w a (omega arith)) (out-range w (suc a) d (omega arith))
 
-ways-append : (v : ℕ) (a b : List Bond) → ways v (a ++ b) ≡ ways v a ++ ways v b
+ways-append : (v : ℕ) (a b : List Bond) → neighbours v (a ++ b) ≡ neighbours v a ++ neighbours v b
 ways-append v [] b = refl
 ways-append v (x ∷ a) b = go (eqb (x .lo) v) (eqb (x .hi) v) (ways-append v a b)
   where
-    go : (p q : Bool) → ways v (a ++ b) ≡ ways v a ++ ways v b
-        → cond p (way (x .hi) (x .kind) ∷ ways v (a ++ b)) (cond q (way (x .lo) (x .kind) ∷ ways v (a ++ b)) (ways v (a ++ b)))
-        ≡ cond p (way (x .hi) (x .kind) ∷ ways v a) (cond q (way (x .lo) (x .kind) ∷ ways v a) (ways v a)) ++ ways v b
-    go true q h = ap (λ (l : List Way). way (x .hi) (x .kind) ∷ l) h
-    go false true h = ap (λ (l : List Way). way (x .lo) (x .kind) ∷ l) h
+    go : (p q : Bool) → neighbours v (a ++ b) ≡ neighbours v a ++ neighbours v b
+        → cond p (neighbour (x .hi) (x .kind) ∷ neighbours v (a ++ b)) (cond q (neighbour (x .lo) (x .kind) ∷ neighbours v (a ++ b)) (neighbours v (a ++ b)))
+        ≡ cond p (neighbour (x .hi) (x .kind) ∷ neighbours v a) (cond q (neighbour (x .lo) (x .kind) ∷ neighbours v a) (neighbours v a)) ++ neighbours v b
+    go true q h = ap (λ (l : List Neighbour). neighbour (x .hi) (x .kind) ∷ l) h
+    go false true h = ap (λ (l : List Neighbour). neighbour (x .lo) (x .kind) ∷ l) h
     go false false h = h
 
 pub all-both : {A : Type 0} (P Q R : A → Type 0) → ((b : A) → P b → Q b → R b) → (l : List A) → All P l → All Q l → All R l
@@ -69,11 +69,11 @@ all-both P Q R f [] none none = none
 all-both P Q R f (b ∷ l) (more h a) (more g c) = more (f b h g) (all-both P Q R f l a c)
 
 -- bonds below m are skipped when the atoms below m are seen
-skips : (bs : List Bond) (v m : ℕ) (l : List Bond) → Inside m l → (cs : List Way) (g : Forest) → Dfs bs cs (range 0 m) g → Dfs bs (ways v l ++ cs) (range 0 m) g
+skips : (bs : List Bond) (v m : ℕ) (l : List Bond) → Inside m l → (cs : List Neighbour) (g : Forest) → Dfs bs cs (range 0 m) g → Dfs bs (neighbours v l ++ cs) (range 0 m) g
 skips bs v m [] none cs g d = d
 skips bs v m (b ∷ l) (more h a) cs g d = go (eqb (b .lo) v) (eqb (b .hi) v) (skips bs v m l a cs g d)
   where
-    go : (p q : Bool) → Dfs bs (ways v l ++ cs) (range 0 m) g → Dfs bs (cond p (way (b .hi) (b .kind) ∷ ways v l) (cond q (way (b .lo) (b .kind) ∷ ways v l) (ways v l)) ++ cs) (range 0 m) g
+    go : (p q : Bool) → Dfs bs (neighbours v l ++ cs) (range 0 m) g → Dfs bs (cond p (neighbour (b .hi) (b .kind) ∷ neighbours v l) (cond q (neighbour (b .lo) (b .kind) ∷ neighbours v l) (neighbours v l)) ++ cs) (range 0 m) g
     go true q r = skip (in-range (b .hi) 0 m (omega arith) (omega arith)) r
     go false true r = skip (in-range (b .lo) 0 m (omega arith) (omega arith)) r
     go false false r = r
@@ -82,7 +82,7 @@ skips bs v m (b ∷ l) (more h a) cs g d = go (eqb (b .lo) v) (eqb (b .hi) v) (s
 abbrev Clear : ℕ → ℕ → List Bond → Type 0
 Clear a b l = All (λ x. (b ≤ x .hi) × (a ≤ x .lo → x .lo < b → ⊥)) l
 
-clear-ways : (v b : ℕ) → v < b → (l : List Bond) → Clear v b l → ways v l ≡ []
+clear-ways : (v b : ℕ) → v < b → (l : List Bond) → Clear v b l → neighbours v l ≡ []
 clear-ways v b h [] none = refl
 clear-ways v b h (x ∷ l) (more g a) =
     rw (ne-eqb (x .lo) v (λ e. g .1 (omega arith) (omega arith)), ne-eqb (x .hi) v (omega arith)) (clear-ways v b h l a)
@@ -185,7 +185,7 @@ module _ (N : List Bond) (c o : ℕ → List Bond) (k : Back N c o) where
       (inside-append (suc m + size f + size g) (done c o f m (suc m)) (done c o g v (suc m + size f)) (inside-mono (suc m + size f) (suc m + size f + size g) (omega arith) (done c o f m (suc m)) (done-inside f m (suc m) (omega arith))) (done-inside g v (suc m + size f) (omega arith)))))
 
   kids-dfs : (B : List Bond) (F : Forest) (v n : ℕ) → v < n → Deep N F n → (A rest : List Bond) → B ≡ A ++ (done c o F v n ++ rest) → Inside n A → Clear v (n + size F) rest
-      → Dfs B (ways v (done c o F v n ++ rest)) (range 0 n) (number F n)
+      → Dfs B (neighbours v (done c o F v n ++ rest)) (range 0 n) (number F n)
   kids-dfs B leaf v n h dleaf A rest e i l = rw (clear-ways v (n + 0) (omega arith) rest l) end
   kids-dfs B (node w j f g) v n h (dnode a d d2) A rest e i l =
       let n2 = suc n + size f in
@@ -203,15 +203,15 @@ module _ (N : List Bond) (c o : ℕ → List Bond) (k : Back N c o) where
       let q : n + suc (size f + size g) ≡ n2 + size g = omega arith in
       let l1 : Clear n n2 R1 = all-append (λ x. (n2 ≤ x .hi) × (n ≤ x .lo → x .lo < n2 → ⊥)) (done c o g v n2) rest (done-clear g v n2 n n2 (omega arith) (λ r s. omega arith) bl) (clear-mono v n (n + suc (size f + size g)) n2 (omega arith) (omega arith) rest l) in
       let l2 : Clear v (n2 + size g) rest = clear-mono v v (n + suc (size f + size g)) (n2 + size g) (omega arith) (omega arith) rest l in
-      let D1 : Dfs B (ways n B) (range 0 n ++ (n ∷ [])) (number f (suc n)) =
-      subst (λ (s : List ℕ). Dfs B (ways n B) s (number f (suc n))) (sym (next-range n))
-      (subst (λ (cs : List Way). Dfs B cs (range 0 (suc n)) (number f (suc n))) (sym (ap (ways n) e1 ∙ ways-append n A1 (done c o f n (suc n) ++ R1)))
-      (skips B n (suc n) A1 i1 (ways n (done c o f n (suc n) ++ R1)) (number f (suc n)) (kids-dfs B f n (suc n) (omega arith) d A1 R1 e1 i1 l1))) in
-      let D2 : Dfs B (ways v ((c n ++ (done c o f n (suc n) ++ done c o g v n2)) ++ rest)) ((range 0 n ++ (n ∷ [])) ++ pre (number f (suc n))) (number g n2) =
-      subst (λ (s : List ℕ). Dfs B (ways v ((c n ++ (done c o f n (suc n) ++ done c o g v n2)) ++ rest)) s (number g n2)) (sym (seen-range n f))
-      (subst (λ (cs : List Way). Dfs B cs (range 0 n2) (number g n2)) (sym (ap (ways v) e3 ∙ ways-append v K (done c o g v n2 ++ rest)))
-      (skips B v n2 K iK (ways v (done c o g v n2 ++ rest)) (number g n2) (kids-dfs B g v n2 (omega arith) d2 A2 rest e2 i2 l2))) in
-      rw (eqb-same v) (visit {x = way n j} (out-range n 0 n (omega arith)) D1 D2)
+      let D1 : Dfs B (neighbours n B) (range 0 n ++ (n ∷ [])) (number f (suc n)) =
+      subst (λ (s : List ℕ). Dfs B (neighbours n B) s (number f (suc n))) (sym (next-range n))
+      (subst (λ (cs : List Neighbour). Dfs B cs (range 0 (suc n)) (number f (suc n))) (sym (ap (neighbours n) e1 ∙ ways-append n A1 (done c o f n (suc n) ++ R1)))
+      (skips B n (suc n) A1 i1 (neighbours n (done c o f n (suc n) ++ R1)) (number f (suc n)) (kids-dfs B f n (suc n) (omega arith) d A1 R1 e1 i1 l1))) in
+      let D2 : Dfs B (neighbours v ((c n ++ (done c o f n (suc n) ++ done c o g v n2)) ++ rest)) ((range 0 n ++ (n ∷ [])) ++ pre (number f (suc n))) (number g n2) =
+      subst (λ (s : List ℕ). Dfs B (neighbours v ((c n ++ (done c o f n (suc n) ++ done c o g v n2)) ++ rest)) s (number g n2)) (sym (seen-range n f))
+      (subst (λ (cs : List Neighbour). Dfs B cs (range 0 n2) (number g n2)) (sym (ap (neighbours v) e3 ∙ ways-append v K (done c o g v n2 ++ rest)))
+      (skips B v n2 K iK (neighbours v (done c o g v n2 ++ rest)) (number g n2) (kids-dfs B g v n2 (omega arith) d2 A2 rest e2 i2 l2))) in
+      rw (eqb-same v) (visit {x = neighbour n j} (out-range n 0 n (omega arith)) D1 D2)
 
   pub roots-dfs : (B : List Bond) (r a : ℕ) (F : Forest) (m : ℕ) → Deep N F m → Plain F → a ≤ m → a + r ≡ m + size F → (A : List Bond) → B ≡ A ++ doneAll c o F m → Inside m A → Dfs B (roots a r) (range 0 m) (number F m)
   roots-dfs B zero a leaf m d pl h q A e i = end
@@ -229,31 +229,31 @@ module _ (N : List Bond) (c o : ℕ → List Bond) (k : Back N c o) where
       let i2 : Inside n2 A2 = inside-append n2 A (c m ++ done c o f m (suc m)) (inside-mono m n2 (omega arith) A i) iK in
       let bl : All (Block m n2) N = node-block N m f x (block N f (suc m) d) in
       let l1 : Clear m n2 R1 = doneAll-clear g n2 m n2 (omega arith) bl in
-      let D1 : Dfs B (ways m B) (range 0 m ++ (m ∷ [])) (number f (suc m)) =
-      subst (λ (s : List ℕ). Dfs B (ways m B) s (number f (suc m))) (sym (next-range m))
-      (subst (λ (cs : List Way). Dfs B cs (range 0 (suc m)) (number f (suc m))) (sym (ap (ways m) e1 ∙ ways-append m A1 (done c o f m (suc m) ++ R1)))
-      (skips B m (suc m) A1 i1 (ways m (done c o f m (suc m) ++ R1)) (number f (suc m)) (kids-dfs B f m (suc m) (omega arith) d A1 R1 e1 i1 l1))) in
+      let D1 : Dfs B (neighbours m B) (range 0 m ++ (m ∷ [])) (number f (suc m)) =
+      subst (λ (s : List ℕ). Dfs B (neighbours m B) s (number f (suc m))) (sym (next-range m))
+      (subst (λ (cs : List Neighbour). Dfs B cs (range 0 (suc m)) (number f (suc m))) (sym (ap (neighbours m) e1 ∙ ways-append m A1 (done c o f m (suc m) ++ R1)))
+      (skips B m (suc m) A1 i1 (neighbours m (done c o f m (suc m) ++ R1)) (number f (suc m)) (kids-dfs B f m (suc m) (omega arith) d A1 R1 e1 i1 l1))) in
       go (ltb a m) refl D1
       (λ (z : a < m). roots-dfs B r (suc a) (node w 0 f g) m (dnode x d d2) (pnode pl) (omega arith) (omega arith) A e i)
       (λ (z : a ≡ m). subst (λ (s : List ℕ). Dfs B (roots (suc a) r) s (number g n2)) (sym (seen-range m f)) (roots-dfs B r (suc a) g n2 d2 pl (omega arith) (omega arith) A2 e2 i2))
     where
-      go : (y : Bool) → ltb a m ≡ y → Dfs B (ways m B) (range 0 m ++ (m ∷ [])) (number f (suc m)) → (a < m → Dfs B (roots (suc a) r) (range 0 m) (number (node w 0 f g) m))
+      go : (y : Bool) → ltb a m ≡ y → Dfs B (neighbours m B) (range 0 m ++ (m ∷ [])) (number f (suc m)) → (a < m → Dfs B (roots (suc a) r) (range 0 m) (number (node w 0 f g) m))
           → (a ≡ m → Dfs B (roots (suc a) r) ((range 0 m ++ (m ∷ [])) ++ pre (number f (suc m))) (number g (suc m + size f)))
-          → Dfs B (way a 0 ∷ roots (suc a) r) (range 0 m) (number (node w 0 f g) m)
+          → Dfs B (neighbour a 0 ∷ roots (suc a) r) (range 0 m) (number (node w 0 f g) m)
       go true y D1 s t = let z = ltb-true a m y in skip (in-range a 0 m (omega arith) (omega arith)) (s z)
       go false y D1 s t =
           let u = ltb-false a m y in
           let z : a ≡ m = omega arith in
-          subst (λ (b : ℕ). Dfs B (way b 0 ∷ roots (suc a) r) (range 0 m) (number (node w 0 f g) m)) (sym z) (visit {x = way m 0} (out-range m 0 m (omega arith)) D1 (t z))
+          subst (λ (b : ℕ). Dfs B (neighbour b 0 ∷ roots (suc a) r) (range 0 m) (number (node w 0 f g) m)) (sym z) (visit {x = neighbour m 0} (out-range m 0 m (omega arith)) D1 (t z))
 
 -- the walk is depth first
-beside : (n : ℕ) (P : ℕ → Type 0) (w : ℕ) (bs : List Bond) → Inside n bs → All (λ x. P (x .to)) (ways w bs) → All (λ b. (b .lo ≡ w → P (b .hi)) × (b .hi ≡ w → P (b .lo))) bs
+beside : (n : ℕ) (P : ℕ → Type 0) (w : ℕ) (bs : List Bond) → Inside n bs → All (λ x. P (x .to)) (neighbours w bs) → All (λ b. (b .lo ≡ w → P (b .hi)) × (b .hi ≡ w → P (b .lo))) bs
 beside n P w [] i a = none
 beside n P w (b ∷ bs) (more h i) a = go (eqb (b .lo) w) refl (eqb (b .hi) w) refl a (beside n P w bs i)
   where
     go : (x : Bool) → eqb (b .lo) w ≡ x → (y : Bool) → eqb (b .hi) w ≡ y
-        → All (λ x. P (x .to)) (cond x (way (b .hi) (b .kind) ∷ ways w bs) (cond y (way (b .lo) (b .kind) ∷ ways w bs) (ways w bs)))
-        → (All (λ x. P (x .to)) (ways w bs) → All (λ b. (b .lo ≡ w → P (b .hi)) × (b .hi ≡ w → P (b .lo))) bs)
+        → All (λ x. P (x .to)) (cond x (neighbour (b .hi) (b .kind) ∷ neighbours w bs) (cond y (neighbour (b .lo) (b .kind) ∷ neighbours w bs) (neighbours w bs)))
+        → (All (λ x. P (x .to)) (neighbours w bs) → All (λ b. (b .lo ≡ w → P (b .hi)) × (b .hi ≡ w → P (b .lo))) bs)
         → All (λ b. (b .lo ≡ w → P (b .hi)) × (b .hi ≡ w → P (b .lo))) (b ∷ bs)
     go true p y q (more r a) f = more {b = b} ((λ e. r), (λ e. absurd (let z = eqb-true (b .lo) w p in omega arith))) (f a)
     go false p true q (more r a) f = more {b = b} ((λ e. absurd (eqb-false (b .lo) w p e)), (λ e. r)) (f a)
@@ -282,7 +282,7 @@ module _ (n : ℕ) (order : List ℕ) (bs : List Bond) (i : Inside n bs) (o : On
   all-of-map P [] none = none
   all-of-map P (b ∷ l) (more h a) = more h (all-of-map P l a)
 
-  pub dfs-deep : {cs : List Way} {s : List ℕ} {F : Forest} → Dfs bs cs s F → (z : List ℕ) → order ≡ s ++ (pre F ++ z) → (m : ℕ) → length s ≡ m → Deep (map (renumber order) bs) F m
+  pub dfs-deep : {cs : List Neighbour} {s : List ℕ} {F : Forest} → Dfs bs cs s F → (z : List ℕ) → order ≡ s ++ (pre F ++ z) → (m : ℕ) → length s ≡ m → Deep (map (renumber order) bs) F m
   dfs-deep end z e m l = dleaf
   dfs-deep (skip _ d) z e m l = dfs-deep d z e m l
   dfs-deep (visit {x} {cs} {s} {f = F} {g = G} _ d c) z e m l =
@@ -293,9 +293,9 @@ module _ (n : ℕ) (order : List ℕ) (bs : List Bond) (i : Inside n bs) (o : On
       let l1 : length (s ++ (x .to ∷ [])) ≡ suc m = length-append s (x .to ∷ []) ∙ omega arith in
       let l2 : length s2 ≡ suc m + size F = length-append (s ++ (x .to ∷ [])) (pre F) ∙ (λ i. l1 i + size-length F i) in
       let t : 0 < times (x .to) order = omega (arith, ap (times (x .to)) e, count-append (eqb (x .to)) s (x .to ∷ ((pre F ++ pre G) ++ z)), ap bit (eqb-same (x .to))) in
-      let near : All (λ y. place order (y .to) < suc m + size F) (ways (x .to) bs) =
+      let near : All (λ y. place order (y .to) < suc m + size F) (neighbours (x .to) bs) =
       all-map (λ y. 0 < times (y .to) s2) (λ y. place order (y .to) < suc m + size F)
-      (λ y h. let u = place-front (y .to) s2 (pre G ++ z) h in let u2 : place order (y .to) ≡ place (s2 ++ (pre G ++ z)) (y .to) = ap (λ (k : List ℕ). place k (y .to)) e2 in omega arith) (ways (x .to) bs) (dfs-all bs d) in
+      (λ y h. let u = place-front (y .to) s2 (pre G ++ z) h in let u2 : place order (y .to) ≡ place (s2 ++ (pre G ++ z)) (y .to) = ap (λ (k : List ℕ). place k (y .to)) e2 in omega arith) (neighbours (x .to) bs) (dfs-all bs d) in
       dnode (all-of-map (λ b. b .lo ≡ m → b .hi < suc m + size F) bs
       (all-both (λ b. (b .lo < b .hi) × (b .hi < n)) (λ b. (b .lo ≡ x .to → place order (b .hi) < suc m + size F) × (b .hi ≡ x .to → place order (b .lo) < suc m + size F)) (λ b. renumber order b .lo ≡ m → renumber order b .hi < suc m + size F)
       (deep-one (x .to) m (suc m + size F) t q) bs i (beside n (λ v. place order v < suc m + size F) (x .to) bs i near)))
@@ -306,11 +306,11 @@ pub deep-part : (N M : List Bond) → ((P : Bond → Type 0) → All P M → All
 deep-part N M f leaf n dleaf = dleaf
 deep-part N M f (node w k g h) n (dnode a d e) = dnode (f (λ b. b .lo ≡ n → b .hi < suc n + size g) a) (deep-part N M f g (suc n) d) (deep-part N M f h (suc n + size g) e)
 
-pub dfs-plain : (bs : List Bond) {cs : List Way} {s : List ℕ} {F : Forest} → Dfs bs cs s F → All (λ x. x .kind ≡ 0) cs → Plain F
+pub dfs-plain : (bs : List Bond) {cs : List Neighbour} {s : List ℕ} {F : Forest} → Dfs bs cs s F → All (λ x. x .kind ≡ 0) cs → Plain F
 dfs-plain bs end none = pleaf
 dfs-plain bs (skip m d) (more h a) = dfs-plain bs d a
 dfs-plain bs (visit {x} {f} {g} m d e) (more h a) = subst (λ (k : ℕ). Plain (node (x .to) k f g)) (sym h) (pnode (dfs-plain bs e a))
 
 pub roots-plain : (a d : ℕ) → All (λ x. x .kind ≡ 0) (roots a d)
 roots-plain a zero = none
-roots-plain a (suc d) = more {b = way a 0} refl (roots-plain (suc a) d)
+roots-plain a (suc d) = more {b = neighbour a 0} refl (roots-plain (suc a) d)

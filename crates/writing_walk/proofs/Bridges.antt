@@ -9,7 +9,7 @@ use lib.Dec.{eqb, ltb}
 use borrow.Author.Tests.{eqb-true, eqb-false, ltb-true, ltb-false}
 use Rattle.writing_walk.specs.Token.{Bond, eqBond, Tok, apart, along, ring, branch, back}
 use Rattle.writing_walk.specs.Emit.{Forest, leaf, node, size, Slot, free, held, lowest, insert, find, release, closeAll, closeToks, openAll, openToks, wrap, rings, ringToks, after, toks, text}
-use Rattle.writing_walk.specs.Walk.{forestOf, relabel, closing, opening, unused, write}
+use Rattle.writing_walk.specs.Walk.{forestOf, relabel, closingBonds, openingBonds, unused, write}
 use Rattle.writing_walk.proofs.Count.{bit, count, All, none, more, all-append}
 use Rattle.writing_walk.proofs.Read.{Back, Inv, openOf, pending, inv-rings, inv-after, open-count, closes-within, Within, first-in, close-within, insert-count}
 use Rattle.writing_walk.proofs.Whole.{inv-start}
@@ -192,11 +192,11 @@ unfolding write
 low-places m n pay bs i l =
     let N = unused n bs in
     let k = back-of n N (inside-unused n bs i) in
-    text-low N (closing n N) (opening n N) k m l (relabel pay (forestOf n bs)) 0 [] (inv-start N (closing n N) (opening n N) k) (omega arith)
+    text-low N (closingBonds n N) (openingBonds n N) k m l (relabel pay (forestOf n bs)) 0 [] (inv-start N (closingBonds n N) (openingBonds n N) k) (omega arith)
 
 pub places-low : (m n : ℕ) (pay : ℕ → ℕ) (bs : List Bond) → Inside n bs → All (Low m) (write n pay bs) → (x : ℕ) → x ≤ size (relabel pay (forestOf n bs)) → count (pending x) (unused n bs) ≤ m
 unfolding write
 places-low m n pay bs i a x h =
     let N = unused n bs in
     let k = back-of n N (inside-unused n bs i) in
-    text-loads N (closing n N) (opening n N) k m (relabel pay (forestOf n bs)) 0 [] (inv-start N (closing n N) (opening n N) k) (omega arith) a .loads x (omega arith) (omega arith)
+    text-loads N (closingBonds n N) (openingBonds n N) k m (relabel pay (forestOf n bs)) 0 [] (inv-start N (closingBonds n N) (openingBonds n N) k) (omega arith) a .loads x (omega arith) (omega arith)

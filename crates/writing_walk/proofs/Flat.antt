@@ -6,7 +6,7 @@ use Prim.Native.Nat.{ℕ, suc, _+_}
 use native.Mathlib.Omega.{arith}
 use Rattle.writing_walk.specs.Token.{Bond, Tok, apart, along, branch, back}
 use Rattle.writing_walk.specs.Emit.{Forest, leaf, node, size, Slot, wrap, rings, ringToks, after, toks, text}
-use Rattle.writing_walk.specs.Flat.{Stand, root, first, later, Row, some?, rows, rootRows, child, lead, flat}
+use Rattle.writing_walk.specs.Flat.{Position, root, first, later, WalkRow, some?, walkRows, rootRows, child, lead, flat}
 
 -- a branch is left before the next child
 abbrev leaving : Forest → List Tok
@@ -19,13 +19,13 @@ module _ (c o : ℕ → List Bond) where
   wrapped (node w′ k′ f g) k w x y = ap (λ (l : List Tok). branch ∷ along k w ∷ l) (sym (append-assoc x (back ∷ []) y))
 
   -- the tokens before a child that is not the first
-  abbrev before : Stand → Forest → List Tok
+  abbrev before : Position → Forest → List Tok
   before s leaf = []
   before root (node w k f g) = []
   before first (node w k f g) = []
   before later (node w k f g) = back ∷ []
 
-  abbrev IsChild : Stand → Type 0
+  abbrev IsChild : Position → Type 0
   IsChild s = (k w : ℕ) (m : Bool) (f g : Forest) → lead s m k w ≡ before s (node w k f g) ++ child m k w
 
   child-first : IsChild first
@@ -38,8 +38,8 @@ module _ (c o : ℕ → List Bond) where
   leaving-later leaf = refl
   leaving-later (node w k f g) = refl
 
-  flat-rows : (F : Forest) (s : Stand) → IsChild s → (rs : List Row) (n : ℕ) (t : List Slot)
-      → flat c o (rows F s ++ rs) n t ≡ before s F ++ (toks c o F n t ++ flat c o rs (n + size F) (after c o F n t))
+  flat-rows : (F : Forest) (s : Position) → IsChild s → (rs : List WalkRow) (n : ℕ) (t : List Slot)
+      → flat c o (walkRows F s ++ rs) n t ≡ before s F ++ (toks c o F n t ++ flat c o rs (n + size F) (after c o F n t))
   flat-rows leaf s h rs n t = let e : n ≡ n + 0 = omega arith in ap (λ (m : ℕ). flat c o rs m t) e
   flat-rows (node w k f g) s h rs n t =
       let u = rings c o n t in
@@ -50,12 +50,12 @@ module _ (c o : ℕ → List Bond) where
       let Y = toks c o g n2 t2 in
       let Z = flat c o rs (n2 + size g) (after c o g n2 t2) in
       let e : n2 + size g ≡ n + suc (size f + size g) = omega arith in
-      let q : flat c o ((rows f first ++ rows g later) ++ rs) (suc n) u ≡ X ++ (leaving g ++ (Y ++ Z)) =
-      ap (λ (l : List Row). flat c o l (suc n) u) (append-assoc (rows f first) (rows g later) rs)
-      ∙ flat-rows f first child-first (rows g later ++ rs) (suc n) u
-      ∙ no-lead f (X ++ flat c o (rows g later ++ rs) n2 t2)
+      let q : flat c o ((walkRows f first ++ walkRows g later) ++ rs) (suc n) u ≡ X ++ (leaving g ++ (Y ++ Z)) =
+      ap (λ (l : List WalkRow). flat c o l (suc n) u) (append-assoc (walkRows f first) (walkRows g later) rs)
+      ∙ flat-rows f first child-first (walkRows g later ++ rs) (suc n) u
+      ∙ no-lead f (X ++ flat c o (walkRows g later ++ rs) n2 t2)
       ∙ ap (λ (l : List Tok). X ++ l) (flat-rows g later child-later rs n2 t2 ∙ ap (λ (l : List Tok). l ++ (Y ++ Z)) (leaving-later g)) in
-      ap (λ (l : List Tok). l ++ (R ++ flat c o ((rows f first ++ rows g later) ++ rs) (suc n) u)) (h k w (some? g) f g)
+      ap (λ (l : List Tok). l ++ (R ++ flat c o ((walkRows f first ++ walkRows g later) ++ rs) (suc n) u)) (h k w (some? g) f g)
       ∙ ap (λ (l : List Tok). (before s (node w k f g) ++ child (some? g) k w) ++ (R ++ l)) q
       ∙ append-assoc (before s (node w k f g)) (child (some? g) k w) (R ++ (X ++ (leaving g ++ (Y ++ Z))))
       ∙ ap (λ (l : List Tok). before s (node w k f g) ++ l)

@@ -5,8 +5,8 @@ use mathlib.Core.List.{List, [], _∷_, _++_, append-assoc}
 use Prim.Native.Nat.{ℕ, zero, suc, _+_}
 use Rattle.writing_walk.specs.Token.{Bond, Tok, along, back}
 use Rattle.writing_walk.specs.Emit.{Forest, leaf, node, size, Slot, closeAll, closeToks, openToks, insert, release, wrap, rings, ringToks, after, toks, text}
-use Rattle.writing_walk.specs.Walk.{forestOf, relabel, closing, opening, unused, write}
-use Rattle.writing_walk.specs.Check.{grammar, accepted}
+use Rattle.writing_walk.specs.Walk.{forestOf, relabel, closingBonds, openingBonds, unused, write}
+use Rattle.writing_walk.specs.Check.{grammar, acceptedTokens}
 
 close-grammar : (c : List Bond) (t : List Slot) (d : ℕ) (r : List Tok) → grammar (closeToks c t ++ r) d false ≡ grammar r d false
 close-grammar [] t d r = refl
@@ -45,11 +45,11 @@ module _ (c o : ℕ → List Bond) where
       ∙ ring-grammar n t 0 (toks c o f (suc n) (rings c o n t) ++ y) ∙ toks-grammar f (suc n) (rings c o n t) 0 y
       ∙ text-grammar g (suc n + size f) (after c o f (suc n) (rings c o n t))
 
-  accepts : (F : Forest) → accepted (text c o F 0 []) ≡ true
+  accepts : (F : Forest) → acceptedTokens (text c o F 0 []) ≡ true
   accepts leaf = refl
   accepts (node w k f g) = text-grammar (node w k f g) 0 []
 
 -- THE STATEMENT
-pub written-grammar : (n : ℕ) (pay : ℕ → ℕ) (bs : List Bond) → accepted (write n pay bs) ≡ true
+pub written-grammar : (n : ℕ) (pay : ℕ → ℕ) (bs : List Bond) → acceptedTokens (write n pay bs) ≡ true
 unfolding write
-written-grammar n pay bs = accepts (closing n (unused n bs)) (opening n (unused n bs)) (relabel pay (forestOf n bs))
+written-grammar n pay bs = accepts (closingBonds n (unused n bs)) (openingBonds n (unused n bs)) (relabel pay (forestOf n bs))

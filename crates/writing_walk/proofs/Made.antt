@@ -7,7 +7,7 @@ use native.Mathlib.Omega.{arith}
 use lib.Dec.{eqb, ltb}
 use Rattle.writing_walk.specs.Token.{Bond, bond, eqBond, Tok, apart, along, ring, branch, back}
 use Rattle.writing_walk.specs.Emit.{Forest, leaf, node, size, pre, Slot, lowest, insert, find, release, closeAll, closeToks, openToks, wrap, rings, ringToks, after, toks, text, tree, trees}
-use Rattle.writing_walk.specs.Walk.{forestOf, place, renumber, keep, sweep, closing, opening, relabel, renumbered, unused, removeAll, write}
+use Rattle.writing_walk.specs.Walk.{forestOf, place, renumber, keep, sweep, closingBonds, openingBonds, relabel, renumbered, unused, removeAll, write}
 use Rattle.writing_walk.specs.Flat.{kinds}
 use Rattle.writing_walk.proofs.Count.{bit, count, bond-same, All, none, more, all-map, all-append}
 use Rattle.writing_walk.proofs.Walk.{Inside}
@@ -113,7 +113,7 @@ module _ (P Q : ℕ → Type 0) (zeroth : Q 0) where
       let r : All K R = all-renumber (pre F) bs a in
       let w : (b : Bond) → count (eqBond b) (trees F 0) ≤ count (eqBond b) R = within n bs i in
       let t : All K (trees F 0) = all-counted (trees F 0) (λ b h. all-has K R r b (let q = w b in omega arith)) in
-      text-made (closing n N) (opening n N) (λ x. all-sweep (λ b. b .hi) (keep (λ b. eqb (b .lo) x) N) 0 n (all-keep K (λ b. eqb (b .lo) x) N (all-removeAll K (trees F 0) R r))) pay F 0 []
+      text-made (closingBonds n N) (openingBonds n N) (λ x. all-sweep (λ b. b .hi) (keep (λ b. eqb (b .lo) x) N) 0 n (all-keep K (λ b. eqb (b .lo) x) N (all-removeAll K (trees F 0) R r))) pay F 0 []
       (all-map (λ v. v < n) (λ v. P (pay v)) p (pre F) (renumbering n bs i .inside)) (trees-kinds F 0 t)
 
   -- the same of the bonds as they are completed

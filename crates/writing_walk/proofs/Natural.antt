@@ -4,7 +4,7 @@ use mathlib.Core.List.{List, [], _∷_, _++_, map}
 use Prim.Native.Nat.{ℕ, suc, _+_}
 use Rattle.writing_walk.specs.Token.{Bond, Tok, apart, along, ring, branch, back}
 use Rattle.writing_walk.specs.Emit.{Forest, leaf, node, size, Slot, lowest, insert, find, release, closeAll, closeToks, openToks, wrap, rings, ringToks, after, toks, text}
-use Rattle.writing_walk.specs.Walk.{forestOf, relabel, closing, opening, unused, write}
+use Rattle.writing_walk.specs.Walk.{forestOf, relabel, closingBonds, openingBonds, unused, write}
 use Rattle.writing_walk.proofs.Trip.{size-relabel}
 
 abbrev pub onTok : (ℕ → ℕ) → Tok → Tok
@@ -73,5 +73,5 @@ relabel-same (node w k f g) = λ i. node w k (relabel-same f i) (relabel-same g 
 pub write-natural : (n : ℕ) (pay : ℕ → ℕ) (bs : List Bond) → write n pay bs ≡ map (onTok pay) (write n (λ v. v) bs)
 unfolding write
 write-natural n pay bs =
-    sym (ap (λ (F : Forest). map (onTok pay) (text (closing n (unused n bs)) (opening n (unused n bs)) F 0 [])) (relabel-same (forestOf n bs))
-    ∙ each-text pay (closing n (unused n bs)) (opening n (unused n bs)) (forestOf n bs) 0 [])
+    sym (ap (λ (F : Forest). map (onTok pay) (text (closingBonds n (unused n bs)) (openingBonds n (unused n bs)) F 0 [])) (relabel-same (forestOf n bs))
+    ∙ each-text pay (closingBonds n (unused n bs)) (openingBonds n (unused n bs)) (forestOf n bs) 0 [])

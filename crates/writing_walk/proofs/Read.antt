@@ -6,19 +6,20 @@ use Prim.Native.Nat.{ℕ, suc, _+_, _≤_, _<_}
 use native.Mathlib.Omega.{arith}
 use lib.Dec.{eqb, ltb, leb}
 use borrow.Author.Tests.{eq-eqb, ne-eqb, eqb-true, eqb-false, lt-ltb, ltb-true, ltb-false, le-leb, lt-leb, le-ltb}
-use Rattle.writing_walk.specs.Token.{Bond, bond, eqBond, Tok, along, ring, back, Hook, vacant, at, hookAt, hang, St, st, joined, bridge, step, run}
+use Rattle.writing_walk.specs.Token.{Bond, bond, eqBond, Tok, along, ring, back, bondBetween}
+use Rattle.writing_walk.specs.Reading.{Closure, vacant, at, closureAt, setClosure, St, st, bridge, stepToken, runTokens}
 use Rattle.writing_walk.specs.Emit.{Forest, leaf, node, size, pre, Slot, free, held, lowest, insert, find, release, closeAll, closeToks, openAll, openToks, wrap, rings, ringToks, after, toks, text, done, doneAll, hubAfter, endHub, lastHub}
 use Rattle.writing_walk.proofs.Count.{bit, count, and-left, and-right, bond-same, bond-eq, All, none, more, all-map, nobody, all-of}
 
-pub run-append : (a b : List Tok) (s : St) → run (a ++ b) s ≡ run b (run a s)
+pub run-append : (a b : List Tok) (s : St) → runTokens (a ++ b) s ≡ runTokens b (runTokens a s)
 run-append [] b s = refl
-run-append (t ∷ a) b s = run-append a b (step t s)
+run-append (t ∷ a) b s = run-append a b (stepToken t s)
 
-abbrev pub hook : Slot → Hook
+abbrev pub hook : Slot → Closure
 hook free = vacant
 hook (held b) = at (b .lo) (b .kind)
 
-abbrev pub hooks : List Slot → List Hook
+abbrev pub hooks : List Slot → List Closure
 hooks t = map hook t
 
 abbrev pub openOf : List Slot → List Bond
@@ -26,15 +27,15 @@ openOf [] = []
 openOf (free ∷ t) = openOf t
 openOf (held b ∷ t) = b ∷ openOf t
 
-pub lowest-vacant : (t : List Slot) → hookAt (hooks t) (lowest t) ≡ vacant
+pub lowest-vacant : (t : List Slot) → closureAt (hooks t) (lowest t) ≡ vacant
 lowest-vacant [] = refl
 lowest-vacant (free ∷ t) = refl
 lowest-vacant (held b ∷ t) = lowest-vacant t
 
-lowest-hang : (b : Bond) (t : List Slot) → hang (hooks t) (lowest t) (at (b .lo) (b .kind)) ≡ hooks (insert b t)
+lowest-hang : (b : Bond) (t : List Slot) → setClosure (hooks t) (lowest t) (at (b .lo) (b .kind)) ≡ hooks (insert b t)
 lowest-hang b [] = refl
 lowest-hang b (free ∷ t) = refl
-lowest-hang b (held x ∷ t) = ap (λ (l : List Hook). at (x .lo) (x .kind) ∷ l) (lowest-hang b t)
+lowest-hang b (held x ∷ t) = ap (λ (l : List Closure). at (x .lo) (x .kind) ∷ l) (lowest-hang b t)
 
 pub insert-count : (p : Bond → Bool) (b : Bond) (t : List Slot) → count p (openOf (insert b t)) ≡ bit (p b) + count p (openOf t)
 insert-count p b [] = refl
@@ -42,25 +43,25 @@ insert-count p b (free ∷ t) = refl
 insert-count p b (held x ∷ t) = omega (arith, insert-count p b t)
 
 -- one slot more, by whether it holds the bond
-find-hook : (b : Bond) (t : List Slot) → 0 < count (eqBond b) (openOf t) → hookAt (hooks t) (find b t) ≡ at (b .lo) (b .kind)
+find-hook : (b : Bond) (t : List Slot) → 0 < count (eqBond b) (openOf t) → closureAt (hooks t) (find b t) ≡ at (b .lo) (b .kind)
 find-hook b [] h = absurd (omega arith)
 find-hook b (free ∷ t) h = find-hook b t h
 find-hook b (held x ∷ t) h = go (eqBond b x) refl h (find-hook b t)
   where
-    go : (e : Bool) → eqBond b x ≡ e → 0 < bit e + count (eqBond b) (openOf t) → (0 < count (eqBond b) (openOf t) → hookAt (hooks t) (find b t) ≡ at (b .lo) (b .kind))
-        → hookAt (hooks (held x ∷ t)) (cond e 0 (suc (find b t))) ≡ at (b .lo) (b .kind)
+    go : (e : Bool) → eqBond b x ≡ e → 0 < bit e + count (eqBond b) (openOf t) → (0 < count (eqBond b) (openOf t) → closureAt (hooks t) (find b t) ≡ at (b .lo) (b .kind))
+        → closureAt (hooks (held x ∷ t)) (cond e 0 (suc (find b t))) ≡ at (b .lo) (b .kind)
     go true e h f = ap (λ (y : Bond). at (y .lo) (y .kind)) (sym (bond-eq b x e))
     go false e h f = f (omega arith)
 
-find-hang : (b : Bond) (t : List Slot) → 0 < count (eqBond b) (openOf t) → hang (hooks t) (find b t) vacant ≡ hooks (release b t)
+find-hang : (b : Bond) (t : List Slot) → 0 < count (eqBond b) (openOf t) → setClosure (hooks t) (find b t) vacant ≡ hooks (release b t)
 find-hang b [] h = absurd (omega arith)
-find-hang b (free ∷ t) h = ap (λ (l : List Hook). vacant ∷ l) (find-hang b t h)
+find-hang b (free ∷ t) h = ap (λ (l : List Closure). vacant ∷ l) (find-hang b t h)
 find-hang b (held x ∷ t) h = go (eqBond b x) h (find-hang b t)
   where
-    go : (e : Bool) → 0 < bit e + count (eqBond b) (openOf t) → (0 < count (eqBond b) (openOf t) → hang (hooks t) (find b t) vacant ≡ hooks (release b t))
-        → hang (hooks (held x ∷ t)) (cond e 0 (suc (find b t))) vacant ≡ hooks (cond e (free ∷ t) (held x ∷ release b t))
+    go : (e : Bool) → 0 < bit e + count (eqBond b) (openOf t) → (0 < count (eqBond b) (openOf t) → setClosure (hooks t) (find b t) vacant ≡ hooks (release b t))
+        → setClosure (hooks (held x ∷ t)) (cond e 0 (suc (find b t))) vacant ≡ hooks (cond e (free ∷ t) (held x ∷ release b t))
     go true h f = refl
-    go false h f = ap (λ (l : List Hook). at (x .lo) (x .kind) ∷ l) (f (omega arith))
+    go false h f = ap (λ (l : List Closure). at (x .lo) (x .kind) ∷ l) (f (omega arith))
 
 release-count : (p : Bond → Bool) (b : Bond) (t : List Slot) → 0 < count (eqBond b) (openOf t) → count p (openOf t) ≡ bit (p b) + count p (openOf (release b t))
 release-count p b [] h = absurd (omega arith)
@@ -98,36 +99,36 @@ pub record ClosesAt (n : ℕ) (b : Bond) : Type 0 where
   pub below : b .lo < n
   pub here : b .hi ≡ n
 
-joined-at : (n : ℕ) (b : Bond) → ClosesAt n b → joined (b .lo) n (b .kind) ≡ b
+joined-at : (n : ℕ) (b : Bond) → ClosesAt n b → bondBetween (b .lo) n (b .kind) ≡ b
 joined-at n b h = rw (lt-ltb (b .lo) n (h .below)) (λ i. record { lo = b .lo; hi = sym (h .here) i; kind = b .kind })
 
 -- a bridge found at its place
-pub bridged : (x y : Hook) → x ≡ y → (k m : ℕ) (xs : List ℕ) (bs : List Bond) (h n : ℕ) (hs : List Hook) (stk : List ℕ) → bridge x k m xs bs h n hs stk ≡ bridge y k m xs bs h n hs stk
-bridged x y e k m xs bs h n hs stk = ap (λ (z : Hook). bridge z k m xs bs h n hs stk) e
+pub bridged : (x y : Closure) → x ≡ y → (k m : ℕ) (xs : List ℕ) (bs : List Bond) (h n : ℕ) (hs : List Closure) (stk : List ℕ) → bridge x k m xs bs h n hs stk ≡ bridge y k m xs bs h n hs stk
+bridged x y e k m xs bs h n hs stk = ap (λ (z : Closure). bridge z k m xs bs h n hs stk) e
 
 step-close : (n m : ℕ) (xs stk : List ℕ) (b : Bond) (t : List Slot) (bs : List Bond) → ClosesAt n b → 0 < count (eqBond b) (openOf t)
-    → step (ring 0 (find b t)) (st xs bs n m (hooks t) stk) ≡ st xs (bs ++ (b ∷ [])) n m (hooks (release b t)) stk
+    → stepToken (ring 0 (find b t)) (st xs bs n m (hooks t) stk) ≡ st xs (bs ++ (b ∷ [])) n m (hooks (release b t)) stk
 step-close n m xs stk b t bs a h =
-    bridged (hookAt (hooks t) (find b t)) (at (b .lo) (b .kind)) (find-hook b t h) 0 (find b t) xs bs n m (hooks t) stk
+    bridged (closureAt (hooks t) (find b t)) (at (b .lo) (b .kind)) (find-hook b t h) 0 (find b t) xs bs n m (hooks t) stk
     ∙ (λ i. st xs (bs ++ (joined-at n b a i ∷ [])) n m (find-hang b t h i) stk)
 
 pub read-closes : (n m : ℕ) (xs stk : List ℕ) (c : List Bond) (t : List Slot) (bs : List Bond) → All (ClosesAt n) c → Within c (openOf t)
-    → run (closeToks c t) (st xs bs n m (hooks t) stk) ≡ st xs (bs ++ c) n m (hooks (closeAll c t)) stk
+    → runTokens (closeToks c t) (st xs bs n m (hooks t) stk) ≡ st xs (bs ++ c) n m (hooks (closeAll c t)) stk
 read-closes n m xs stk [] t bs a w = ap (λ (l : List Bond). st xs l n m (hooks t) stk) (sym (append-nil bs))
 read-closes n m xs stk (b ∷ c) t bs (more h a) w =
-    ap (run (closeToks c (release b t))) (step-close n m xs stk b t bs h (first-in b c (openOf t) w))
+    ap (runTokens (closeToks c (release b t))) (step-close n m xs stk b t bs h (first-in b c (openOf t) w))
     ∙ read-closes n m xs stk c (release b t) (bs ++ (b ∷ [])) a (close-within b c t w)
     ∙ ap (λ (l : List Bond). st xs l n m (hooks (closeAll c (release b t))) stk) (append-assoc bs (b ∷ []) c)
 
-pub hang-at : (n : ℕ) (b : Bond) (t : List Slot) → b .lo ≡ n → hang (hooks t) (lowest t) (at n (b .kind)) ≡ hooks (insert b t)
-hang-at n b t e = ap (λ (x : ℕ). hang (hooks t) (lowest t) (at x (b .kind))) (sym e) ∙ lowest-hang b t
+pub hang-at : (n : ℕ) (b : Bond) (t : List Slot) → b .lo ≡ n → setClosure (hooks t) (lowest t) (at n (b .kind)) ≡ hooks (insert b t)
+hang-at n b t e = ap (λ (x : ℕ). setClosure (hooks t) (lowest t) (at x (b .kind))) (sym e) ∙ lowest-hang b t
 
 pub read-opens : (n m : ℕ) (xs stk : List ℕ) (o : List Bond) (t : List Slot) (bs : List Bond) → All (λ b. b .lo ≡ n) o
-    → run (openToks o t) (st xs bs n m (hooks t) stk) ≡ st xs bs n m (hooks (openAll o t)) stk
+    → runTokens (openToks o t) (st xs bs n m (hooks t) stk) ≡ st xs bs n m (hooks (openAll o t)) stk
 read-opens n m xs stk [] t bs a = refl
 read-opens n m xs stk (b ∷ o) t bs (more h a) =
-    ap (run (openToks o (insert b t)))
-    (bridged (hookAt (hooks t) (lowest t)) vacant (lowest-vacant t) (b .kind) (lowest t) xs bs n m (hooks t) stk ∙ (λ i. st xs bs n m (hang-at n b t h i) stk))
+    ap (runTokens (openToks o (insert b t)))
+    (bridged (closureAt (hooks t) (lowest t)) vacant (lowest-vacant t) (b .kind) (lowest t) xs bs n m (hooks t) stk ∙ (λ i. st xs bs n m (hang-at n b t h i) stk))
     ∙ read-opens n m xs stk o (insert b t) bs a
 
 -- the bonds that stand open when the atom n begins
@@ -228,10 +229,10 @@ module _ (N : List Bond) (c o : ℕ → List Bond) (k : Back N c o) where
   inv-rings n t v p = omega (arith, v p, k .closes n p, k .opens n p, close-count (c n) t (closes-within n t v) p, open-count (o n) (closeAll (c n) t) p, count-balance n p N (k .ordered))
 
   pub read-rings : (n m : ℕ) (xs stk : List ℕ) (t : List Slot) (bs : List Bond) → Inv n t
-      → run (ringToks c o n t) (st xs bs n m (hooks t) stk) ≡ st xs (bs ++ c n) n m (hooks (rings c o n t)) stk
+      → runTokens (ringToks c o n t) (st xs bs n m (hooks t) stk) ≡ st xs (bs ++ c n) n m (hooks (rings c o n t)) stk
   read-rings n m xs stk t bs v =
       run-append (closeToks (c n) t) (openToks (o n) (closeAll (c n) t)) (st xs bs n m (hooks t) stk)
-      ∙ ap (run (openToks (o n) (closeAll (c n) t))) (read-closes n m xs stk (c n) t bs (closes-at n) (closes-within n t v))
+      ∙ ap (runTokens (openToks (o n) (closeAll (c n) t))) (read-closes n m xs stk (c n) t bs (closes-at n) (closes-within n t v))
       ∙ read-opens n m xs stk (o n) (closeAll (c n) t) (bs ++ c n) (opens-at n)
 
   pub inv-after : (F : Forest) (n : ℕ) (t : List Slot) → Inv n t → Inv (n + size F) (after c o F n t)
@@ -242,20 +243,20 @@ module _ (N : List Bond) (c o : ℕ → List Bond) (k : Back N c o) where
 
   -- a child's own part, before a branch is put around it: an atom that was just read, its bridges and its children
   pub read-body : (f : Forest) (n : ℕ) (t : List Slot) (xs : List ℕ) (bs : List Bond) (stk : List ℕ) → Inv n t
-      → ((xs : List ℕ) (bs : List Bond) → run (toks c o f (suc n) (rings c o n t)) (st xs bs n (suc n) (hooks (rings c o n t)) stk) ≡ st (xs ++ pre f) (bs ++ done c o f n (suc n)) (endHub f n (suc n)) (suc n + size f) (hooks (after c o f (suc n) (rings c o n t))) stk)
-      → run (ringToks c o n t ++ toks c o f (suc n) (rings c o n t)) (st xs bs n (suc n) (hooks t) stk)
+      → ((xs : List ℕ) (bs : List Bond) → runTokens (toks c o f (suc n) (rings c o n t)) (st xs bs n (suc n) (hooks (rings c o n t)) stk) ≡ st (xs ++ pre f) (bs ++ done c o f n (suc n)) (endHub f n (suc n)) (suc n + size f) (hooks (after c o f (suc n) (rings c o n t))) stk)
+      → runTokens (ringToks c o n t ++ toks c o f (suc n) (rings c o n t)) (st xs bs n (suc n) (hooks t) stk)
       ≡ st (xs ++ pre f) (bs ++ (c n ++ done c o f n (suc n))) (endHub f n (suc n)) (suc n + size f) (hooks (after c o f (suc n) (rings c o n t))) stk
   read-body f n t xs bs stk v ih =
       run-append (ringToks c o n t) (toks c o f (suc n) (rings c o n t)) (st xs bs n (suc n) (hooks t) stk)
-      ∙ ap (run (toks c o f (suc n) (rings c o n t))) (read-rings n (suc n) xs stk t bs v)
+      ∙ ap (runTokens (toks c o f (suc n) (rings c o n t))) (read-rings n (suc n) xs stk t bs v)
       ∙ ih xs (bs ++ c n)
       ∙ ap (λ (l : List Bond). st (xs ++ pre f) l (endHub f n (suc n)) (suc n + size f) (hooks (after c o f (suc n) (rings c o n t))) stk) (append-assoc bs (c n) (done c o f n (suc n)))
 
-  pub read-wrap : (g : Forest) (x : List Tok) (xs ys : List ℕ) (bs ds : List Bond) (h e n m : ℕ) (hs ks : List Hook) (stk : List ℕ)
-      → ((stk : List ℕ) → run x (st xs bs h n hs stk) ≡ st ys ds e m ks stk)
-      → run (wrap g x) (st xs bs h n hs stk) ≡ st ys ds (hubAfter g h e) m ks stk
+  pub read-wrap : (g : Forest) (x : List Tok) (xs ys : List ℕ) (bs ds : List Bond) (h e n m : ℕ) (hs ks : List Closure) (stk : List ℕ)
+      → ((stk : List ℕ) → runTokens x (st xs bs h n hs stk) ≡ st ys ds e m ks stk)
+      → runTokens (wrap g x) (st xs bs h n hs stk) ≡ st ys ds (hubAfter g h e) m ks stk
   read-wrap leaf x xs ys bs ds h e n m hs ks stk r = r stk
-  read-wrap (node w j f g) x xs ys bs ds h e n m hs ks stk r = run-append x (back ∷ []) (st xs bs h n hs (h ∷ stk)) ∙ ap (run (back ∷ [])) (r (h ∷ stk))
+  read-wrap (node w j f g) x xs ys bs ds h e n m hs ks stk r = run-append x (back ∷ []) (st xs bs h n hs (h ∷ stk)) ∙ ap (runTokens (back ∷ [])) (r (h ∷ stk))
 
   done-hub : (g : Forest) (h e n : ℕ) → done c o g (hubAfter g h e) n ≡ done c o g h n
   done-hub leaf h e n = refl
@@ -263,7 +264,7 @@ module _ (N : List Bond) (c o : ℕ → List Bond) (k : Back N c o) where
 
   -- reading the children of the hub
   pub read-kids : (F : Forest) (n h : ℕ) (t : List Slot) (xs : List ℕ) (bs : List Bond) (stk : List ℕ) → Inv n t
-      → run (toks c o F n t) (st xs bs h n (hooks t) stk) ≡ st (xs ++ pre F) (bs ++ done c o F h n) (endHub F h n) (n + size F) (hooks (after c o F n t)) stk
+      → runTokens (toks c o F n t) (st xs bs h n (hooks t) stk) ≡ st (xs ++ pre F) (bs ++ done c o F h n) (endHub F h n) (n + size F) (hooks (after c o F n t)) stk
   read-kids leaf n h t xs bs stk v = let e : n ≡ n + 0 = omega arith in λ i. st (sym (append-nil xs) i) (sym (append-nil bs) i) h (e i) (hooks t) stk
   read-kids (node w j f g) n h t xs bs stk v =
       let u = rings c o n t in
@@ -276,7 +277,7 @@ module _ (N : List Bond) (c o : ℕ → List Bond) (k : Back N c o) where
       let ds = (bs ++ (bond h n j ∷ [])) ++ (c n ++ done c o f n (suc n)) in
       let en : n2 + size g ≡ n + suc (size f + size g) = omega arith in
       run-append (wrap g body) (toks c o g n2 t2) (st xs bs h n (hooks t) stk)
-      ∙ ap (run (toks c o g n2 t2)) (read-wrap g body xs ys bs ds h e n n2 (hooks t) (hooks t2) stk
+      ∙ ap (runTokens (toks c o g n2 t2)) (read-wrap g body xs ys bs ds h e n n2 (hooks t) (hooks t2) stk
       (λ stk. read-body f n t (xs ++ (w ∷ [])) (bs ++ (bond h n j ∷ [])) stk v (λ xs bs. read-kids f (suc n) n u xs bs stk v1)))
       ∙ read-kids g n2 (hubAfter g h e) t2 ys ds stk (inv-after f (suc n) u v1)
       ∙ (λ i. st (regroup xs w (pre f) (pre g) i) (pile bs (bond h n j) (c n) (done c o f n (suc n)) (done c o g (hubAfter g h e) n2) (done c o g h n2) (done-hub g h e n2) i) (endHub g (hubAfter g h e) n2) (en i) (hooks (after c o g n2 t2)) stk)
@@ -289,7 +290,7 @@ module _ (N : List Bond) (c o : ℕ → List Bond) (k : Back N c o) where
 
   -- reading the whole text
   pub read-text : (F : Forest) (n h : ℕ) (t : List Slot) (xs : List ℕ) (bs : List Bond) → Inv n t
-      → run (text c o F n t) (st xs bs h n (hooks t) []) ≡ st (xs ++ pre F) (bs ++ doneAll c o F n) (lastHub F h n) (n + size F) (hooks (after c o F n t)) []
+      → runTokens (text c o F n t) (st xs bs h n (hooks t) []) ≡ st (xs ++ pre F) (bs ++ doneAll c o F n) (lastHub F h n) (n + size F) (hooks (after c o F n t)) []
   read-text leaf n h t xs bs v = let e : n ≡ n + 0 = omega arith in λ i. st (sym (append-nil xs) i) (sym (append-nil bs) i) h (e i) (hooks t) []
   read-text (node w j f g) n h t xs bs v =
       let u = rings c o n t in
@@ -301,7 +302,7 @@ module _ (N : List Bond) (c o : ℕ → List Bond) (k : Back N c o) where
       let ds = bs ++ (c n ++ done c o f n (suc n)) in
       let en : n2 + size g ≡ n + suc (size f + size g) = omega arith in
       run-append (ringToks c o n t ++ toks c o f (suc n) u) (text c o g n2 t2) (st (xs ++ (w ∷ [])) bs n (suc n) (hooks t) [])
-      ∙ ap (run (text c o g n2 t2)) (read-body f n t (xs ++ (w ∷ [])) bs [] v (λ xs bs. read-kids f (suc n) n u xs bs [] v1))
+      ∙ ap (runTokens (text c o g n2 t2)) (read-body f n t (xs ++ (w ∷ [])) bs [] v (λ xs bs. read-kids f (suc n) n u xs bs [] v1))
       ∙ read-text g n2 e t2 ys ds (inv-after f (suc n) u v1)
       ∙ (λ i. st (regroup xs w (pre f) (pre g) i) (pile bs (c n) (done c o f n (suc n)) (doneAll c o g n2) i) (lastHub g e n2) (en i) (hooks (after c o g n2 t2)) [])
     where

@@ -7,16 +7,17 @@ use native.Mathlib.Omega.{arith}
 use lib.Dec.{eqb, ltb}
 use lib.ListN.{length, length-append}
 use borrow.Author.Tests.{eq-eqb, ne-eqb, eqb-true, eqb-false, lt-ltb, le-ltb}
-use Rattle.writing_walk.specs.Token.{Bond, bond, eqBond, Hook, st, run, start, shut}
+use Rattle.writing_walk.specs.Token.{Bond, bond, eqBond}
+use Rattle.writing_walk.specs.Reading.{Closure, st, runTokens, startTokens, shut}
 use Rattle.writing_walk.specs.Emit.{Forest, leaf, node, size, pre, done, doneAll, tree, trees}
-use Rattle.writing_walk.specs.Walk.{Way, way, member, ways, roots, forestOf, place, renumber, remove, removeAll, keepIf, keep, sweep, closing, opening, relabel, renumbered, unused, write}
+use Rattle.writing_walk.specs.Walk.{Neighbour, neighbour, member, neighbours, roots, forestOf, place, renumber, remove, removeAll, keepIf, keep, sweep, closingBonds, openingBonds, relabel, renumbered, unused, write}
 use Rattle.writing_walk.proofs.Count.{bit, count, count-append, eqb-same, bond-same, bond-eq, All, none, more, all-map, all-append, nobody}
 use Rattle.writing_walk.proofs.Read.{Back, Tri, below, same, above, tri}
 use Rattle.writing_walk.proofs.Whole.{before-suc, and-sum, and-true, and-false, count-all, readback}
 use Rattle.writing_walk.proofs.Walk.{times, Once, once-cast, once-add, present, Dfs, end, skip, visit, Bounded, Inside, ways-bounded, roots-bounded, forest-dfs}
 
 -- each atom once
-pub dfs-once : (bs : List Bond) {cs : List Way} {s : List ℕ} {f : Forest} → Dfs bs cs s f → Once s → Once (s ++ pre f)
+pub dfs-once : (bs : List Bond) {cs : List Neighbour} {s : List ℕ} {f : Forest} → Dfs bs cs s f → Once s → Once (s ++ pre f)
 dfs-once bs (end {s}) h = once-cast (s ++ []) s (append-nil s) h
 dfs-once bs (skip m d) h = dfs-once bs d h
 dfs-once bs (visit {x} {s} {f} {g} m d e) h =
@@ -32,14 +33,14 @@ seen : (w : ℕ) (s : List ℕ) (f : Forest) → member w s ≡ true → 0 < tim
 seen w s f m = grows w s (pre f) (present w s m)
 
 -- the end of each way that is tried is visited after it
-pub dfs-all : (bs : List Bond) {cs : List Way} {s : List ℕ} {f : Forest} → Dfs bs cs s f → All (λ x. 0 < times (x .to) (s ++ pre f)) cs
+pub dfs-all : (bs : List Bond) {cs : List Neighbour} {s : List ℕ} {f : Forest} → Dfs bs cs s f → All (λ x. 0 < times (x .to) (s ++ pre f)) cs
 dfs-all bs end = none
 dfs-all bs (skip {x} {s} {f} m d) = more (seen (x .to) s f m) (dfs-all bs d)
 dfs-all bs (visit {x} {cs} {s} {f} {g} m d e) =
     let q : ((s ++ (x .to ∷ [])) ++ pre f) ++ pre g ≡ s ++ (x .to ∷ (pre f ++ pre g)) = simp append-assoc in
     more (here (x .to) s (pre f ++ pre g)) (rw q at (dfs-all bs e))
 
-pub dfs-below : (n : ℕ) (bs : List Bond) → Inside n bs → {cs : List Way} {s : List ℕ} {f : Forest} → Dfs bs cs s f → Bounded n cs → All (λ v. v < n) (pre f)
+pub dfs-below : (n : ℕ) (bs : List Bond) → Inside n bs → {cs : List Neighbour} {s : List ℕ} {f : Forest} → Dfs bs cs s f → Bounded n cs → All (λ v. v < n) (pre f)
 dfs-below n bs i end none = none
 dfs-below n bs i (skip m d) (more b a) = dfs-below n bs i d a
 dfs-below n bs i (visit {x} {f} {g} m d e) (more b a) = more b (all-append (λ v. v < n) (pre f) (pre g) (dfs-below n bs i d (ways-bounded n (x .to) bs i)) (dfs-below n bs i e a))
@@ -82,20 +83,20 @@ place-inj v w (x ∷ l) h g e = go (eqb v x) refl (eqb w x) refl h g e (place-in
     go false p false q h g e f = f (omega arith) (omega arith) (omega arith)
 
 -- a bond of the molecule in either direction
-abbrev pub Joins : List Bond → ℕ → Way → Type 0
+abbrev pub Joins : List Bond → ℕ → Neighbour → Type 0
 Joins bs v x = 0 < count (eqBond (bond v (x .to) (x .kind))) bs + count (eqBond (bond (x .to) v (x .kind))) bs
 
-joins-more : (b : Bond) (bs : List Bond) (v : ℕ) (x : Way) → Joins bs v x → Joins (b ∷ bs) v x
+joins-more : (b : Bond) (bs : List Bond) (v : ℕ) (x : Neighbour) → Joins bs v x → Joins (b ∷ bs) v x
 joins-more b bs v x h = omega arith
 
-ways-join : (v : ℕ) (bs : List Bond) → All (Joins bs v) (ways v bs)
+ways-join : (v : ℕ) (bs : List Bond) → All (Joins bs v) (neighbours v bs)
 ways-join v [] = none
-ways-join v (b ∷ bs) = go (eqb (b .lo) v) refl (eqb (b .hi) v) refl (all-map (Joins bs v) (Joins (b ∷ bs) v) (joins-more b bs v) (ways v bs) (ways-join v bs))
+ways-join v (b ∷ bs) = go (eqb (b .lo) v) refl (eqb (b .hi) v) refl (all-map (Joins bs v) (Joins (b ∷ bs) v) (joins-more b bs v) (neighbours v bs) (ways-join v bs))
   where
-    go : (x : Bool) → eqb (b .lo) v ≡ x → (y : Bool) → eqb (b .hi) v ≡ y → All (Joins (b ∷ bs) v) (ways v bs)
-        → All (Joins (b ∷ bs) v) (cond x (way (b .hi) (b .kind) ∷ ways v bs) (cond y (way (b .lo) (b .kind) ∷ ways v bs) (ways v bs)))
-    go true p y q r = more {b = way (b .hi) (b .kind)} (let z : eqBond (bond v (b .hi) (b .kind)) b ≡ true = rw (eq-eqb v (b .lo) (sym (eqb-true (b .lo) v p)), eqb-same (b .hi), eqb-same (b .kind)) in omega (arith, ap bit z)) r
-    go false p true q r = more {b = way (b .lo) (b .kind)} (let z : eqBond (bond (b .lo) v (b .kind)) b ≡ true = rw (eqb-same (b .lo), eq-eqb v (b .hi) (sym (eqb-true (b .hi) v q)), eqb-same (b .kind)) in omega (arith, ap bit z)) r
+    go : (x : Bool) → eqb (b .lo) v ≡ x → (y : Bool) → eqb (b .hi) v ≡ y → All (Joins (b ∷ bs) v) (neighbours v bs)
+        → All (Joins (b ∷ bs) v) (cond x (neighbour (b .hi) (b .kind) ∷ neighbours v bs) (cond y (neighbour (b .lo) (b .kind) ∷ neighbours v bs) (neighbours v bs)))
+    go true p y q r = more {b = neighbour (b .hi) (b .kind)} (let z : eqBond (bond v (b .hi) (b .kind)) b ≡ true = rw (eq-eqb v (b .lo) (sym (eqb-true (b .lo) v p)), eqb-same (b .hi), eqb-same (b .kind)) in omega (arith, ap bit z)) r
+    go false p true q r = more {b = neighbour (b .lo) (b .kind)} (let z : eqBond (bond (b .lo) v (b .kind)) b ≡ true = rw (eqb-same (b .lo), eq-eqb v (b .hi) (sym (eqb-true (b .hi) v q)), eqb-same (b .kind)) in omega (arith, ap bit z)) r
     go false p false q r = r
 
 in-map : (f : Bond → Bond) (b : Bond) (l : List Bond) → 0 < count (eqBond b) l → 0 < count (eqBond (f b)) (map f l)
@@ -111,7 +112,7 @@ either zero b h f g = g (omega arith)
 either (suc a) b h f g = f (omega arith)
 
 -- a way that was taken is a bond of the renumbered molecule
-taken : (order : List ℕ) (bs : List Bond) (v h n : ℕ) (x : Way) → place order v ≡ h → place order (x .to) ≡ n → h < n → Joins bs v x → 0 < count (eqBond (bond h n (x .kind))) (map (renumber order) bs)
+taken : (order : List ℕ) (bs : List Bond) (v h n : ℕ) (x : Neighbour) → place order v ≡ h → place order (x .to) ≡ n → h < n → Joins bs v x → 0 < count (eqBond (bond h n (x .kind))) (map (renumber order) bs)
 taken order bs v h n x p q l j =
     either (count (eqBond (bond v (x .to) (x .kind))) bs) (count (eqBond (bond (x .to) v (x .kind))) bs) j
     (λ c. let z : renumber order (bond v (x .to) (x .kind)) ≡ bond h n (x .kind) = rw (p, q, lt-ltb h n l) in rw z at (in-map (renumber order) (bond v (x .to) (x .kind)) bs c))
@@ -122,7 +123,7 @@ module _ (order : List ℕ) (bs : List Bond) (o : Once order) where
   abbrev Has : Bond → Type 0
   Has b = 0 < count (eqBond b) (map (renumber order) bs)
 
-  pub dfs-has : {cs : List Way} {s : List ℕ} {F : Forest} → Dfs bs cs s F → (z : List ℕ) → order ≡ s ++ (pre F ++ z) → (n : ℕ) → length s ≡ n → (v h : ℕ) → place order v ≡ h → h < n → All (Joins bs v) cs → All Has (tree F h n)
+  pub dfs-has : {cs : List Neighbour} {s : List ℕ} {F : Forest} → Dfs bs cs s F → (z : List ℕ) → order ≡ s ++ (pre F ++ z) → (n : ℕ) → length s ≡ n → (v h : ℕ) → place order v ≡ h → h < n → All (Joins bs v) cs → All Has (tree F h n)
   dfs-has end z e n l v h p g none = none
   dfs-has (skip m d) z e n l v h p g (more j a) = dfs-has d z e n l v h p g a
   dfs-has (visit {x} {cs} {s} {f = F} {g = G} m d c) z e n l v h p g (more j a) =
@@ -136,7 +137,7 @@ module _ (order : List ℕ) (bs : List Bond) (o : Once order) where
       (dfs-has d (pre G ++ z) e1 (suc n) l1 (x .to) n q (omega arith) (ways-join (x .to) bs))
       (dfs-has c z e2 (suc n + size F) l2 v h p (omega arith) a))
 
-  roots-have : {cs : List Way} {s : List ℕ} {F : Forest} → Dfs bs cs s F → (z : List ℕ) → order ≡ s ++ (pre F ++ z) → (n : ℕ) → length s ≡ n → All Has (trees F n)
+  roots-have : {cs : List Neighbour} {s : List ℕ} {F : Forest} → Dfs bs cs s F → (z : List ℕ) → order ≡ s ++ (pre F ++ z) → (n : ℕ) → length s ≡ n → All Has (trees F n)
   roots-have end z e n l = none
   roots-have (skip m d) z e n l = roots-have d z e n l
   roots-have (visit {x} {cs} {s} {f = F} {g = G} m d c) z e n l =
@@ -260,7 +261,7 @@ sweep-all p key m l a = omega (
   count-all p (λ b. ltb (key b) (0 + m)) l (all-map (λ b. key b < m) (λ b. ltb (key b) (0 + m) ≡ true) (λ b h. lt-ltb (key b) (0 + m) (omega arith)) l a),
 )
 
-pub back-of : (m : ℕ) (N : List Bond) → Inside m N → Back N (closing m N) (opening m N)
+pub back-of : (m : ℕ) (N : List Bond) → Inside m N → Back N (closingBonds m N) (openingBonds m N)
 back-of m N i = record {
   ordered = all-map (λ b. (b .lo < b .hi) × (b .hi < m)) (λ b. b .lo < b .hi) (λ b h. h .0) N i;
   closes = λ n p. sweep-all p (λ b. b .lo) m (keep (λ b. eqb (b .hi) n) N) (all-keep (λ b. b .lo < m) (λ b. eqb (b .hi) n) N (all-map (λ b. (b .lo < b .hi) × (b .hi < m)) (λ b. b .lo < m) (λ b h. omega arith) N i)) ∙ keep-count p (λ b. eqb (b .hi) n) N;
@@ -378,13 +379,13 @@ inside-unused n bs i = all-removeAll (λ b. (b .lo < b .hi) × (b .hi < n)) (tre
 
 -- the bonds as the reader completes them
 unfoldable pub completed : ℕ → List Bond → List Bond
-completed n bs = doneAll (closing n (unused n bs)) (opening n (unused n bs)) (forestOf n bs) 0
+completed n bs = doneAll (closingBonds n (unused n bs)) (openingBonds n (unused n bs)) (forestOf n bs) 0
 
 -- THE STATEMENT: reading what was written of a sound molecule
 pub record Returned (n : ℕ) (pay : ℕ → ℕ) (bs : List Bond) : Type 0 where
   pub hub : ℕ
-  pub bridges : List Hook
-  pub reads : run (write n pay bs) start ≡ st (map pay (pre (forestOf n bs))) (completed n bs) hub n bridges []
+  pub bridges : List Closure
+  pub reads : runTokens (write n pay bs) startTokens ≡ st (map pay (pre (forestOf n bs))) (completed n bs) hub n bridges []
   pub closed : shut bridges ≡ true
   pub bonds : (p : Bond → Bool) → count p (completed n bs) ≡ count p (renumbered n bs)
 
@@ -393,8 +394,8 @@ unfolding write completed unused
 round-trip n pay bs i =
     let F = forestOf n bs in
     let N = unused n bs in
-    let c = closing n N in
-    let o = opening n N in
+    let c = closingBonds n N in
+    let o = openingBonds n N in
     let k = back-of n N (inside-unused n bs i) in
     let s : size F ≡ n = sym (size-length F) ∙ renumbering n bs i .long in
     let e : size (relabel pay F) ≡ n = size-relabel pay F ∙ s in

@@ -8,9 +8,10 @@ use native.Mathlib.Nat.{zero-add}
 use lib.Dec.{eqb, ltb}
 use lib.ListN.{length, length-append, getD}
 use borrow.Author.Tests.{eq-eqb, eqb-true, eqb-false, lt-ltb}
-use Rattle.writing_walk.specs.Token.{Bond, bond, eqBond, Tok, St, st, run, start}
+use Rattle.writing_walk.specs.Token.{Bond, bond, eqBond, Tok}
+use Rattle.writing_walk.specs.Reading.{St, st, runTokens, startTokens}
 use Rattle.writing_walk.specs.Emit.{Forest, leaf, node, size, pre, text, done, doneAll, tree, trees}
-use Rattle.writing_walk.specs.Walk.{forestOf, place, renumber, removeAll, keep, sweep, closing, opening, relabel, renumbered, unused, write}
+use Rattle.writing_walk.specs.Walk.{forestOf, place, renumber, removeAll, keep, sweep, closingBonds, openingBonds, relabel, renumbered, unused, write}
 use Rattle.writing_walk.specs.Check.{ends}
 use Rattle.writing_walk.proofs.Count.{bit, count, and-left, and-right, bond-same, bond-eq, All, none, more, all-map}
 use Rattle.writing_walk.proofs.Read.{Back}
@@ -33,7 +34,7 @@ unfolding completed
 completed-inside n bs i =
     let N = unused n bs in
     let e : 0 + size (forestOf n bs) ≡ n = zero-add (size (forestOf n bs)) ∙ all-size n bs i in
-    rw e at (doneAll-inside N (closing n N) (opening n N) (back-of n N (inside-unused n bs i)) (forestOf n bs) 0)
+    rw e at (doneAll-inside N (closingBonds n N) (openingBonds n N) (back-of n N (inside-unused n bs i)) (forestOf n bs) 0)
 
 deep-forest : (n : ℕ) (bs : List Bond) → Inside n bs → Deep (unused n bs) (forestOf n bs) 0
 unfolding unused renumbered
@@ -52,7 +53,7 @@ forest-again n bs i =
     let k = back-of n N (inside-unused n bs i) in
     let s = all-size n bs i in
     dfs-same (completed n bs) (forest-dfs n (completed n bs) (completed-inside n bs i))
-    (roots-dfs N (closing n N) (opening n N) k (completed n bs) n 0 F 0 (deep-forest n bs i) (dfs-plain bs (forest-dfs n bs i) (roots-plain 0 n)) (omega arith) (omega arith) [] refl none)
+    (roots-dfs N (closingBonds n N) (openingBonds n N) k (completed n bs) n 0 F 0 (deep-forest n bs i) (dfs-plain bs (forest-dfs n bs i) (roots-plain 0 n)) (omega arith) (omega arith) [] refl none)
 
 -- the renumbering is the identity
 pub order-again : (n : ℕ) (bs : List Bond) → Inside n bs → pre (forestOf n (completed n bs)) ≡ range 0 n
@@ -220,11 +221,11 @@ and-turn p q (b ∷ l) = omega (arith, go (p b) (q b), and-turn p q l)
     go false true = refl
     go false false = refl
 
-closing-same : (n : ℕ) (N M : List Bond) → Alike N M → Distinct N → closing n N ≡ closing n M
+closing-same : (n : ℕ) (N M : List Bond) → Alike N M → Distinct N → closingBonds n N ≡ closingBonds n M
 closing-same n N M h d = fun-ext (λ m. sweep-same (λ b. b .lo) (keep (λ b. eqb (b .hi) m) N) (keep (λ b. eqb (b .hi) m) M) (alike-keep (λ b. eqb (b .hi) m) N M h)
     (λ a. let z = keep-count (λ b. eqb (b .lo) a) (λ b. eqb (b .hi) m) N in let y = d a m in omega arith) 0 n)
 
-opening-same : (n : ℕ) (N M : List Bond) → Alike N M → Distinct N → opening n N ≡ opening n M
+opening-same : (n : ℕ) (N M : List Bond) → Alike N M → Distinct N → openingBonds n N ≡ openingBonds n M
 opening-same n N M h d = fun-ext (λ m. sweep-same (λ b. b .hi) (keep (λ b. eqb (b .lo) m) N) (keep (λ b. eqb (b .lo) m) M) (alike-keep (λ b. eqb (b .lo) m) N M h)
     (λ a. let z = keep-count (λ b. eqb (b .hi) a) (λ b. eqb (b .lo) m) N in let y = d m a in let x = and-turn (λ b. eqb (b .hi) a) (λ b. eqb (b .lo) m) N in omega arith) 0 n)
 
@@ -260,8 +261,8 @@ write-again n pay bs i d =
     let L = map pay (pre F) in
     let N = unused n bs in
     let N2 = unused n (completed n bs) in
-    let c : closing n N2 ≡ closing n N = sym (closing-same n N N2 (λ p. sym (same-unused n bs i p)) (distinct-unused n bs i d)) in
-    let o : opening n N2 ≡ opening n N = sym (opening-same n N N2 (λ p. sym (same-unused n bs i p)) (distinct-unused n bs i d)) in
+    let c : closingBonds n N2 ≡ closingBonds n N = sym (closing-same n N N2 (λ p. sym (same-unused n bs i p)) (distinct-unused n bs i d)) in
+    let o : openingBonds n N2 ≡ openingBonds n N = sym (opening-same n N N2 (λ p. sym (same-unused n bs i p)) (distinct-unused n bs i d)) in
     let r : relabel (λ v. getD L v 0) (forestOf n (completed n bs)) ≡ relabel pay F = ap (relabel (λ v. getD L v 0)) (forest-again n bs i) ∙ relabel-number pay L F 0 [] [] (sym (append-nil L)) refl in
     λ j. text (c j) (o j) (r j) 0 []
 
@@ -279,5 +280,5 @@ abbrev pub rewrite : St → List Tok
 rewrite s = write (countOf s) (λ v. getD (atomsOf s) v 0) (bondsOf s)
 
 -- THE SAME, said of the state: reading a written text and writing what was read gives the text
-pub write-read-write : (n : ℕ) (pay : ℕ → ℕ) (bs : List Bond) → Inside n bs → Distinct bs → rewrite (run (write n pay bs) start) ≡ write n pay bs
+pub write-read-write : (n : ℕ) (pay : ℕ → ℕ) (bs : List Bond) → Inside n bs → Distinct bs → rewrite (runTokens (write n pay bs) startTokens) ≡ write n pay bs
 write-read-write n pay bs i d = ap rewrite (round-trip n pay bs i .reads) ∙ write-again n pay bs i d

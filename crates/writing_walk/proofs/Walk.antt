@@ -8,7 +8,7 @@ use lib.Dec.{eqb}
 use borrow.Author.Tests.{eqb-true, eqb-false}
 use Rattle.writing_walk.specs.Token.{Bond}
 use Rattle.writing_walk.specs.Emit.{Forest, leaf, node, pre}
-use Rattle.writing_walk.specs.Walk.{Way, way, member, ways, tour, walk, roots, forestOf}
+use Rattle.writing_walk.specs.Walk.{Neighbour, neighbour, member, neighbours, visitInTurn, walk, roots, forestOf}
 use Rattle.writing_walk.proofs.Count.{bit, count, count-append, never, eqb-same, All, none, more}
 
 -- how often v stands in the list
@@ -48,10 +48,10 @@ pub once-cast : (a b : List ℕ) → a ≡ b → Once b → Once a
 once-cast a b e h v = rw e (h v)
 
 -- a depth-first walk as a relation: trying the ways cs with s visited gives the forest
-pub data Dfs (bs : List Bond) : List Way → List ℕ → Forest → Type 0 where
+pub data Dfs (bs : List Bond) : List Neighbour → List ℕ → Forest → Type 0 where
   end : {s : List ℕ} → Dfs bs [] s leaf
-  skip : {x : Way} {cs : List Way} {s : List ℕ} {f : Forest} → member (x .to) s ≡ true → Dfs bs cs s f → Dfs bs (x ∷ cs) s f
-  visit : {x : Way} {cs : List Way} {s : List ℕ} {f g : Forest} → member (x .to) s ≡ false → Dfs bs (ways (x .to) bs) (s ++ (x .to ∷ [])) f → Dfs bs cs ((s ++ (x .to ∷ [])) ++ pre f) g
+  skip : {x : Neighbour} {cs : List Neighbour} {s : List ℕ} {f : Forest} → member (x .to) s ≡ true → Dfs bs cs s f → Dfs bs (x ∷ cs) s f
+  visit : {x : Neighbour} {cs : List Neighbour} {s : List ℕ} {f g : Forest} → member (x .to) s ≡ false → Dfs bs (neighbours (x .to) bs) (s ++ (x .to ∷ [])) f → Dfs bs cs ((s ++ (x .to ∷ [])) ++ pre f) g
       → Dfs bs (x ∷ cs) s (node (x .to) (x .kind) f g)
 
 -- the fuel is enough: it bounds the number of atoms not yet visited
@@ -110,27 +110,27 @@ none-left n s h w b = go (member w s) refl
     go true e = refl
     go false e = absurd (omega (arith, left-add n s w b e))
 
-abbrev pub Bounded : ℕ → List Way → Type 0
+abbrev pub Bounded : ℕ → List Neighbour → Type 0
 Bounded n cs = All (λ x. x .to < n) cs
 
 abbrev pub Inside : ℕ → List Bond → Type 0
 Inside n bs = All (λ b. (b .lo < b .hi) × (b .hi < n)) bs
 
-pub ways-bounded : (n v : ℕ) (bs : List Bond) → Inside n bs → Bounded n (ways v bs)
+pub ways-bounded : (n v : ℕ) (bs : List Bond) → Inside n bs → Bounded n (neighbours v bs)
 ways-bounded n v [] none = none
 ways-bounded n v (b ∷ bs) (more h a) = go (eqb (b .lo) v) (eqb (b .hi) v) (ways-bounded n v bs a)
   where
-    go : (x y : Bool) → Bounded n (ways v bs) → Bounded n (cond x (way (b .hi) (b .kind) ∷ ways v bs) (cond y (way (b .lo) (b .kind) ∷ ways v bs) (ways v bs)))
+    go : (x y : Bool) → Bounded n (neighbours v bs) → Bounded n (cond x (neighbour (b .hi) (b .kind) ∷ neighbours v bs) (cond y (neighbour (b .lo) (b .kind) ∷ neighbours v bs) (neighbours v bs)))
     go true y r = more (h .1) r
-    go false true r = more {b = way (b .lo) (b .kind)} (omega arith) r
+    go false true r = more {b = neighbour (b .lo) (b .kind)} (omega arith) r
     go false false r = r
 
-all-seen : (n : ℕ) (bs : List Bond) (s : List ℕ) → left n s ≡ 0 → (cs : List Way) → Bounded n cs → Dfs bs cs s leaf
+all-seen : (n : ℕ) (bs : List Bond) (s : List ℕ) → left n s ≡ 0 → (cs : List Neighbour) → Bounded n cs → Dfs bs cs s leaf
 all-seen n bs s h [] none = end
 all-seen n bs s h (x ∷ cs) (more b a) = skip (none-left n s h (x .to) b) (all-seen n bs s h cs a)
 
-tour-dfs : (n : ℕ) (bs : List Bond) (k : ℕ → List ℕ → Forest) (d : ℕ) → ((w : ℕ) (s : List ℕ) → left n s ≤ d → Dfs bs (ways w bs) s (k w s))
-    → (cs : List Way) → Bounded n cs → (s : List ℕ) → left n s ≤ suc d → Dfs bs cs s (tour k cs s)
+tour-dfs : (n : ℕ) (bs : List Bond) (k : ℕ → List ℕ → Forest) (d : ℕ) → ((w : ℕ) (s : List ℕ) → left n s ≤ d → Dfs bs (neighbours w bs) s (k w s))
+    → (cs : List Neighbour) → Bounded n cs → (s : List ℕ) → left n s ≤ suc d → Dfs bs cs s (visitInTurn k cs s)
 tour-dfs n bs k d kd [] none s h = end
 tour-dfs n bs k d kd (x ∷ cs) (more b a) s h =
     let s1 = s ++ (x .to ∷ []) in
@@ -142,24 +142,24 @@ tour-dfs n bs k d kd (x ∷ cs) (more b a) s h =
     s1 = s ++ (x .to ∷ [])
 
     F : Forest
-    F = node (x .to) (x .kind) (k (x .to) (s ++ (x .to ∷ []))) (tour k cs ((s ++ (x .to ∷ [])) ++ pre (k (x .to) (s ++ (x .to ∷ [])))))
+    F = node (x .to) (x .kind) (k (x .to) (s ++ (x .to ∷ []))) (visitInTurn k cs ((s ++ (x .to ∷ [])) ++ pre (k (x .to) (s ++ (x .to ∷ [])))))
 
-    visitor : Dfs bs (ways (x .to) bs) (s ++ (x .to ∷ [])) (k (x .to) (s ++ (x .to ∷ [])))
-        → Dfs bs cs ((s ++ (x .to ∷ [])) ++ pre (k (x .to) (s ++ (x .to ∷ [])))) (tour k cs ((s ++ (x .to ∷ [])) ++ pre (k (x .to) (s ++ (x .to ∷ [])))))
+    visitor : Dfs bs (neighbours (x .to) bs) (s ++ (x .to ∷ [])) (k (x .to) (s ++ (x .to ∷ [])))
+        → Dfs bs cs ((s ++ (x .to ∷ [])) ++ pre (k (x .to) (s ++ (x .to ∷ [])))) (visitInTurn k cs ((s ++ (x .to ∷ [])) ++ pre (k (x .to) (s ++ (x .to ∷ [])))))
         → member (x .to) s ≡ false → Dfs bs (x ∷ cs) s F
     visitor f g m = visit m f g
 
-    go : (e : Bool) → member (x .to) s ≡ e → Dfs bs cs s (tour k cs s) → (left n s1 < left n s → member (x .to) s ≡ false → Dfs bs (x ∷ cs) s F) → Dfs bs (x ∷ cs) s (cond e (tour k cs s) F)
+    go : (e : Bool) → member (x .to) s ≡ e → Dfs bs cs s (visitInTurn k cs s) → (left n s1 < left n s → member (x .to) s ≡ false → Dfs bs (x ∷ cs) s F) → Dfs bs (x ∷ cs) s (cond e (visitInTurn k cs s) F)
     go true e r v = skip e r
     go false e r v = v (left-add n s (x .to) b e) e
 
-walk-dfs : (n : ℕ) (bs : List Bond) → Inside n bs → (d v : ℕ) (s : List ℕ) → left n s ≤ d → Dfs bs (ways v bs) s (walk bs d v s)
-walk-dfs n bs i zero v s h = all-seen n bs s (omega arith) (ways v bs) (ways-bounded n v bs i)
-walk-dfs n bs i (suc d) v s h = tour-dfs n bs (walk bs d) d (walk-dfs n bs i d) (ways v bs) (ways-bounded n v bs i) s h
+walk-dfs : (n : ℕ) (bs : List Bond) → Inside n bs → (d v : ℕ) (s : List ℕ) → left n s ≤ d → Dfs bs (neighbours v bs) s (walk bs d v s)
+walk-dfs n bs i zero v s h = all-seen n bs s (omega arith) (neighbours v bs) (ways-bounded n v bs i)
+walk-dfs n bs i (suc d) v s h = tour-dfs n bs (walk bs d) d (walk-dfs n bs i d) (neighbours v bs) (ways-bounded n v bs i) s h
 
 pub roots-bounded : (n a d : ℕ) → a + d ≤ n → Bounded n (roots a d)
 roots-bounded n a zero h = none
-roots-bounded n a (suc d) h = more {b = way a 0} (omega arith) (roots-bounded n (suc a) d (omega arith))
+roots-bounded n a (suc d) h = more {b = neighbour a 0} (omega arith) (roots-bounded n (suc a) d (omega arith))
 
 range-count : (p : ℕ → Bool) (a d : ℕ) → count p (range a d) ≤ d
 range-count p a zero = omega arith
@@ -175,7 +175,7 @@ unfolding forestOf
 forest-dfs n bs i = tour-dfs n bs (walk bs n) n (walk-dfs n bs i n) (roots 0 n) (roots-bounded n 0 n (omega arith)) [] (let q = range-count (λ v. not (member v [])) 0 n in omega arith)
 
 -- there is only one
-pub dfs-same : (bs : List Bond) {cs : List Way} {s : List ℕ} {f f′ : Forest} → Dfs bs cs s f → Dfs bs cs s f′ → f ≡ f′
+pub dfs-same : (bs : List Bond) {cs : List Neighbour} {s : List ℕ} {f f′ : Forest} → Dfs bs cs s f → Dfs bs cs s f′ → f ≡ f′
 dfs-same bs end end = refl
 dfs-same bs (skip m d) (skip m′ d′) = dfs-same bs d d′
 dfs-same bs (skip {x} {s} m d) (visit m′ d′ e′) = absurd (never (member (x .to) s) m m′)
@@ -186,11 +186,11 @@ dfs-same bs (visit {x} {cs} {s} {f} {g} m d e) (visit {f = f′} {g = g′} m′
     λ i. node (x .to) (x .kind) (p i) (q i)
 
 -- the fuel makes no difference
-pub same-fuel : (n : ℕ) (bs : List Bond) → Inside n bs → (v : ℕ) (s : List ℕ) → walk bs n v s ≡ tour (walk bs n) (ways v bs) s
+pub same-fuel : (n : ℕ) (bs : List Bond) → Inside n bs → (v : ℕ) (s : List ℕ) → walk bs n v s ≡ visitInTurn (walk bs n) (neighbours v bs) s
 same-fuel n bs i v s =
     let q = range-count (λ v. not (member v s)) 0 n in
-    dfs-same bs (walk-dfs n bs i n v s (omega arith)) (tour-dfs n bs (walk bs n) n (walk-dfs n bs i n) (ways v bs) (ways-bounded n v bs i) s (omega arith))
+    dfs-same bs (walk-dfs n bs i n v s (omega arith)) (tour-dfs n bs (walk bs n) n (walk-dfs n bs i n) (neighbours v bs) (ways-bounded n v bs i) s (omega arith))
 
 -- trying the ways with the fuel of a molecule is a depth-first walk
-pub tried-dfs : (n : ℕ) (bs : List Bond) → Inside n bs → (cs : List Way) → Bounded n cs → (s : List ℕ) → Dfs bs cs s (tour (walk bs n) cs s)
+pub tried-dfs : (n : ℕ) (bs : List Bond) → Inside n bs → (cs : List Neighbour) → Bounded n cs → (s : List ℕ) → Dfs bs cs s (visitInTurn (walk bs n) cs s)
 tried-dfs n bs i cs b s = let q = range-count (λ v. not (member v s)) 0 n in tour-dfs n bs (walk bs n) n (walk-dfs n bs i n) cs b s (omega arith)

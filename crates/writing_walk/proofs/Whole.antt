@@ -7,7 +7,8 @@ use native.Mathlib.Omega.{arith}
 use native.Mathlib.Nat.{zero-add}
 use lib.Dec.{eqb, ltb}
 use borrow.Author.Tests.{eqb-true, eqb-false, lt-ltb, ltb-true, ltb-false, lt-leb, le-ltb}
-use Rattle.writing_walk.specs.Token.{Bond, Hook, st, run, shut, start}
+use Rattle.writing_walk.specs.Token.{Bond}
+use Rattle.writing_walk.specs.Reading.{Closure, st, runTokens, shut, startTokens}
 use Rattle.writing_walk.specs.Emit.{Forest, leaf, node, size, pre, Slot, free, held, after, text, done, doneAll, lastHub, tree, trees}
 use Rattle.writing_walk.proofs.Count.{bit, count, count-append, All, none, more, all-map, nobody}
 use Rattle.writing_walk.proofs.Read.{Back, Inv, hooks, openOf, pending, inv-after, read-text}
@@ -87,8 +88,8 @@ module _ (N : List Bond) (c o : ℕ → List Bond) (k : Back N c o) where
   -- THE STATEMENT for any forest and any further bonds between its atoms
   pub record Readback (F : Forest) : Type 0 where
     pub hub : ℕ
-    pub bridges : List Hook
-    pub reads : run (text c o F 0 []) start ≡ st (pre F) (doneAll c o F 0) hub (size F) bridges []
+    pub bridges : List Closure
+    pub reads : runTokens (text c o F 0 []) startTokens ≡ st (pre F) (doneAll c o F 0) hub (size F) bridges []
     pub closed : shut bridges ≡ true
     pub bonds : (p : Bond → Bool) → count p (doneAll c o F 0) ≡ count p (trees F 0) + count p N
 

@@ -1,10 +1,11 @@
--- 01, When a call says no: reading tokens with the refusals 4 to 9, and the grammar of tokens (3)
+-- auxiliary: reading tokens with the refusals 4 to 9, and the grammar of tokens (3), for the round trip
 use mathlib.Core.Bool.{Bool, true, false, _&&_, _||_, cond, not}
 use mathlib.Core.List.{List, [], _∷_}
 use Prim.Native.Nat.{ℕ, zero, suc}
 use lib.Dec.{eqb, ltb}
 use lib.ListN.{length}
-use Rattle.writing_walk.specs.Token.{Bond, Tok, apart, along, ring, branch, back, Hook, vacant, at, hookAt, St, st, joined, step}
+use Rattle.writing_walk.specs.Token.{Bond, Tok, apart, along, ring, branch, back, bondBetween}
+use Rattle.writing_walk.specs.Reading.{Closure, vacant, at, closureAt, St, st, stepToken}
 
 abbrev pub ends : ℕ → ℕ → Bond → Bool
 ends a c b = eqb (b .lo) a && eqb (b .hi) c
@@ -30,32 +31,22 @@ orNumber (suc c) r = refused (suc c)
 -- the most atoms, bonds and open branches
 module _ (am bm dm : ℕ) where
   -- a bridge that closes: 5, 7, 8, 9 in this order
-  abbrev pub refusedBridge : Hook → ℕ → List Bond → ℕ → ℕ
+  abbrev pub refusedBridge : Closure → ℕ → List Bond → ℕ → ℕ
   refusedBridge vacant k bs h = 0
   refusedBridge (at u j) k bs h =
-      cond (ltb (length bs) bm) (cond (eqb u h) 7 (cond (some (ends (joined u h 0 .lo) (joined u h 0 .hi)) bs) 8 (cond (clash j k) 9 0))) 5
+      cond (ltb (length bs) bm) (cond (eqb u h) 7 (cond (some (ends (bondBetween u h 0 .lo) (bondBetween u h 0 .hi)) bs) 8 (cond (clash j k) 9 0))) 5
 
   -- the refusal of a token, or 0: 4 comes before 5; 6 at a branch
   abbrev pub refusal : Tok → St → ℕ
   refusal (apart w) (st xs bs h n hs stk) = cond (ltb n am) 0 4
   refusal (along k w) (st xs bs h n hs stk) = cond (ltb n am) (cond (ltb (length bs) bm) 0 5) 4
-  refusal (ring k m) (st xs bs h n hs stk) = refusedBridge (hookAt hs m) k bs h
+  refusal (ring k m) (st xs bs h n hs stk) = refusedBridge (closureAt hs m) k bs h
   refusal branch (st xs bs h n hs stk) = cond (ltb (length stk) dm) 0 6
   refusal back s = 0
 
   abbrev pub reading : List Tok → St → Res
   reading [] s = fine s
-  reading (t ∷ ts) s = let r : Res = reading ts (step t s) in orNumber (refusal t s) r
-
-  -- 15: no branch opens inside dm others; d branches are open
-  abbrev pub nests : List Tok → ℕ → Bool
-  nests [] d = true
-  nests (apart w ∷ ts) d = nests ts d
-  nests (along k w ∷ ts) d = nests ts d
-  nests (ring k m ∷ ts) d = nests ts d
-  nests (branch ∷ ts) d = ltb d dm && nests ts (suc d)
-  nests (back ∷ ts) zero = nests ts zero
-  nests (back ∷ ts) (suc d) = nests ts d
+  reading (t ∷ ts) s = let r : Res = reading ts (stepToken t s) in orNumber (refusal t s) r
 
 -- the grammar: d branches are open; fresh: an atom must come (at the start, and after a branch opens)
 abbrev pub grammar : List Tok → ℕ → Bool → Bool
@@ -73,6 +64,6 @@ grammar (back ∷ ts) (suc d) true = false
 grammar (back ∷ ts) (suc d) false = grammar ts d false
 
 -- a text is empty or one sequence
-abbrev pub accepted : List Tok → Bool
-accepted [] = true
-accepted (t ∷ ts) = grammar (t ∷ ts) 0 true
+abbrev pub acceptedTokens : List Tok → Bool
+acceptedTokens [] = true
+acceptedTokens (t ∷ ts) = grammar (t ∷ ts) 0 true

@@ -3,46 +3,46 @@ use mathlib.Core.Bool.{Bool, true, false, _||_, cond}
 use mathlib.Core.List.{List, [], _∷_, _++_, map}
 use Prim.Native.Nat.{ℕ, zero, suc}
 use lib.Dec.{eqb}
-use Rattle.writing_walk.specs.Token.{Bond, eqBond, Tok, joined}
+use Rattle.writing_walk.specs.Token.{Bond, eqBond, Tok, bondBetween}
 use Rattle.writing_walk.specs.Emit.{Forest, leaf, node, pre, text, trees}
 
 -- a bond as it is tried from an atom: the other end and the kind
-pub record Way : Type 0 where
+pub record Neighbour : Type 0 where
   pub to : ℕ
   pub kind : ℕ
 
-abbrev pub way : ℕ → ℕ → Way
-way w k = record { to = w; kind = k }
+abbrev pub neighbour : ℕ → ℕ → Neighbour
+neighbour w k = record { to = w; kind = k }
 
 abbrev pub member : ℕ → List ℕ → Bool
 member v [] = false
 member v (x ∷ l) = eqb v x || member v l
 
 -- "from an atom along bonds in ascending number": the bonds at v
-abbrev pub ways : ℕ → List Bond → List Way
-ways v [] = []
-ways v (b ∷ bs) = cond (eqb (b .lo) v) (way (b .hi) (b .kind) ∷ ways v bs) (cond (eqb (b .hi) v) (way (b .lo) (b .kind) ∷ ways v bs) (ways v bs))
+abbrev pub neighbours : ℕ → List Bond → List Neighbour
+neighbours v [] = []
+neighbours v (b ∷ bs) = cond (eqb (b .lo) v) (neighbour (b .hi) (b .kind) ∷ neighbours v bs) (cond (eqb (b .hi) v) (neighbour (b .lo) (b .kind) ∷ neighbours v bs) (neighbours v bs))
 
 -- "to atoms not yet visited, each child's part finished before the next bond is tried": the ways in turn; k visits an atom's children; s: the atoms visited, in order
-abbrev pub tour : (ℕ → List ℕ → Forest) → List Way → List ℕ → Forest
-tour k [] s = leaf
-tour k (x ∷ cs) s =
-    let skip : Forest = tour k cs s in
+abbrev pub visitInTurn : (ℕ → List ℕ → Forest) → List Neighbour → List ℕ → Forest
+visitInTurn k [] s = leaf
+visitInTurn k (x ∷ cs) s =
+    let skip : Forest = visitInTurn k cs s in
     let f : Forest = k (x .to) (s ++ (x .to ∷ [])) in
-    let go : Forest = node (x .to) (x .kind) f (tour k cs ((s ++ (x .to ∷ [])) ++ pre f)) in
+    let go : Forest = node (x .to) (x .kind) f (visitInTurn k cs ((s ++ (x .to ∷ [])) ++ pre f)) in
     cond (member (x .to) s) skip go
 
 abbrev pub walk : List Bond → ℕ → ℕ → List ℕ → Forest
 walk bs zero v s = leaf
-walk bs (suc d) v s = tour (walk bs d) (ways v bs) s
+walk bs (suc d) v s = visitInTurn (walk bs d) (neighbours v bs) s
 
 -- "The walk begins at the lowest atom not yet visited, and for each further piece of the molecule .. begins again"
-abbrev pub roots : ℕ → ℕ → List Way
+abbrev pub roots : ℕ → ℕ → List Neighbour
 roots a zero = []
-roots a (suc n) = way a 0 ∷ roots (suc a) n
+roots a (suc n) = neighbour a 0 ∷ roots (suc a) n
 
 unfoldable pub forestOf : ℕ → List Bond → Forest
-forestOf n bs = tour (walk bs n) (roots 0 n) []
+forestOf n bs = visitInTurn (walk bs n) (roots 0 n) []
 
 -- "The renumbering gives each atom's walk number"
 abbrev pub place : List ℕ → ℕ → ℕ
@@ -50,7 +50,7 @@ place [] v = 0
 place (x ∷ l) v = cond (eqb v x) 0 (suc (place l v))
 
 abbrev pub renumber : List ℕ → Bond → Bond
-renumber order b = joined (place order (b .lo)) (place order (b .hi)) (b .kind)
+renumber order b = bondBetween (place order (b .lo)) (place order (b .hi)) (b .kind)
 
 -- m without the bonds of t
 abbrev pub remove : Bond → List Bond → List Bond
@@ -75,11 +75,11 @@ sweep key l a zero = []
 sweep key l a (suc d) = keep (λ b. eqb (key b) a) l ++ sweep key l (suc a) d
 
 -- the bonds that close at n and that open at n, "each by ascending walk number of the other end"; m: the number of atoms
-abbrev pub closing : ℕ → List Bond → ℕ → List Bond
-closing m l n = sweep (λ b. b .lo) (keep (λ b. eqb (b .hi) n) l) 0 m
+abbrev pub closingBonds : ℕ → List Bond → ℕ → List Bond
+closingBonds m l n = sweep (λ b. b .lo) (keep (λ b. eqb (b .hi) n) l) 0 m
 
-abbrev pub opening : ℕ → List Bond → ℕ → List Bond
-opening m l n = sweep (λ b. b .hi) (keep (λ b. eqb (b .lo) n) l) 0 m
+abbrev pub openingBonds : ℕ → List Bond → ℕ → List Bond
+openingBonds m l n = sweep (λ b. b .hi) (keep (λ b. eqb (b .lo) n) l) 0 m
 
 abbrev pub relabel : (ℕ → ℕ) → Forest → Forest
 relabel pay leaf = leaf
@@ -93,4 +93,4 @@ unfoldable pub unused : ℕ → List Bond → List Bond
 unused n bs = removeAll (trees (forestOf n bs) 0) (renumbered n bs)
 
 unfoldable pub write : ℕ → (ℕ → ℕ) → List Bond → List Tok
-write n pay bs = text (closing n (unused n bs)) (opening n (unused n bs)) (relabel pay (forestOf n bs)) 0 []
+write n pay bs = text (closingBonds n (unused n bs)) (openingBonds n (unused n bs)) (relabel pay (forestOf n bs)) 0 []

@@ -27,7 +27,7 @@ pub enum Code {
     /// A bridge is open at the end.
     OpenBridge = 10,
     /// No matching exists.
-    NoMatching = 11,
+    Unmatchable = 11,
     /// The row is not a matching of this molecule.
     NotMatching = 12,
     /// The tables are not valid.
@@ -52,7 +52,7 @@ impl Code {
         Code::RepeatedBond,
         Code::SymbolClash,
         Code::OpenBridge,
-        Code::NoMatching,
+        Code::Unmatchable,
         Code::NotMatching,
         Code::Invalid,
         Code::ManyBridges,

@@ -70,7 +70,7 @@ impl Graph {
 fn a_lone_ring_behind_32_benzenes() {
     let text = "c1ccccc1.".repeat(32) + "c1ccnc1";
     let refusal = Molecule::read(text.as_bytes()).unwrap_err();
-    assert_eq!(refusal.code, Code::NoMatching);
+    assert_eq!(refusal.code, Code::Unmatchable);
 }
 
 #[test]
@@ -87,7 +87,7 @@ fn two_bonds_far_apart() {
 fn an_odd_atom_behind_33_benzenes() {
     let text = "c1ccccc1.".repeat(33) + "c";
     let refusal = Molecule::read(text.as_bytes()).unwrap_err();
-    assert_eq!(refusal.code, Code::NoMatching);
+    assert_eq!(refusal.code, Code::Unmatchable);
 }
 
 #[test]
@@ -96,7 +96,7 @@ fn triangulenes_have_no_matching() {
         let cells = (0..size).flat_map(|y| (0..size - y).map(move |x| (x, y)));
         let graph = Graph::hexagons(cells, None);
         assert_eq!(graph.atoms, size * size + 4 * size + 1);
-        assert_eq!(graph.first(), Err(Code::NoMatching), "size {size}");
+        assert_eq!(graph.first(), Err(Code::Unmatchable), "size {size}");
     }
 }
 

@@ -53,5 +53,5 @@ fn many_hexagons() {
         bonds: 197,
     };
     assert_eq!(read(HEXAGONS.to_string()), Ok(counts));
-    assert_eq!(read(WITHOUT_CORNERS.to_string()), Err(Code::NoMatching));
+    assert_eq!(read(WITHOUT_CORNERS.to_string()), Err(Code::Unmatchable));
 }

@@ -75,7 +75,7 @@ fn check(molecule: &Molecule) -> usize {
     };
     let mut row = vec![9; ROW];
     let answer = if list.is_empty() {
-        Err(Code::NoMatching)
+        Err(Code::Unmatchable)
     } else {
         Ok(())
     };

@@ -18,7 +18,7 @@ pub fn read(text: &[u8]) -> Result<Molecule, Refusal> {
     if has_matching(&molecule) {
         Ok(molecule)
     } else {
-        Err(Code::NoMatching.into())
+        Err(Code::Unmatchable.into())
     }
 }
 

@@ -25,7 +25,7 @@ pub enum Code {
     /// A bridge is open at the end of the text.
     OpenBridge = 10,
     /// No matching exists.
-    NoMatching = 11,
+    Unmatchable = 11,
     /// The row handed in is not a matching.
     NotAMatching = 12,
     /// The tables are not valid.

@@ -23,7 +23,7 @@ pub struct Accepted {
 /// Reads, kekulizes by the first matching and writes one text.
 pub fn report_line(text: &[u8]) -> Result<Accepted, Refusal> {
     let mut molecule = read(text)?;
-    let row = first(&molecule).ok_or(Code::NoMatching)?;
+    let row = first(&molecule).ok_or(Code::Unmatchable)?;
     kekulize(&mut molecule, &row);
     let written = write(&molecule)?;
     Ok(Accepted {

@@ -73,7 +73,7 @@ pub fn first(tables: Tables, row: &mut [u8]) -> Result<(), Code> {
         return Err(Code::ShortBuffer);
     }
     let matching =
-        molecule(tables).and_then(|molecule| matching::first(&molecule).ok_or(Code::NoMatching));
+        molecule(tables).and_then(|molecule| matching::first(&molecule).ok_or(Code::Unmatchable));
     store(row, matching.as_deref().unwrap_or(&[]));
     matching.map(|_| ())
 }

@@ -137,7 +137,7 @@ fn a_missing_matching_zeroes_the_row() {
     let mut cells = row("1");
     assert_eq!(
         tables::first(lent.tables(), &mut cells),
-        Err(Code::NoMatching)
+        Err(Code::Unmatchable)
     );
     assert_eq!(cells, padded(""));
     for digits in ["0", "1"] {

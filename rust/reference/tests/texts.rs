@@ -90,7 +90,7 @@ fn texts_without_a_matching_are_refused() {
         "[cH-]1cccc1",
         "c1cc[n+]([O-])cc1",
     ] {
-        refused(text, Code::NoMatching, 0);
+        refused(text, Code::Unmatchable, 0);
     }
 }
 
@@ -429,5 +429,5 @@ fn refusals_come_by_place_and_then_by_number() {
     refused("C11)", Code::SelfBridge, 2);
     refused("C1(", Code::Grammar, 3);
     refused("c1", Code::OpenBridge, 1);
-    refused("c", Code::NoMatching, 0);
+    refused("c", Code::Unmatchable, 0);
 }

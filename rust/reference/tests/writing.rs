@@ -43,7 +43,7 @@ fn assert_read_back(molecule: &Molecule) {
     let renumber = |atom: usize| usize::from(written.renumbering[atom]);
     let back = match read(&written.text) {
         Err(Refusal {
-            code: Code::NoMatching,
+            code: Code::Unmatchable,
             ..
         }) => return assert_eq!(first(molecule), None, "{shown}"),
         back => back.unwrap(),
@@ -188,7 +188,7 @@ fn a_molecule_without_a_matching_is_written() {
     lone.atoms[0].hydrogens = 3;
     let text = write(&lone).unwrap().text;
     assert_eq!(text, b"c");
-    assert_eq!(read(&text), Err(Code::NoMatching.into()));
+    assert_eq!(read(&text), Err(Code::Unmatchable.into()));
 }
 
 /// All bonds between `atoms` atoms.
@@ -309,7 +309,7 @@ fn real_texts_are_read_back() {
         let mut molecule = match read(line.as_bytes()) {
             Ok(molecule) => molecule,
             Err(refusal) => {
-                assert_eq!(refusal.code, Code::NoMatching, "{line}");
+                assert_eq!(refusal.code, Code::Unmatchable, "{line}");
                 continue;
             }
         };

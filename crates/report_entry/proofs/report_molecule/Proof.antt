@@ -1,7 +1,7 @@
 use mathlib.Core.Path.{refl, sym}
 use lib.Seq.{length-take-le}
 use Rattle.table.specs.Limits.{maxBonds}
-use Rattle.reading_state.specs.Limits.{maxText}
+use Rattle.ids.specs.Limits.{maxText}
 use Rattle.report_entry.proofs.Calls.{said-as, molecule-accepted, molecule-refused, text-within, buffer-fits}
 use borrow.Author.Needs.{needs}
 use Rattle.report_entry.proofs.report_molecule.Statement.{statement}

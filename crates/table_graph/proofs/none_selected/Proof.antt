@@ -3,12 +3,12 @@ use native.Mathlib.Omega.{arith}
 use mathlib.Core.Path.{_≡_, sym, _∙_}
 use borrow.Author.Tests.{eq-eqb, ne-eqb}
 use Rattle.loops.proofs.Loops.{Left, left-start, left-pass, left-fail, left-end}
-use Rattle.table_graph.specs.Graph.{unselected, noneSelected}
+use Rattle.table_graph.specs.Graph.{notSelected, noneSelected}
 use Rattle.table_graph.proofs.none_selected.Statement.{statement}
 use Rattle.table_graph.proofs.none_selected.Tie as tie
 
 abbrev Inv-loop : tie.InvT-loop
-Inv-loop atoms n i₀ i = Left (unselected atoms) n i
+Inv-loop atoms n i₀ i = Left (notSelected atoms) n i
 
 abbrev μ-loop : tie.MeasureT-loop
 μ-loop atoms n i₀ i = n - i

@@ -1,6 +1,6 @@
 use Rattle.writer.proofs.Answer.{part-long, zeroed, tells14, tells15, told16, told0}
 use borrow.Author.Tests.{not-true, not-false}
-use Rattle.reading_state.specs.Limits.{maxText}
+use Rattle.ids.specs.Limits.{maxText}
 use lib.Seq.{length-take-le}
 use lib.ListN.{drop}
 use mathlib.Core.List.{_++_}

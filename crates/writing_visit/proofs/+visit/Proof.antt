@@ -6,7 +6,7 @@ use borrow.Fn.PlainCycle.{Measures, is, falls, and}
 use mathlib.Core.Path.{refl}
 use lib.ListN.{getD}
 use Rattle.table.specs.Limits.{maxAtoms}
-use Rattle.writing_visit.specs.Tour.{unseen, Kept, sheet}
+use Rattle.writing_visit.specs.Visit.{unseen, Kept, walkArrays}
 use Rattle.writing_visit.specs.Wires.{wires}
 use Rattle.writing_visit.proofs.Ways.{other-below}
 use Rattle.writing_visit.proofs.Lists.{head-within, head-here, after-within, next-after-is, next-after-later}
@@ -40,7 +40,7 @@ visit-claims t = (
 
 abbrev visit-Inv-loop : visit-lts.InvT-loop
 visit-Inv-loop ea eb ks n m head after behind order₀ number₀ up₀ kind₀ v hub from count b₀ next₀ order number up kind b next =
-    Left (wires ea eb ks) n m (v .0) hub from b (sheet order₀ number₀ up₀ kind₀ count) (sheet order number up kind next) × Kept order₀ number₀ up₀ kind₀ order number up kind
+    Left (wires ea eb ks) n m (v .0) hub from b (walkArrays order₀ number₀ up₀ kind₀ count) (walkArrays order number up kind next) × Kept order₀ number₀ up₀ kind₀ order number up kind
 
 abbrev visit-μ-loop : visit-lts.MeasureT-loop
 visit-μ-loop ea eb ks n m head after behind order₀ number₀ up₀ kind₀ v hub from count b₀ next₀ order number up kind b next = m - b

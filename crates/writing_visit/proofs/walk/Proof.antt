@@ -2,7 +2,7 @@ use Rattle.writing_visit.proofs.Lists.{fit-wide}
 use Rattle.writing_visit.proofs.Wires.{fit-same, wired-at, walked-table}
 use Rattle.writing_visit.proofs.Laws.{kept-same, kept-then, room-kept}
 use Rattle.writing_visit.proofs.Roots.{Sofar, sofar-start, sofar-step, sofar-end}
-use Rattle.writing_visit.specs.Tour.{Kept, sheet}
+use Rattle.writing_visit.specs.Visit.{Kept, walkArrays}
 use Rattle.writing_visit.specs.Wires.{wires}
 use mathlib.Core.Path.{refl}
 use Prim.Native.Nat.{_-_}
@@ -12,7 +12,7 @@ use Rattle.writing_visit.proofs.walk.Tie as tie
 
 abbrev Inv-loop : tie.InvT-loop
 Inv-loop bonds n m order₀ number₀ up₀ kind₀ ea eb ks sums head after behind count₀ a₀ order number up kind count a =
-    Sofar (wires ea eb ks) n m (sheet order₀ number₀ up₀ kind₀ 0) a (sheet order number up kind count) × Kept order₀ number₀ up₀ kind₀ order number up kind
+    Sofar (wires ea eb ks) n m (walkArrays order₀ number₀ up₀ kind₀ 0) a (walkArrays order number up kind count) × Kept order₀ number₀ up₀ kind₀ order number up kind
 
 abbrev μ-loop : tie.MeasureT-loop
 μ-loop bonds n m order₀ number₀ up₀ kind₀ ea eb ks sums head after behind count₀ a₀ order number up kind count a = n - a

@@ -1,7 +1,7 @@
 use Prim.Native.Nat.{_-_}
 use native.Mathlib.Omega.{arith}
 use borrow.Author.Needs.{needs}
-use Rattle.reading_state.specs.Limits.{bridges}
+use Rattle.ids.specs.Limits.{bridges}
 use Rattle.reader.proofs.Ends.{Closed, closed-start, closed-step}
 use Rattle.reader.proofs.ending.all_closed.Statement.{statement}
 use Rattle.reader.proofs.ending.all_closed.Tie as tie

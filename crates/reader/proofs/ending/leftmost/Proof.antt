@@ -3,7 +3,7 @@ use native.Mathlib.Omega.{arith}
 use borrow.Author.Needs.{needs}
 use lib.ListN.{getD}
 use Rattle.loops.proofs.Loops.{Ran, ran-start, ran-step, ran-end}
-use Rattle.reading_state.specs.Limits.{bridges, maxText}
+use Rattle.ids.specs.Limits.{bridges, maxText}
 use Rattle.reading.specs.Read.{earlier, leftmost}
 use Rattle.reader.proofs.Ends.{closed-leftmost}
 use Rattle.reader.proofs.ending.leftmost.Statement.{statement}

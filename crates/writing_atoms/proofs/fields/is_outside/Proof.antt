@@ -1,4 +1,4 @@
-use Rattle.writing_atoms.specs.Fields.{outside}
+use Rattle.writing.specs.Spell.{withoutBrackets}
 use Rattle.writing_atoms.proofs.Laws.{neutral-is}
 use borrow.Author.Needs.{needs}
 use Rattle.writing_atoms.proofs.fields.is_outside.Statement.{statement}
@@ -32,7 +32,7 @@ atom-number-requires-5 : tie.Need-atom-number-requires-5
 atom-number-requires-5 c κs = search needs
 
 returns : tie.Need-returns
-unfolding outside
+unfolding withoutBrackets
 returns c = simp (c .atom-number5 .ensures, c .before .is-bare .ensures, c .before .before .atom-number4 .ensures, c .before .before .before .atom-within .ensures, neutral-is, c .before .before .before .before .atom-number3 .ensures, c .before .before .before .before .before .implied .ensures, c .before .before .before .before .before .before .atom-number2 .ensures, c .before .before .before .before .before .before .before .atom-number .ensures)
 
 pub is-outside-spec : {M : Type 1} → statement M

@@ -1,4 +1,4 @@
-use Rattle.writing_bridges.proofs.Bag.{left-out, taken-in, marked-add}
+use Rattle.writing_bridges.proofs.BondArrays.{left-out, taken-in, marked-add}
 use Prim.Native.Nat.{_-_}
 use native.Mathlib.Omega.{arith}
 use borrow.Author.Needs.{needs}

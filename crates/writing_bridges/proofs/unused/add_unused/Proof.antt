@@ -1,5 +1,5 @@
-use Rattle.writing_bridges.proofs.Bag.{first-number, second-number, numbers-below, numbers-differ, straight, turned, strictly}
-use Rattle.writing_bridges.specs.Unused.{bag, addBond}
+use Rattle.writing_bridges.proofs.BondArrays.{first-number, second-number, numbers-below, numbers-differ, straight, turned, strictly}
+use Rattle.writing_bridges.specs.Unused.{bondArrays, addBond}
 use Rattle.writing_walk.specs.Token.{Bond}
 use mathlib.Core.Path.{refl, ap, _∙_}
 use lib.ListN.{getD}
@@ -117,7 +117,7 @@ returns c =
     let l = numbers-below fit num (a .b .0) h in
     let f = fit .few-atoms in
     let r = c .before .before .before .before .before .before .add-bond .ensures in
-    (r .0 ∙ ap (λ (x : Bond). addBond (a .up .now) x (bag (a .los .now) (a .his .now) (a .kinds .now) (a .used))) (straight fit num (a .b .0) h _ _ _ p q refl (c .before .before .before .before .before .before .before .before .before .before .before .if1 .taken)), r .1)
+    (r .0 ∙ ap (λ (x : Bond). addBond (a .up .now) x (bondArrays (a .los .now) (a .his .now) (a .kinds .now) (a .used))) (straight fit num (a .b .0) h _ _ _ p q refl (c .before .before .before .before .before .before .before .before .before .before .before .if1 .taken)), r .1)
 
 add-bond-requires-2 : tie.Need-add-bond-requires-2
 add-bond-requires-2 c κs =
@@ -153,7 +153,7 @@ returns-2 c =
     let l = numbers-below fit num (a .b .0) h in
     let f = fit .few-atoms in
     let r = c .before .before .before .before .before .before .add-bond2 .ensures in
-    (r .0 ∙ ap (λ (x : Bond). addBond (a .up .now) x (bag (a .los .now) (a .his .now) (a .kinds .now) (a .used))) (turned fit num (a .b .0) h _ _ _ p q refl (c .before .before .before .before .before .before .before .before .before .before .before .if1 .left)), r .1)
+    (r .0 ∙ ap (λ (x : Bond). addBond (a .up .now) x (bondArrays (a .los .now) (a .his .now) (a .kinds .now) (a .used))) (turned fit num (a .b .0) h _ _ _ p q refl (c .before .before .before .before .before .before .before .before .before .before .before .if1 .left)), r .1)
 
 pub add-unused-spec : {M : Type 1} → statement M
 add-unused-spec =

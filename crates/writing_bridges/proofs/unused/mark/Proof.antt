@@ -1,4 +1,4 @@
-use Rattle.writing_bridges.proofs.Bag.{mark-first, mark-further}
+use Rattle.writing_bridges.proofs.BondArrays.{mark-first, mark-further}
 use borrow.Author.Needs.{needs}
 use Rattle.writing_bridges.proofs.unused.mark.Statement.{statement}
 use Rattle.writing_bridges.proofs.unused.mark.Tie as tie

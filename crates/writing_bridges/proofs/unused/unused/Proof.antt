@@ -1,5 +1,5 @@
-use Rattle.writing_bridges.proofs.Bag.{bag-grows, bag-room, marked-start}
-use Rattle.writing_bridges.specs.Unused.{Bag, bag, addBond, inWalk, Marked}
+use Rattle.writing_bridges.proofs.BondArrays.{bag-grows, bag-room, marked-start}
+use Rattle.writing_bridges.specs.Unused.{BondArrays, bondArrays, addBond, inWalk, Marked}
 use Rattle.writing_visit.specs.Wires.{wires}
 use Rattle.loops.proofs.Loops.{Ran, ran-start, ran-step, ran-end}
 use mathlib.Core.Path.{_≡_, refl, ap, _∙_}
@@ -11,7 +11,7 @@ use Rattle.writing_bridges.proofs.unused.unused.Tie as tie
 
 abbrev Inv-loop : tie.InvT-loop
 Inv-loop ea eb ks n m number up los₀ his₀ kinds₀ marks₀ used₀ b₀ los his kinds marks used b =
-    Ran (λ i. addBond up (inWalk (wires ea eb ks) n m i)) (bag los₀ his₀ kinds₀ 0) m b (bag los his kinds used) × (used ≤ b) × (length los ≡ length los₀) × (length his ≡ length his₀) × (length kinds ≡ length kinds₀) × Marked marks los his used
+    Ran (λ i. addBond up (inWalk (wires ea eb ks) n m i)) (bondArrays los₀ his₀ kinds₀ 0) m b (bondArrays los his kinds used) × (used ≤ b) × (length los ≡ length los₀) × (length his ≡ length his₀) × (length kinds ≡ length kinds₀) × Marked marks los his used
 
 abbrev μ-loop : tie.MeasureT-loop
 μ-loop ea eb ks n m number up los₀ his₀ kinds₀ marks₀ used₀ b₀ los his kinds marks used b = m - b
@@ -43,9 +43,9 @@ loop-again c =
     let l = c .before .before .before .before .before .before .before .before .before .before .before .before .loop in
     let t = c .before .before .before .before .before .before .before .before .before .before .before .loop-test .taken in
     let r = c .before .before .before .before .before .before .add-unused in
-    let g = bag-grows (a .up .now) (inWalk (wires (a .ea .now) (a .eb .now) (a .ks .now)) (a .n) (a .m) (l .b)) (bag (l .los) (l .his) (l .kinds) (l .used)) in (
+    let g = bag-grows (a .up .now) (inWalk (wires (a .ea .now) (a .eb .now) (a .ks .now)) (a .n) (a .m) (l .b)) (bondArrays (l .los) (l .his) (l .kinds) (l .used)) in (
       ran-step (l .inv .0) _ t (r .ensures .0),
-      omega (arith, l .inv .1, ap (λ (g : Bag). g .used) (r .ensures .0), g),
+      omega (arith, l .inv .1, ap (λ (g : BondArrays). g .used) (r .ensures .0), g),
       r .kept .1 .1 .1 .1 .1 .1 .1 .0 ∙ l .inv .2,
       r .kept .1 .1 .1 .1 .1 .1 .1 .1 .0 ∙ l .inv .3,
       r .kept .1 .1 .1 .1 .1 .1 .1 .1 .1 .0 ∙ l .inv .4,

@@ -1,4 +1,4 @@
--- The walk as it fills arrays: what stands in them after a part of the walk (01, Writing)
+-- auxiliary: the walk as it fills arrays: what stands in them after a part of the walk (01, Writing)
 use Prim.Native.Nat.{ℕ, zero, suc, _-_, _<_, _≤_}
 use mathlib.Core.Path.{_≡_}
 use mathlib.Core.Bool.{Bool, _||_}
@@ -9,7 +9,7 @@ use Rattle.loops.specs.Loop.{pick, upTo}
 use Rattle.table.specs.Limits.{maxAtoms, maxBonds}
 use Rattle.writing_walk.specs.Token.{Bond}
 use Rattle.writing_walk.specs.Emit.{Forest, pre}
-use Rattle.writing_walk.specs.Walk.{Way, way, member, ways, tour, walk, forestOf, place}
+use Rattle.writing_walk.specs.Walk.{Neighbour, neighbour, member, neighbours, visitInTurn, walk, forestOf, place}
 use Rattle.writing_walk.specs.Flat.{kinds, ups}
 use Rattle.writing_walk.proofs.Count.{All}
 use Rattle.writing_walk.proofs.Walk.{Once}
@@ -37,16 +37,16 @@ lay k [] t = t
 lay k (x ∷ l) t = lay (suc k) l (set t k x)
 
 -- the bonds at v from the number b on, in ascending number
-abbrev pub waysFrom : (ℕ → Bond) → ℕ → ℕ → ℕ → List Way
-waysFrom bonds m v b = ways v (upTo bonds b (m - b))
+abbrev pub neighboursFrom : (ℕ → Bond) → ℕ → ℕ → ℕ → List Neighbour
+neighboursFrom bonds m v b = neighbours v (upTo bonds b (m - b))
 
 -- the forest that the walk adds at the atom v from the bond number b on, s being visited
 unfoldable pub grow : (ℕ → Bond) → ℕ → ℕ → ℕ → ℕ → List ℕ → Forest
-grow bonds n m v b s = tour (walk (upTo bonds 0 m) n) (waysFrom bonds m v b) s
+grow bonds n m v b s = visitInTurn (walk (upTo bonds 0 m) n) (neighboursFrom bonds m v b) s
 
 -- the walk number of an atom plus 1, 0 before it is visited
-unfoldable pub markOf : List ℕ → ℕ → ℕ
-markOf s v = pick (member v s) (suc (place s v)) 0
+unfoldable pub walkMark : List ℕ → ℕ → ℕ
+walkMark s v = pick (member v s) (suc (place s v)) 0
 
 -- how many atoms are not yet visited
 unfoldable pub unseen : List ℕ → ℕ
@@ -81,38 +81,38 @@ pub record Kept (o v u k o2 v2 u2 k2 : List ℕ) : Type 0 where
   pub kind : length k2 ≡ length k
 
 -- s was visited, in this order
-pub record Stands (n : ℕ) (s : List ℕ) (count : ℕ) (number : List ℕ) : Type 0 where
+pub record Visited (n : ℕ) (s : List ℕ) (count : ℕ) (number : List ℕ) : Type 0 where
   pub once : Once s
   pub inside : All (λ v. v < n) s
   pub long : length s ≡ count
-  pub marks : (v : ℕ) → v < n → getD number v 0 ≡ markOf s v
+  pub marks : (v : ℕ) → v < n → getD number v 0 ≡ walkMark s v
 
 -- the four arrays, and how many atoms were visited
-pub record Sheet : Type 0 where
+pub record WalkArrays : Type 0 where
   pub order : List ℕ
   pub number : List ℕ
   pub up : List ℕ
   pub kind : List ℕ
   pub count : ℕ
 
-abbrev pub sheet : List ℕ → List ℕ → List ℕ → List ℕ → ℕ → Sheet
-sheet o v u k c = record { order = o; number = v; up = u; kind = k; count = c }
+abbrev pub walkArrays : List ℕ → List ℕ → List ℕ → List ℕ → ℕ → WalkArrays
+walkArrays o v u k c = record { order = o; number = v; up = u; kind = k; count = c }
 
 -- the forest F was laid under the parent p (its walk number plus 1, 0 for none), s being visited before
-pub record Laid (n p : ℕ) (F : Forest) (s : List ℕ) (x y : Sheet) : Type 0 where
+pub record Laid (n p : ℕ) (F : Forest) (s : List ℕ) (x y : WalkArrays) : Type 0 where
   pub order : y .order ≡ lay (x .count) (pre F) (x .order)
   pub kind : y .kind ≡ lay (x .count) (kinds F) (x .kind)
   pub up : y .up ≡ lay (x .count) (ups F p (x .count)) (x .up)
-  pub stands : Stands n (s ++ pre F) (y .count) (y .number)
+  pub stands : Visited n (s ++ pre F) (y .count) (y .number)
 
 -- the same for whatever was visited before, with no mark lost
-pub record Grown (n p : ℕ) (F : List ℕ → Forest) (x y : Sheet) : Type 0 where
+pub record Grown (n p : ℕ) (F : List ℕ → Forest) (x y : WalkArrays) : Type 0 where
   pub fewer : unseen (y .number) ≤ unseen (x .number)
-  pub laid : (s : List ℕ) → Stands n s (x .count) (x .number) → Laid n p (F s) s x y
+  pub laid : (s : List ℕ) → Visited n s (x .count) (x .number) → Laid n p (F s) s x y
 
 -- a root: the atom a, if it was not visited
 unfoldable pub rootForest : (ℕ → Bond) → ℕ → ℕ → ℕ → List ℕ → Forest
-rootForest bonds n m a s = tour (walk (upTo bonds 0 m) n) (way a 0 ∷ []) s
+rootForest bonds n m a s = visitInTurn (walk (upTo bonds 0 m) n) (neighbour a 0 ∷ []) s
 
 -- the arrays of a whole walk along a list of bonds
 pub record Walked (bs : List Bond) (n : ℕ) (o v u k : List ℕ) : Type 0 where

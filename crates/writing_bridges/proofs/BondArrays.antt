@@ -15,19 +15,19 @@ use Rattle.writing_walk.specs.Token.{Bond, bond}
 use Rattle.writing_walk.specs.Emit.{pre}
 use Rattle.writing_walk.specs.Walk.{forestOf, place}
 use Rattle.writing_walk.proofs.Trip.{renumbering, place-inj}
-use Rattle.writing_visit.specs.Tour.{BondsFit}
+use Rattle.writing_visit.specs.Visit.{BondsFit}
 use Rattle.writing_visit.proofs.Ways.{bonds-inside}
-use Rattle.writing_bridges.specs.Unused.{Bag, bag, treeBond, addBond, inWalk, Numbered, BagRoom, many, markOf, Mark, Single, Marked}
+use Rattle.writing_bridges.specs.Unused.{BondArrays, bondArrays, treeBond, addBond, inWalk, Numbered, BondRoom, many, endMark, Mark, Single, Marked}
 
 -- the bond of a tree is left out; another is added
-pub left-out : (up l h k : List ℕ) (p q kd c : ℕ) → 0 < p → 0 < q → getD up (q - 1) 0 ≡ p → bag l h k c ≡ addBond up (bond (p - 1) (q - 1) kd) (bag l h k c)
+pub left-out : (up l h k : List ℕ) (p q kd c : ℕ) → 0 < p → 0 < q → getD up (q - 1) 0 ≡ p → bondArrays l h k c ≡ addBond up (bond (p - 1) (q - 1) kd) (bondArrays l h k c)
 unfolding addBond
 left-out up l h k p q kd c a b e =
     let z : suc (p - 1) ≡ p = omega arith in
     sym (rw (z, eq-eqb (getD up (q - 1) 0) p e))
 
 pub taken-in : (up l h k : List ℕ) (p q kd c : ℕ) → 0 < p → (getD up (q - 1) 0 ≡ p → ⊥)
-    → bag (set l c (p - 1)) (set h c (q - 1)) (set k c kd) (c + 1) ≡ addBond up (bond (p - 1) (q - 1) kd) (bag l h k c)
+    → bondArrays (set l c (p - 1)) (set h c (q - 1)) (set k c kd) (c + 1) ≡ addBond up (bond (p - 1) (q - 1) kd) (bondArrays l h k c)
 unfolding addBond
 taken-in up l h k p q kd c a e =
     let z : suc (p - 1) ≡ p = omega arith in
@@ -71,15 +71,15 @@ module _ {bonds : ℕ → Bond} {n m : ℕ} {v u : List ℕ} (fit : BondsFit bon
       (λ i. bond (y i) (x i) (g i)) ∙ sym (rw (le-ltb (at (bonds b .lo)) (at (bonds b .hi)) t))
 
 -- at most one more is used, and the lengths stay
-pub bag-grows : (up : List ℕ) (b : Bond) (g : Bag) → addBond up b g .used ≤ suc (g .used)
+pub bag-grows : (up : List ℕ) (b : Bond) (g : BondArrays) → addBond up b g .used ≤ suc (g .used)
 unfolding addBond
 bag-grows up b g = go (treeBond up b)
   where
-    go : (t : Bool) → pick t g (bag (set (g .los) (g .used) (b .lo)) (set (g .his) (g .used) (b .hi)) (set (g .kinds) (g .used) (b .kind)) (suc (g .used))) .used ≤ suc (g .used)
+    go : (t : Bool) → pick t g (bondArrays (set (g .los) (g .used) (b .lo)) (set (g .his) (g .used) (b .hi)) (set (g .kinds) (g .used) (b .kind)) (suc (g .used))) .used ≤ suc (g .used)
     go true = omega arith
     go false = omega arith
 
-pub bag-room : {l h k l2 h2 k2 : List ℕ} → BagRoom l h k → length l2 ≡ length l → length h2 ≡ length h → length k2 ≡ length k → BagRoom l2 h2 k2
+pub bag-room : {l h k l2 h2 k2 : List ℕ} → BondRoom l h k → length l2 ≡ length l → length h2 ≡ length h → length k2 ≡ length k → BondRoom l2 h2 k2
 bag-room r a b c = let x = r .los in let y = r .his in let z = r .kinds in record { los = omega arith; his = omega arith; kinds = omega arith }
 
 pub strictly : (x y : ℕ) → (x ≡ y → ⊥) → y ≤ x → y < x
@@ -105,34 +105,34 @@ marked-start {marks} e =
     }
 
 -- a mark after one end more
-pub mark-first : (m i : ℕ) → m ≡ 0 → i + 1 ≡ markOf m i
-unfolding markOf
+pub mark-first : (m i : ℕ) → m ≡ 0 → i + 1 ≡ endMark m i
+unfolding endMark
 mark-first m i e = rw (eq-eqb m 0 e, add-one i)
 
-pub mark-further : (m i : ℕ) → (m ≡ 0 → ⊥) → many ≡ markOf m i
-unfolding markOf
+pub mark-further : (m i : ℕ) → (m ≡ 0 → ⊥) → many ≡ endMark m i
+unfolding endMark
 mark-further m i e = rw (ne-eqb m 0 e)
 
-mark-new : (m k : ℕ) → Mark (markOf m k) k
-unfolding markOf
+mark-new : (m k : ℕ) → Mark (endMark m k) k
+unfolding endMark
 mark-new m k = go (eqb m 0)
   where
     go : (b : Bool) → Mark (pick b (suc k) many) k
     go true = record { some = omega arith; only = λ _. refl }
     go false = record { some = omega arith; only = λ h. absurd (omega arith) }
 
-mark-again : (m k i : ℕ) → Mark m i → Mark (markOf m k) i
-unfolding markOf
+mark-again : (m k i : ℕ) → Mark m i → Mark (endMark m k) i
+unfolding endMark
 mark-again m k i h =
     let s = h .some in
     rw (ne-eqb m 0 (λ e. omega arith)) (record { some = omega arith; only = λ g. absurd (omega arith) })
 
 -- the marks after one end more
 abbrev noted : List ℕ → ℕ → ℕ → List ℕ
-noted t p k = set t p (markOf (getD t p 0) k)
+noted t p k = set t p (endMark (getD t p 0) k)
 
 noted-here : (t : List ℕ) (p k : ℕ) → p < length t → Mark (getD (noted t p k) p 0) k
-noted-here t p k r = rw (getD-set-same t p (markOf (getD t p 0) k) 0 r) (mark-new (getD t p 0) k)
+noted-here t p k r = rw (getD-set-same t p (endMark (getD t p 0) k) 0 r) (mark-new (getD t p 0) k)
 
 noted-kept : (t : List ℕ) (p k x i : ℕ) → p < length t → Mark (getD t x 0) i → Mark (getD (noted t p k) x 0) i
 noted-kept t p k x i r m = go (eqb x p) refl
@@ -140,8 +140,8 @@ noted-kept t p k x i r m = go (eqb x p) refl
     go : (b : Bool) → eqb x p ≡ b → Mark (getD (noted t p k) x 0) i
     go true e =
         let q = eqb-true x p e in
-        rw (q, getD-set-same t p (markOf (getD t p 0) k) 0 r) (mark-again (getD t p 0) k i (rw q at m))
-    go false e = rw (getD-set-other t p x (markOf (getD t p 0) k) 0 (eqb-false x p e)) m
+        rw (q, getD-set-same t p (endMark (getD t p 0) k) 0 r) (mark-again (getD t p 0) k i (rw q at m))
+    go false e = rw (getD-set-other t p x (endMark (getD t p 0) k) 0 (eqb-false x p e)) m
 
 mark-more : (t u l : List ℕ) (k p : ℕ) → ((x i : ℕ) → Mark (getD t x 0) i → Mark (getD u x 0) i) → Mark (getD u p 0) k → k < length l
     → ((i : ℕ) → i < k → Mark (getD t (getD l i 0) 0) i) → (i : ℕ) → i < k + 1 → Mark (getD u (getD (set l k p) i 0) 0) i
@@ -181,18 +181,18 @@ module _ (t l h : List ℕ) (k p q : ℕ) (rp : p < length t) (rq : q < length t
     where
       go : (b : Bool) → eqb x p ≡ b → New x (getD (noted t p k) x 0)
       go true e = rw (eqb-true x p e) (single-low (getD (noted t p k) p 0) (noted-here t p k rp))
-      go false e = rw (getD-set-other t p x (markOf (getD t p 0) k) 0 (eqb-false x p e)) (single-kept x)
+      go false e = rw (getD-set-other t p x (endMark (getD t p 0) k) 0 (eqb-false x p e)) (single-kept x)
 
   single-more : (x : ℕ) → New x (getD (noted (noted t p k) q k) x 0)
   single-more x = go (eqb x q) refl
     where
       go : (b : Bool) → eqb x q ≡ b → New x (getD (noted (noted t p k) q k) x 0)
       go true e = rw (eqb-true x q e) (single-high (getD (noted (noted t p k) q k) q 0) (noted-here (noted t p k) q k (simp length-set (omega arith))))
-      go false e = rw (getD-set-other (noted t p k) q x (markOf (getD (noted t p k) q 0) k) 0 (eqb-false x q e)) (single-first x)
+      go false e = rw (getD-set-other (noted t p k) q x (endMark (getD (noted t p k) q 0) k) 0 (eqb-false x q e)) (single-first x)
 
 -- the marks of the two ends of one bond more
 pub marked-add : {marks l h : List ℕ} {k : ℕ} (p q v w : ℕ) → Marked marks l h k → p < maxAtoms → q < maxAtoms → k < length l → k < length h
-    → v ≡ markOf (getD marks p 0) k → w ≡ markOf (getD (set marks p v) q 0) k
+    → v ≡ endMark (getD marks p 0) k → w ≡ endMark (getD (set marks p v) q 0) k
     → Marked (set (set marks p v) q w) (set l k p) (set h k q) (k + 1)
 marked-add {marks} {l} {h} {k} p q v w m a b rl rh ev ew =
     let r = m .room in
