@@ -30,12 +30,13 @@ use Rattle.reading_fields.specs.Rest.{rest, memory}
 use Rattle.reading_fields.specs.Field.{Peeked}
 use Rattle.reading_fields.proofs.Rest.{rest-end, rest-up, rest-up-refused, rest-down}
 use Rattle.reading_fields.proofs.Bytes.{there, byte-in}
-use Rattle.reader.specs.declared.piece.Start.{Start}
-use Rattle.reader.specs.declared.bridge.Why.{Why}
-use Rattle.reader.specs.Piece.{pendingOf, Joined}
-use Rattle.reader.specs.Added.{Reaches}
-use Rattle.reader.specs.Outcome.{Bounded, Outcome, refusedAt, Past, Sequenced, Branched, Closable, endedAs, branchEnded}
-use Rattle.reader.proofs.Bridges.{set-le}
+use Rattle.reading_pieces.specs.declared.piece.Start.{Start}
+use Rattle.reading_pieces.specs.declared.bridge.Why.{Why}
+use Rattle.reading_pieces.specs.Piece.{pendingOf, Joined}
+use Rattle.reading_pieces.specs.Added.{Reaches}
+use Rattle.reading_pieces.specs.Bounded.{Bounded}
+use Rattle.reader.specs.Outcome.{Outcome, refusedAt, Past, Sequenced, Branched, Closable, endedAs, branchEnded}
+use Rattle.reading_pieces.proofs.Bridges.{set-le}
 
 open-up : (b : ℕ) → b ≡ 40 → next (seq plain) b ≡ up
 unfolding next atomOr bridgeOr letters among nonzero bondSymbols

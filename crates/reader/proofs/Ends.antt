@@ -41,10 +41,11 @@ use Rattle.reading.proofs.Claims.{read-sane}
 use Rattle.reading_fields.specs.Rest.{rest, memory}
 use Rattle.reading_fields.proofs.Rest.{rest-end, rest-down-stop}
 use Rattle.reading_fields.proofs.Bytes.{there}
-use Rattle.reader.specs.declared.piece.Joint.{Joint}
-use Rattle.reader.specs.declared.bridge.Why.{Why}
+use Rattle.reading_pieces.specs.declared.piece.Joint.{Joint}
+use Rattle.reading_pieces.specs.declared.bridge.Why.{Why}
 use Rattle.reader.specs.declared.ending.Answer as reply
-use Rattle.reader.specs.Outcome.{Bounded, Outcome, refusedAt, PastFine, Past, Goes, Stops, Sequenced}
+use Rattle.reading_pieces.specs.Bounded.{Bounded}
+use Rattle.reader.specs.Outcome.{Outcome, refusedAt, PastFine, Past, Goes, Stops, Sequenced}
 use Rattle.reader.specs.Ending.{told}
 use Rattle.reader.specs.Completed.{hydrogensBy, hydrogenatedBy, endedOf, answerOf, TextGoes, TextRead}
 use Rattle.reader.proofs.Branches.{close-down}

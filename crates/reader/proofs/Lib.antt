@@ -1,6 +1,3 @@
-pub mod Pieces
-pub mod Atoms
-pub mod Bridges
 pub mod Branches
 pub mod Turns
 pub mod Ends

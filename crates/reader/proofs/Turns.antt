@@ -23,15 +23,16 @@ use Rattle.ids.specs.Limits.{bridges, maxDepth}
 use Rattle.reading.specs.Memory.{Memory, Pending, nothing}
 use Rattle.reading.specs.Act.{bridgeAct}
 use Rattle.reading_fields.specs.Rest.{rest, memory}
-use Rattle.reader.specs.declared.piece.Joint.{Joint}
-use Rattle.reader.specs.declared.piece.Piece.{Piece}
-use Rattle.reader.specs.declared.atom.Added.{Added}
-use Rattle.reader.specs.declared.bridge.Why.{Why}
-use Rattle.reader.specs.Piece.{pendingOf, kindPending, startMode, startPending, afterBridge, Seen, SeenAtom, SeenBridge, SeenBranch, SeenEnd, SeenWrong}
-use Rattle.reader.specs.Added.{Reaches, bondsAfter, Adds}
-use Rattle.reader.specs.Outcome.{Bounded, Outcome, refusedAt, Goes, PastFine, Past, Stops, Sequenced, Branched, Closable}
-use Rattle.reader.specs.Bridge.{BridgeJoins, Bridges}
-use Rattle.reader.proofs.Bridges.{bounded-joined, joined-deep}
+use Rattle.reading_pieces.specs.declared.piece.Joint.{Joint}
+use Rattle.reading_pieces.specs.declared.piece.Piece.{Piece}
+use Rattle.reading_pieces.specs.declared.atom.Added.{Added}
+use Rattle.reading_pieces.specs.declared.bridge.Why.{Why}
+use Rattle.reading_pieces.specs.Piece.{pendingOf, kindPending, startMode, startPending, afterBridge, Seen, SeenAtom, SeenBridge, SeenBranch, SeenEnd, SeenWrong}
+use Rattle.reading_pieces.specs.Added.{Reaches, bondsAfter, Adds}
+use Rattle.reading_pieces.specs.Bounded.{Bounded}
+use Rattle.reader.specs.Outcome.{Outcome, refusedAt, Goes, PastFine, Past, Stops, Sequenced, Branched, Closable}
+use Rattle.reading_pieces.specs.Bridge.{BridgeJoins, Bridges}
+use Rattle.reading_pieces.proofs.Bridges.{bounded-joined, joined-deep}
 use Rattle.reader.proofs.Branches.{deep-refused}
 
 -- bounded, whatever the arrays beside the state are

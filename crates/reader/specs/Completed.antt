@@ -19,8 +19,9 @@ use Rattle.reading.specs.Memory.{Memory, nothing, blank}
 use Rattle.reading.specs.Act.{act}
 use Rattle.reading.specs.Read.{ReadResult, beginning, hydrogenated, ended}
 use Rattle.reading_fields.specs.Rest.{memory}
-use Rattle.reader.specs.declared.bridge.Why.{Why}
-use Rattle.reader.specs.Outcome.{Bounded, Outcome}
+use Rattle.reading_pieces.specs.declared.bridge.Why.{Why}
+use Rattle.reading_pieces.specs.Bounded.{Bounded}
+use Rattle.reader.specs.Outcome.{Outcome}
 
 -- the hydrogens of one atom, by whether it stood outside brackets and by its bond sum
 abbrev pub hydrogensBy : ℕ → ℕ → ℕ → List ℤ → List ℤ

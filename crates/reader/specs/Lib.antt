@@ -1,6 +1,3 @@
-pub mod Piece
-pub mod Added
 pub mod Outcome
-pub mod Bridge
 pub mod Ending
 pub mod Completed

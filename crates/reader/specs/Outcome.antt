@@ -13,26 +13,16 @@ use Rattle.reading_grammar.specs.declared.Last.the-variants.{Plain as plain}
 use Rattle.reading_grammar.specs.declared.Mode.{Mode}
 use Rattle.reading_grammar.specs.declared.Mode.the-variants.{Seq as seq, AtomNext as atomNext}
 use Rattle.reading_grammar.specs.Fold.{Answer, bad}
-use Rattle.table.specs.Limits.{maxAtoms, maxBonds}
 use Rattle.reading_state.specs.State.{Steering, steering, closed}
 use Rattle.reading_state.specs.declared.Fields.{Fields}
-use Rattle.ids.specs.Limits.{maxDepth}
 use Rattle.reading.specs.Memory.{Memory, Pending, nothing}
 use Rattle.reading_fields.specs.Rest.{rest, memory}
-use Rattle.reader.specs.declared.piece.Joint.{Joint}
-use Rattle.reader.specs.declared.bridge.Why.{Why}
-use Rattle.reader.specs.declared.bridge.Out.{Out}
-use Rattle.reader.specs.Piece.{pendingOf}
-use Rattle.reader.specs.Added.{Reaches}
-
--- the counts are within the limits, and the atoms that the state holds are numbers of atoms
-pub record Bounded (t : Steering) : Type 0 where
-  pub atoms : t .atoms ≤ maxAtoms
-  pub bonds : t .bonds ≤ maxBonds
-  pub depth : t .depth ≤ maxDepth
-  pub hub : t .hub .0 ≤ maxAtoms
-  pub stack : (i : ℕ) → getD (t .stack) i 0 ≤ maxAtoms
-  pub opener : (i : ℕ) → getD (t .opener) i 0 ≤ maxAtoms + 1
+use Rattle.reading_pieces.specs.declared.piece.Joint.{Joint}
+use Rattle.reading_pieces.specs.declared.bridge.Why.{Why}
+use Rattle.reader.specs.declared.sequence.Out.{Out}
+use Rattle.reading_pieces.specs.Piece.{pendingOf}
+use Rattle.reading_pieces.specs.Bounded.{Bounded}
+use Rattle.reading_pieces.specs.Added.{Reaches}
 
 -- how a part of a text went, the next offset, and what steers the reading from there
 pub record Outcome : Type 0 where

@@ -8,24 +8,21 @@ ghost use Rattle.reading.specs.Read.{readOf};
 ghost use Rattle.reader.specs.Outcome.{outcome};
 ghost use Rattle.reader.specs.Ending.{told};
 ghost use Rattle.reader.specs.Completed.{TextRead};
-use crate::bridge::Out;
-use crate::bridge::Why;
-use crate::bridge::refuse;
 use crate::ending::Answer;
-use crate::piece::Joint;
-use crate::piece::Start;
+use crate::sequence::Out;
+use crate::sequence::refuse;
 use crate::sequence::sequence;
 use ids::BRIDGES;
 use ids::MAX_TEXT;
+use reading_pieces::bridge::Why;
+use reading_pieces::piece::Joint;
+use reading_pieces::piece::Start;
 use reading_state::State;
 use refusal::Refusal;
 use table::MAX_ATOMS;
 use table_edits::clear;
 
-pub mod atom;
-pub mod bridge;
 pub mod ending;
-pub mod piece;
 pub mod sequence;
 
 // The whole text, into zeroed tables, with zeroed arrays beside the state: empty, or one sequence.

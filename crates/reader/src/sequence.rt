@@ -5,23 +5,37 @@ ghost use Prim.Native.Nat.{ℕ, _≤_, _<_};
 ghost use lib.ListN.{length, getD};
 ghost use Rattle.ids.specs.Limits.{maxText, maxDepth};
 ghost use Rattle.reading_state.specs.State.{steering};
-ghost use Rattle.reader.specs.Outcome.{Bounded, outcome, Sequenced, Branched, Closable, branchEnded};
-use crate::atom::Added;
-use crate::atom::atom_at;
-use crate::bridge::Out;
-use crate::bridge::Why;
-use crate::bridge::bridge;
-use crate::bridge::refuse;
-use crate::piece::Piece;
-use crate::piece::Start;
-use crate::piece::joint_at;
-use crate::piece::piece_at;
+ghost use Rattle.reading_pieces.specs.Bounded.{Bounded};
+ghost use Rattle.reader.specs.Outcome.{outcome, refusedAt, Sequenced, Branched, Closable, branchEnded};
 use ids::BRIDGES;
 use ids::MAX_DEPTH;
 use reading_fields::byte::peek;
+use reading_pieces::atom::Added;
+use reading_pieces::atom::atom_at;
+use reading_pieces::bridge::Why;
+use reading_pieces::bridge::bridge;
+use reading_pieces::piece::Piece;
+use reading_pieces::piece::Start;
+use reading_pieces::piece::joint_at;
+use reading_pieces::piece::piece_at;
 use reading_state::State;
 use refusal::Refusal;
 use table::MAX_ATOMS;
+
+// How it went, the next offset, and the state.
+pub struct Out {
+    pub why: Why,
+    pub at: usize,
+    pub st: State,
+}
+
+// internal: a refusal at an offset.
+pub fn refuse(r: Refusal, at: usize, st: State) -> Out
+    ensures { λ o. ⌜ ((p x : List ℕ) → outcome o p x ≡ refusedAt r at (steering st p x)) ⌝ }
+{
+    let why = Why::Refused(r, at);
+    Out { why, at, st }
+}
 
 // internal: an atom after a joint, and any number of pieces.
 pub fn sequence(

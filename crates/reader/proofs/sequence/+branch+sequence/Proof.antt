@@ -15,11 +15,11 @@ use Rattle.reader.proofs.sequence.+branch+sequence.Lts-branch as branch
 use Rattle.reader.proofs.sequence.sequence.Reads as sequence
 use Rattle.reader.proofs.sequence.sequence.Kinds as sequence-kinds
 use Rattle.reader.proofs.sequence.+branch+sequence.Lts-sequence as sequence-lts
-use Rattle.reader.proofs.atom.atom_at.Reads as atom-at-reads
-use Rattle.reader.proofs.bridge.bridge.Reads as bridge-reads
-use Rattle.reader.proofs.bridge.refuse.Reads as refuse-reads
-use Rattle.reader.proofs.piece.joint_at.Reads as joint-at-reads
-use Rattle.reader.proofs.piece.piece_at.Reads as piece-at-reads
+use Rattle.reading_pieces.proofs.atom.atom_at.Reads as atom-at-reads
+use Rattle.reading_pieces.proofs.bridge.bridge.Reads as bridge-reads
+use Rattle.reader.proofs.sequence.refuse.Reads as refuse-reads
+use Rattle.reading_pieces.proofs.piece.joint_at.Reads as joint-at-reads
+use Rattle.reading_pieces.proofs.piece.piece_at.Reads as piece-at-reads
 use Rattle.reader.proofs.sequence.end_branch.Reads as end-branch-reads
 use Rattle.reading_state.proofs.State.extend.Reads as extend-reads
 use Rattle.reading_state.proofs.State.join.Reads as join-reads

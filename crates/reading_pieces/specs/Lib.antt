@@ -1,0 +1,4 @@
+pub mod Bounded
+pub mod Piece
+pub mod Added
+pub mod Bridge

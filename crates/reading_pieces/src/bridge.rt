@@ -1,0 +1,134 @@
+// A bridge: it opens at the hub, or closes with a bond.
+ghost use mathlib.Core.Path.{_≡_};
+ghost use mathlib.Core.List.{List, []};
+ghost use Prim.Native.Nat.{ℕ, _≤_, _<_};
+ghost use Rattle.table.specs.Limits.{maxBonds};
+ghost use Rattle.ids.specs.Limits.{bridges, maxText};
+ghost use Rattle.reading_state.specs.State.{steering};
+ghost use Rattle.reading.specs.Memory.{joins, joinedAlready, meet, between};
+ghost use Rattle.reading_pieces.specs.Bounded.{Bounded};
+ghost use Rattle.reading_pieces.specs.Bridge.{Closes, Bridges};
+use crate::atom::bond_of;
+use ids::AtomId;
+use ids::BRIDGES;
+use ids::BondId;
+use reading_state::Opening;
+use reading_state::State;
+use refusal::Refusal;
+use table::Bond;
+use table::FIRST;
+use table::MAX_BONDS;
+use table::SECOND;
+use table::cell::bond_number;
+use table_edits::put_bond;
+
+// How a part of a text went.
+pub enum Why {
+    Fine,
+    Refused(Refusal, usize),
+}
+
+// The bond that a bridge closes with, or the refusal.
+pub enum Closing {
+    Bond(Bond),
+    Refused(Refusal),
+}
+
+// Whether a bond joins two atoms.
+fn joins(bonds: &[i32], a: AtomId, b: AtomId, i: BondId) -> bool
+    requires { ⌜ i .0 < maxBonds ⌝ }
+    ensures { λ r. ⌜ r ≡ joins (now (bonds .entry)) (a .0) (b .0) (i .0) ⌝ }
+{
+    let y = bond_number(bonds, i, SECOND);
+    if (y != a.0) & (y != b.0) {
+        return false;
+    }
+    let x = bond_number(bonds, i, FIRST);
+    ((x == a.0) & (y == b.0)) | ((x == b.0) & (y == a.0))
+}
+
+// Whether one of the bonds before m joins two atoms.
+fn joined_already(bonds: &[i32], m: BondId, a: AtomId, b: AtomId) -> bool
+    requires { ⌜ m .0 ≤ maxBonds ⌝ }
+    ensures { λ r. ⌜ r ≡ joinedAlready (now (bonds .entry)) (m .0) (a .0) (b .0) ⌝ }
+{
+    let mut i = 0;
+    while i < m.0 {
+        if joins(bonds, a, b, BondId(i)) {
+            return true;
+        }
+        i += 1;
+    }
+    false
+}
+
+// The bond between two atoms: the lower number first.
+fn between(a: AtomId, b: AtomId, k: u8) -> Bond
+    requires { ⌜ (a .0 < 65536) × (b .0 < 65536) ⌝ }
+    ensures { λ r. ⌜ r ≡ between (a .0) (b .0) k ⌝ }
+{
+    if a.0 < b.0 {
+        return bond_of(a, b, k);
+    }
+    bond_of(b, a, k)
+}
+
+// "A symbol at one end counts": j at the opening, k at the closing.
+fn meet(j: u8, k: u8) -> u8
+    ensures { λ r. ⌜ r ≡ meet j k ⌝ }
+{
+    if k == 0 {
+        return j;
+    }
+    k
+}
+
+// The bridge that was opened at the atom u with the symbol j, and closes at the hub with k; m is the number that its bond gets.
+fn close_at(bonds: &[i32], m: BondId, u: AtomId, hub: AtomId, j: u8, k: u8) -> Closing
+    requires { ⌜ (u .0 < 65536) × (hub .0 < 65536) ⌝ }
+    ensures { λ r. ⌜ Closes (now (bonds .entry)) (m .0) (u .0) (hub .0) j k r ⌝ }
+{
+    if MAX_BONDS <= m.0 {
+        return Closing::Refused(Refusal::ManyBonds);
+    }
+    if u.0 == hub.0 {
+        return Closing::Refused(Refusal::SelfBridge);
+    }
+    if joined_already(bonds, m, u, hub) {
+        return Closing::Refused(Refusal::RepeatedBond);
+    }
+    if (j != 0) & (k != 0) & (j != k) {
+        return Closing::Refused(Refusal::SymbolClash);
+    }
+    Closing::Bond(between(u, hub, meet(j, k)))
+}
+
+// internal: before a bridge joins, with its number, the kind of its symbol, and the offset of its digit or `%`: the offset of one that opens, the bond of one that closes, or its refusal.
+pub fn bridge(
+    st: State,
+    number: usize,
+    kind: u8,
+    at: usize,
+    bonds: &mut [i32],
+    offsets: &mut [u16; BRIDGES],
+) -> Why
+    requires { ⌜ Bounded (steering st [] []) ⌝ }
+    requires { ⌜ number < bridges ⌝ }
+    requires { ⌜ at ≤ maxText ⌝ }
+    ensures { λ r. ⌜ ((x : List ℕ) → Bridges (steering st (now (offsets .entry)) x) number kind at (now (bonds .entry)) (now (bonds .exit)) (now (offsets .exit)) r) ⌝ }
+{
+    let opening = st.opening(number);
+    let Opening::At(u, j) = opening else {
+        offsets[number] = at as u16;
+        return Why::Fine;
+    };
+    offsets[number] = 0;
+    let m = BondId(st.bonds);
+    match close_at(bonds, m, u, st.hub, j, kind) {
+        Closing::Bond(x) => {
+            put_bond(bonds, m, x);
+            Why::Fine
+        }
+        Closing::Refused(r) => Why::Refused(r, at),
+    }
+}
