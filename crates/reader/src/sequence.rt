@@ -22,7 +22,7 @@ use reading_state::State;
 use refusal::Refusal;
 use table::MAX_ATOMS;
 
-// How it went, the next offset, and the state.
+// How a part of a text went, the next offset, and the state.
 pub struct Out {
     pub why: Why,
     pub at: usize,

@@ -28,7 +28,7 @@ pub enum Opening {
     At(AtomId, u8),
 }
 
-// The numbers stand between the arrays, so that the compiler copies each array by itself.
+// What steers the reading. The numbers stand between the arrays, so that the compiler copies each array by itself.
 pub struct State {
     // The hub of each open branch, and how many are open.
     pub hubs: [u16; MAX_DEPTH],
