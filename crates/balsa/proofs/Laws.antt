@@ -5,8 +5,8 @@ use mathlib.Core.List.{List}
 use lib.IntN.{ℤ}
 use Rattle.kekule.specs.Kekule.{CallReply, callReply, KekulizeReply, kekulizeReply}
 use Rattle.kekule.specs.Calls.{Replayed, replayOut}
-use Rattle.reader.specs.declared.ending.Answer.{Answer}
-use Rattle.reader.specs.declared.ending.Answer.the-variants.{Molecule, Refused}
+use Rattle.reader.specs.declared.ending.ReadAnswer.{ReadAnswer}
+use Rattle.reader.specs.declared.ending.ReadAnswer.the-variants.{Molecule, Refused}
 use Rattle.reader.specs.Ending.{told}
 use Rattle.reading.specs.Read.{ReadResult}
 use Rattle.writer.specs.declared.Written.{Written}
@@ -17,7 +17,7 @@ use Rattle.balsa.specs.declared.ReadReply.{ReadReply}
 use Rattle.balsa.specs.declared.WriteReply.{WriteReply}
 use Rattle.balsa.specs.Replies.{readReplyOf, readOut, writeReplyOf, writeOut}
 
-pub read-law : (a : Answer) {r : ReadReply} {atoms bonds : List ℤ} {t : ReadResult} → r ≡ readReplyOf a → told a atoms bonds ≡ t → readOut r atoms bonds ≡ t
+pub read-law : (a : ReadAnswer) {r : ReadReply} {atoms bonds : List ℤ} {t : ReadResult} → r ≡ readReplyOf a → told a atoms bonds ≡ t → readOut r atoms bonds ≡ t
 read-law (Molecule n m) {atoms = atoms} {bonds} e g = ap (λ (k : ReadReply). readOut k atoms bonds) e ∙ g
 read-law (Refused c p) {atoms = atoms} {bonds} e g = ap (λ (k : ReadReply). readOut k atoms bonds) e ∙ g
 

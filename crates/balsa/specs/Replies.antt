@@ -3,8 +3,8 @@ use Prim.Native.Nat.{ℕ}
 use mathlib.Core.List.{List}
 use lib.IntN.{ℤ}
 use Rattle.refusal.specs.Code.{codeOf}
-use Rattle.reader.specs.declared.ending.Answer.{Answer}
-use Rattle.reader.specs.declared.ending.Answer.the-variants.{Molecule, Refused as readRefused}
+use Rattle.reader.specs.declared.ending.ReadAnswer.{ReadAnswer}
+use Rattle.reader.specs.declared.ending.ReadAnswer.the-variants.{Molecule, Refused as readRefused}
 use Rattle.reading.specs.Read.{ReadResult}
 use Rattle.writer.specs.declared.Written.{Written}
 use Rattle.writer.specs.declared.Written.the-variants.{Text, Refused as writeRefused}
@@ -13,7 +13,7 @@ use Rattle.balsa.specs.declared.ReadReply.{ReadReply}
 use Rattle.balsa.specs.declared.WriteReply.{WriteReply}
 
 -- an answer of the reader in plain numbers
-abbrev pub readReplyOf : Answer → ReadReply
+abbrev pub readReplyOf : ReadAnswer → ReadReply
 readReplyOf (Molecule n m) = record { code = 0; place = 0; atoms = n; bonds = m }
 readReplyOf (readRefused r p) = record { code = codeOf r; place = p; atoms = 0; bonds = 0 }
 

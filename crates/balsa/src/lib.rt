@@ -9,7 +9,7 @@ ghost use Rattle.writing.specs.Write.{writeOf};
 ghost use Rattle.balsa.specs.Replies.{readReplyOf, readOut, writeReplyOf, writeOut};
 use kekule_answers::found_code;
 use matching::Call;
-use reader::ending::Answer;
+use reader::ending::ReadAnswer;
 use table::Check;
 use writer::Written;
 
@@ -27,17 +27,17 @@ pub struct ReadReply {
 }
 
 // An answer of the reader in plain numbers.
-fn read_reply(a: Answer) -> ReadReply
+fn read_reply(a: ReadAnswer) -> ReadReply
     ensures { λ r. ⌜ r ≡ readReplyOf a ⌝ }
 {
     match a {
-        Answer::Molecule(n, m) => ReadReply {
+        ReadAnswer::Molecule(n, m) => ReadReply {
             code: 0,
             place: 0,
             atoms: n,
             bonds: m,
         },
-        Answer::Refused(r, p) => ReadReply {
+        ReadAnswer::Refused(r, p) => ReadReply {
             code: refusal::code(r) as u32,
             place: p,
             atoms: 0,

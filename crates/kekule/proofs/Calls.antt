@@ -15,8 +15,8 @@ use Rattle.table.specs.Valid.{valid}
 use Rattle.table.proofs.Valid.{facts}
 use Rattle.matching.specs.Enumeration.{Row, matchings, isRow, orZeroed, zeroed, rowCall, rowReplies}
 use Rattle.matching.specs.Graph.{enumeration}
-use Rattle.matching.specs.declared.Answer.{Answer}
-use Rattle.matching.specs.declared.Answer.the-variants.{Refused as answerRefused, Absent, Ended}
+use Rattle.matching.specs.declared.MatchingAnswer.{MatchingAnswer}
+use Rattle.matching.specs.declared.MatchingAnswer.the-variants.{Refused as answerRefused, Absent, Ended}
 use Rattle.matching.specs.declared.Call.{Call}
 use Rattle.matching.specs.declared.Call.the-variants.{First, Next}
 use Rattle.matching.proofs.Enumeration.{first-matching, row-length, after}
@@ -58,7 +58,7 @@ module _ (f : Call → List ℕ → CallReply) (calls : List ℕ) where
       rw z at (from calls 0 row codes (λ j l. let w : 0 + j ≡ j = omega arith in rw w) (omega arith))
 
 -- a reply's row is as long as the row handed in
-first-length : (p : Row → Bool) (m n : ℕ) (a : Answer) (es : List Row) → m ≤ n → matchings p m ≡ es → length (orZeroed n a es .row) ≡ n
+first-length : (p : Row → Bool) (m n : ℕ) (a : MatchingAnswer) (es : List Row) → m ≤ n → matchings p m ≡ es → length (orZeroed n a es .row) ≡ n
 first-length p m n a [] h e = length-replicate n 0
 first-length p m n a (r ∷ es) h e =
     let l : length r ≡ m = row-length m r (and-left (isRow m r) (p r) (first-matching p m r es e .0)) in

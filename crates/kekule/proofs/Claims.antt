@@ -14,8 +14,8 @@ use Rattle.table.proofs.Valid.{facts-back}
 use Rattle.matching.specs.Enumeration.{Row, matchings, cursorAt, fill, given, zeroed, orZeroed, rowCall}
 use Rattle.matching.specs.Graph.{enumeration, afterZero, Pairs}
 use Rattle.matching.specs.Model.{some?}
-use Rattle.matching.specs.declared.Answer.{Answer}
-use Rattle.matching.specs.declared.Answer.the-variants.{Given as answerGiven, Absent, Refused as answerRefused, Ended}
+use Rattle.matching.specs.declared.MatchingAnswer.{MatchingAnswer}
+use Rattle.matching.specs.declared.MatchingAnswer.the-variants.{Given as answerGiven, Absent, Refused as answerRefused, Ended}
 use Rattle.matching.specs.declared.Call.{Call}
 use Rattle.matching.specs.declared.Call.the-variants.{First, Next}
 use Rattle.matching.proofs.Calls.{whole-list, first-none, none-first, next-present}
@@ -26,7 +26,7 @@ use Rattle.kekule.specs.Kekule.{CallReply, callReply, callReplyOf, roomy
 use Rattle.kekule.specs.Calls.{repliesOf}
 
 -- only the answer "absent" is told as 11
-absent : (a : Answer) → foundCode (foundOf a) ≡ 11 → a ≡ Absent
+absent : (a : MatchingAnswer) → foundCode (foundOf a) ≡ 11 → a ≡ Absent
 absent answerGiven e = absurd (omega arith)
 absent Absent e = refl
 absent answerRefused e = absurd (omega arith)

@@ -11,7 +11,7 @@ use lib.IntN.{ℤ}
 use lib.Dec.{eqb}
 use Rattle.loops.proofs.Loops.{each-at, each-all}
 use Rattle.matching.specs.Enumeration.{Row, matchings, Reply, fill, zeroed, orZeroed, isRow, rowCall}
-use Rattle.matching.specs.declared.Answer.the-variants.{Given, Absent}
+use Rattle.matching.specs.declared.MatchingAnswer.the-variants.{Given, Absent}
 use Rattle.matching.specs.declared.Call.the-variants.{First}
 use Rattle.matching.proofs.Graph.{same-bool}
 use Rattle.matching.proofs.Listing.{rowAt, passes-at, place-of}

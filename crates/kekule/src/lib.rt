@@ -17,8 +17,8 @@ use kekule_answers::call_of;
 use kekule_answers::found_code;
 use kekule_answers::found_of;
 use kekule_answers::is_given;
-use matching::Answer;
 use matching::Call;
+use matching::MatchingAnswer;
 use refusal::Refusal;
 use table::Check;
 use table::MAX_ATOMS;
@@ -32,7 +32,14 @@ fn roomy(atoms: &[i32], bonds: &[i32], len: usize) -> bool
 }
 
 // The search for one of the two calls, on the graph of valid tables.
-fn search_graph(c: Call, atoms: &[i32], bonds: &[i32], n: usize, m: usize, row: &mut [u8]) -> Answer
+fn search_graph(
+    c: Call,
+    atoms: &[i32],
+    bonds: &[i32],
+    n: usize,
+    m: usize,
+    row: &mut [u8],
+) -> MatchingAnswer
     requires { ⌜ Valid (now atoms) (now bonds) n m ⌝ }
     requires { ⌜ m ≤ length (now row) ⌝ }
     ensures { λ r. ⌜ reply r (now (row .exit)) ≡ rowCall (matchingOf (now (atoms .entry)) (now (bonds .entry)) n m) m c (now (row .entry)) ⌝ }
@@ -49,15 +56,15 @@ fn search_graph(c: Call, atoms: &[i32], bonds: &[i32], n: usize, m: usize, row: 
 }
 
 // A zeroed row, which is the matching asked for.
-fn give_zeros(row: &mut [u8]) -> Answer
-    ensures { λ r. ⌜ reply r (now (row .exit)) ≡ zeroed (length (now (row .entry))) Answer.Given ⌝ }
+fn give_zeros(row: &mut [u8]) -> MatchingAnswer
+    ensures { λ r. ⌜ reply r (now (row .exit)) ≡ zeroed (length (now (row .entry))) MatchingAnswer.Given ⌝ }
 {
     matching_search::clear(row, BondId(0));
-    Answer::Given
+    MatchingAnswer::Given
 }
 
 // The first matching of valid tables: zeros where no atom is selected, and there no graph is built.
-fn ask_first(atoms: &[i32], bonds: &[i32], n: usize, m: usize, row: &mut [u8]) -> Answer
+fn ask_first(atoms: &[i32], bonds: &[i32], n: usize, m: usize, row: &mut [u8]) -> MatchingAnswer
     requires { ⌜ Valid (now atoms) (now bonds) n m ⌝ }
     requires { ⌜ m ≤ length (now row) ⌝ }
     ensures { λ r. ⌜ reply r (now (row .exit)) ≡ rowCall (matchingOf (now (atoms .entry)) (now (bonds .entry)) n m) m Call.First (now (row .entry)) ⌝ }
@@ -69,7 +76,7 @@ fn ask_first(atoms: &[i32], bonds: &[i32], n: usize, m: usize, row: &mut [u8]) -
 }
 
 // One of the two calls, on valid tables.
-fn ask(c: Call, atoms: &[i32], bonds: &[i32], n: usize, m: usize, row: &mut [u8]) -> Answer
+fn ask(c: Call, atoms: &[i32], bonds: &[i32], n: usize, m: usize, row: &mut [u8]) -> MatchingAnswer
     requires { ⌜ Valid (now atoms) (now bonds) n m ⌝ }
     requires { ⌜ m ≤ length (now row) ⌝ }
     ensures { λ r. ⌜ reply r (now (row .exit)) ≡ rowCall (matchingOf (now (atoms .entry)) (now (bonds .entry)) n m) m c (now (row .entry)) ⌝ }

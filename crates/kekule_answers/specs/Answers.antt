@@ -3,15 +3,15 @@ use Prim.Native.Nat.{ℕ, zero, suc}
 use mathlib.Core.Bool.{Bool, false, true}
 use Rattle.refusal.specs.Code.{codeOf}
 use Rattle.refusal.specs.declared.Refusal.the-variants.{Unmatchable, NotMatching}
-use Rattle.matching.specs.declared.Answer.{Answer}
-use Rattle.matching.specs.declared.Answer.the-variants.{Given as answerGiven, Absent, Refused as answerRefused, Ended}
+use Rattle.matching.specs.declared.MatchingAnswer.{MatchingAnswer}
+use Rattle.matching.specs.declared.MatchingAnswer.the-variants.{Given as answerGiven, Absent, Refused as answerRefused, Ended}
 use Rattle.matching.specs.declared.Call.{Call}
 use Rattle.matching.specs.declared.Call.the-variants.{First, Next}
 use Rattle.kekule_answers.specs.declared.Found.{Found}
 use Rattle.kekule_answers.specs.declared.Found.the-variants.{Given, End, Refused}
 
 -- an answer of the enumeration (01: of the book): 11 without a matching, 12 where the row is none, "end" after the last
-abbrev pub foundOf : Answer → Found
+abbrev pub foundOf : MatchingAnswer → Found
 foundOf answerGiven = Given
 foundOf Absent = Refused Unmatchable
 foundOf answerRefused = Refused NotMatching

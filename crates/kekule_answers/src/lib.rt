@@ -1,8 +1,8 @@
 // What the calls for matchings answer, and the code of each answer.
 ghost use mathlib.Core.Path.{_≡_};
 ghost use Rattle.kekule_answers.specs.Answers.{foundOf, foundCode, isGiven, callOf};
-use matching::Answer;
 use matching::Call;
+use matching::MatchingAnswer;
 use refusal::Refusal;
 
 // What the calls for a matching answer.
@@ -26,14 +26,14 @@ pub fn found_code(f: Found) -> u8
 }
 
 // internal: an answer of the search as an answer of a call.
-pub fn found_of(a: Answer) -> Found
+pub fn found_of(a: MatchingAnswer) -> Found
     ensures { λ r. ⌜ r ≡ foundOf a ⌝ }
 {
     match a {
-        Answer::Given => Found::Given,
-        Answer::Absent => Found::Refused(Refusal::Unmatchable),
-        Answer::Refused => Found::Refused(Refusal::NotMatching),
-        Answer::Ended => Found::End,
+        MatchingAnswer::Given => Found::Given,
+        MatchingAnswer::Absent => Found::Refused(Refusal::Unmatchable),
+        MatchingAnswer::Refused => Found::Refused(Refusal::NotMatching),
+        MatchingAnswer::Ended => Found::End,
     }
 }
 

@@ -7,7 +7,7 @@ use native.Mathlib.Omega.{arith}
 use lib.ListN.{length, take, getD, replicate}
 use Rattle.loops.specs.Loop.{pick}
 use Rattle.matching.specs.Enumeration.{Row, matchings, Reply, zeroed, given, enumFirst, enumNext, enumTurn, enumReplies, isRow, before, orZeroed, rowCall, rowReplies}
-use Rattle.matching.specs.declared.Answer.the-variants.{Absent, Refused, Ended}
+use Rattle.matching.specs.declared.MatchingAnswer.the-variants.{Absent, Refused, Ended}
 use Rattle.matching.specs.declared.Call.{Call}
 use Rattle.matching.specs.declared.Call.the-variants.{First, Next}
 

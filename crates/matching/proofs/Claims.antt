@@ -11,7 +11,7 @@ use borrow.Author.Tests.{ltb-true, ltb-false}
 use Rattle.loops.proofs.Loops.{and-left, and-right}
 use Rattle.matching.specs.Enumeration.{Row, matchings, Reply, zeroed, given, isRow, before, rowCall, rowReplies, cursorAt}
 use Rattle.matching.specs.Graph.{Bond, isMatching, noneFlagged, afterZero, enumeration, Pairs, setOf}
-use Rattle.matching.specs.declared.Answer.the-variants.{Absent, Ended}
+use Rattle.matching.specs.declared.MatchingAnswer.the-variants.{Absent, Ended}
 use Rattle.matching.specs.declared.Call.{Call}
 use Rattle.matching.specs.declared.Call.the-variants.{First, Next}
 use Rattle.matching.proofs.Enumeration.{first-matching}

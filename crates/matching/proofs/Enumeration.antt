@@ -11,8 +11,8 @@ use borrow.Author.Tests.{eq-eqb, ne-eqb, eqb-true, lt-ltb, ltb-true}
 use Rattle.loops.specs.Loop.{pick}
 use Rattle.loops.proofs.Loops.{and-left, and-right}
 use Rattle.matching.specs.Enumeration.{Row, rows, consIf, passing, matchings, eqRow, cursorAt, Reply, zeroed, given, Turn, enumFirst, enumNext, enumTurn, enumReplies, isRow, before, orZeroed, rowCall, rowReplies}
-use Rattle.matching.specs.declared.Answer.{Answer}
-use Rattle.matching.specs.declared.Answer.the-variants.{Absent, Refused, Ended}
+use Rattle.matching.specs.declared.MatchingAnswer.{MatchingAnswer}
+use Rattle.matching.specs.declared.MatchingAnswer.the-variants.{Absent, Refused, Ended}
 use Rattle.matching.specs.declared.Call.{Call}
 use Rattle.matching.specs.declared.Call.the-variants.{First, Next}
 
@@ -249,7 +249,7 @@ module _ (p : Row → Bool) (m n : ℕ) (z : List Row) (fits : m ≤ n) (hz : cu
   Agree : Reply → Turn → Type 0
   Agree g t = (g ≡ t .reply) × (cursorAt (take m (t .reply .row)) (matchings p m) ≡ t .cursor) × (length (t .reply .row) ≡ n)
 
-  zero-agrees : (a : Answer) → Agree (zeroed n a) (record { reply = zeroed n a; cursor = z })
+  zero-agrees : (a : MatchingAnswer) → Agree (zeroed n a) (record { reply = zeroed n a; cursor = z })
   unfolding Agree
   zero-agrees a = (refl, rw (take-replicate m n fits) hz, length-replicate n 0)
 

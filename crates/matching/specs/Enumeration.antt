@@ -5,8 +5,8 @@ use Prim.Native.Nat.{ℕ, zero, suc, _-_}
 use lib.Dec.{eqb, leb, ltb}
 use lib.ListN.{length, take, replicate}
 use Rattle.loops.specs.Loop.{pick}
-use Rattle.matching.specs.declared.Answer.{Answer}
-use Rattle.matching.specs.declared.Answer.the-variants.{Given, Absent, Refused, Ended}
+use Rattle.matching.specs.declared.MatchingAnswer.{MatchingAnswer}
+use Rattle.matching.specs.declared.MatchingAnswer.the-variants.{Given, Absent, Refused, Ended}
 use Rattle.matching.specs.declared.Call.{Call}
 use Rattle.matching.specs.declared.Call.the-variants.{First, Next}
 
@@ -45,14 +45,14 @@ cursorAt r (e ∷ es) = pick (eqRow r e) (e ∷ es) (cursorAt r es)
 
 -- what a call hands back: the answer and the whole row
 pub record Reply : Type 0 where
-  pub answer : Answer
+  pub answer : MatchingAnswer
   pub row : Row
 
 -- 01: an entry given fills the row up to the last bond; the rest of the row is zeroed
 abbrev pub fill : ℕ → Row → Row
 fill n r = r ++ replicate (n - length r) 0
 
-abbrev pub zeroed : ℕ → Answer → Reply
+abbrev pub zeroed : ℕ → MatchingAnswer → Reply
 zeroed n a = record { answer = a; row = replicate n 0 }
 
 abbrev pub given : ℕ → Row → Reply
@@ -101,7 +101,7 @@ before (x ∷ r) [] = false
 before (x ∷ r) (y ∷ s) = pick (eqb x y) (before r s) (ltb y x)
 
 -- the first of the rows, or a zeroed row with the answer a
-abbrev pub orZeroed : ℕ → Answer → List Row → Reply
+abbrev pub orZeroed : ℕ → MatchingAnswer → List Row → Reply
 orZeroed n a [] = zeroed n a
 orZeroed n a (e ∷ es) = given n e
 

@@ -8,7 +8,7 @@ use lib.Dec.{eqb}
 use lib.ListN.{length, take, drop, replicate, getD, set}
 use Rattle.loops.specs.Loop.{pick}
 use Rattle.matching.specs.Enumeration.{Row, matchings, before, isRow, Reply}
-use Rattle.matching.specs.declared.Answer.{Answer}
+use Rattle.matching.specs.declared.MatchingAnswer.{MatchingAnswer}
 use Rattle.matching.specs.Graph.{Bond, induced, noneFlagged}
 
 -- the bond can be chosen: it is elided and neither end has a partner
@@ -75,7 +75,7 @@ abbrev pub written : ℕ → Row → ℕ → List Row → Row
 written k row m fs = take k row ++ (headOr (replicate (m - k) 0) fs ++ drop m row)
 
 -- an answer with the whole row
-abbrev pub reply : Answer → Row → Reply
+abbrev pub reply : MatchingAnswer → Row → Reply
 reply a row = record { answer = a; row = row }
 
 -- What the contracts of the searches ask and promise.

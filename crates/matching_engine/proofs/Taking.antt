@@ -11,7 +11,7 @@ use Rattle.loops.specs.Loop.{pick}
 use Rattle.matching.specs.Enumeration.{rowFirst}
 use Rattle.matching.specs.Graph.{noneFlagged, isMatching}
 use Rattle.matching.specs.Model.{Shape, Ends, Searched, allFrom, freeAt, markAt, bondsOf, reply}
-use Rattle.matching.specs.declared.Answer.the-variants.{Absent}
+use Rattle.matching.specs.declared.MatchingAnswer.the-variants.{Absent}
 use Rattle.matching_search.proofs.Choice.{at-end, here3, ends-here, shape-next, found-one, not-free}
 use Rattle.matching_search.proofs.Reply.{told-as, first-reply}
 use Rattle.matching_engine.specs.Tried.{Taken}

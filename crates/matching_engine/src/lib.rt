@@ -4,7 +4,7 @@
 use ids::AtomId;
 use ids::BondId;
 use ids::MAX_ATOMS;
-use matching::Answer;
+use matching::MatchingAnswer;
 ghost use mathlib.Core.Path.{_≡_};
 ghost use mathlib.Core.Bool.{true};
 ghost use mathlib.Core.List.{[]};
@@ -272,35 +272,43 @@ fn try_greedy(ea: &[u16], eb: &[u16], el: &[u8], need: &[u8], row: &mut [u8]) ->
 }
 
 // internal: the first matching.
-pub fn first(ea: &[u16], eb: &[u16], el: &[u8], need: &mut [u8], row: &mut [u8]) -> Answer
+pub fn first(ea: &[u16], eb: &[u16], el: &[u8], need: &mut [u8], row: &mut [u8]) -> MatchingAnswer
     requires { ⌜ Shape (now ea) (now eb) (now el) (now need) (now row) 0 ⌝ }
     ensures { λ r. ⌜ now (need .exit) ≡ now (need .entry) ⌝ }
     ensures { λ r. ⌜ reply r (now (row .exit)) ≡ rowFirst (isMatching (now (need .entry)) (bondsOf (now (ea .entry)) (now (eb .entry)) (now (el .entry)))) (length (now (ea .entry))) (length (now (row .entry))) ⌝ }
 {
     if try_greedy(ea, eb, el, need, row) {
         matching_search::clear(row, BondId(ea.len()));
-        return Answer::Given;
+        return MatchingAnswer::Given;
     }
     let mut last = [0usize; MAX_ATOMS];
     fill_lasts(ea, eb, el, need, &mut last);
     let found = seek_any(ea, eb, el, need, row, &last, BondId(0));
     matching_search::clear(row, BondId(ea.len()));
-    if found { Answer::Given } else { Answer::Absent }
+    if found {
+        MatchingAnswer::Given
+    } else {
+        MatchingAnswer::Absent
+    }
 }
 
 // internal: the first matching that comes after the row.
-pub fn next(ea: &[u16], eb: &[u16], el: &[u8], need: &mut [u8], row: &mut [u8]) -> Answer
+pub fn next(ea: &[u16], eb: &[u16], el: &[u8], need: &mut [u8], row: &mut [u8]) -> MatchingAnswer
     requires { ⌜ Shape (now ea) (now eb) (now el) (now need) (now row) 0 ⌝ }
     ensures { λ r. ⌜ now (need .exit) ≡ now (need .entry) ⌝ }
     ensures { λ r. ⌜ reply r (now (row .exit)) ≡ rowNext (isMatching (now (need .entry)) (bondsOf (now (ea .entry)) (now (eb .entry)) (now (el .entry)))) (length (now (ea .entry))) (length (now (row .entry))) (take (length (now (ea .entry))) (now (row .entry))) ⌝ }
 {
     if !matching_search::is_matching(ea, eb, el, need, row, BondId(0)) {
         matching_search::clear(row, BondId(0));
-        return Answer::Refused;
+        return MatchingAnswer::Refused;
     }
     let mut last = [0usize; MAX_ATOMS];
     fill_lasts(ea, eb, el, need, &mut last);
     let found = later(ea, eb, el, need, row, &last, BondId(0));
     matching_search::clear(row, BondId(ea.len()));
-    if found { Answer::Given } else { Answer::Ended }
+    if found {
+        MatchingAnswer::Given
+    } else {
+        MatchingAnswer::Ended
+    }
 }

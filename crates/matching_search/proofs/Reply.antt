@@ -11,8 +11,8 @@ use Rattle.loops.specs.Loop.{pick}
 use Rattle.loops.proofs.Loops.{and-left}
 use Rattle.matching.specs.Graph.{isMatching}
 use Rattle.matching.specs.Enumeration.{Row, matchings, isRow, before, orZeroed, zeroed, rowFirst, rowNext}
-use Rattle.matching.specs.declared.Answer.{Answer}
-use Rattle.matching.specs.declared.Answer.the-variants.{Given, Absent, Refused, Ended}
+use Rattle.matching.specs.declared.MatchingAnswer.{MatchingAnswer}
+use Rattle.matching.specs.declared.MatchingAnswer.the-variants.{Given, Absent, Refused, Ended}
 use Rattle.matching.specs.Model.{part, matchingFrom, bondsOf, some?, headOr, Shape, Searched, allFrom, laterFrom, reply}
 use Rattle.matching.proofs.Enumeration.{first-matching, row-length}
 use Rattle.matching.proofs.Graph.{matching-pairs}
@@ -21,11 +21,11 @@ use Rattle.matching.proofs.Graph.{matching-pairs}
 replicates : (a b : ℕ) → replicate a 0 ++ replicate b 0 ≡ replicate {A = ℕ} (a + b) 0
 replicates a b = replicate-append-replicate {A = ℕ} a b 0
 
-abbrev pub told-as : Bool → Answer → Answer
+abbrev pub told-as : Bool → MatchingAnswer → MatchingAnswer
 told-as true a = Given
 told-as false a = a
 
-finish : (fs : List Row) (m n : ℕ) (a : Answer) (row row1 row2 : Row) → ((e : Row) (es : List Row) → fs ≡ e ∷ es → length e ≡ m) → m ≤ n → length row1 ≡ n
+finish : (fs : List Row) (m n : ℕ) (a : MatchingAnswer) (row row1 row2 : Row) → ((e : Row) (es : List Row) → fs ≡ e ∷ es → length e ≡ m) → m ≤ n → length row1 ≡ n
     → row1 ≡ headOr (replicate m 0) fs ++ drop m row → row2 ≡ take m row1 ++ replicate (length row1 - m) 0 → reply (told-as (some? fs) a) row2 ≡ orZeroed n a fs
 finish [] m n a row row1 row2 l h k w c =
     let t : take m row1 ≡ replicate m 0 = ap (take m) w ∙ take-at (replicate m 0) (drop m row) m (length-replicate m 0) in

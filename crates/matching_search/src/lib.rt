@@ -2,7 +2,7 @@
 // Every function here is internal: the calls on molecules check what is asked of the tables.
 use ids::AtomId;
 use ids::BondId;
-use matching::Answer;
+use matching::MatchingAnswer;
 ghost use mathlib.Core.Path.{_≡_};
 ghost use mathlib.Core.Bool.{true};
 ghost use mathlib.Core.List.{_++_};
@@ -195,27 +195,35 @@ pub fn clear(row: &mut [u8], from: BondId)
 }
 
 // internal: the first matching.
-pub fn first(ea: &[u16], eb: &[u16], el: &[u8], need: &mut [u8], row: &mut [u8]) -> Answer
+pub fn first(ea: &[u16], eb: &[u16], el: &[u8], need: &mut [u8], row: &mut [u8]) -> MatchingAnswer
     requires { ⌜ Shape (now ea) (now eb) (now el) (now need) (now row) 0 ⌝ }
     ensures { λ r. ⌜ now (need .exit) ≡ now (need .entry) ⌝ }
     ensures { λ r. ⌜ reply r (now (row .exit)) ≡ rowFirst (isMatching (now (need .entry)) (bondsOf (now (ea .entry)) (now (eb .entry)) (now (el .entry)))) (length (now (ea .entry))) (length (now (row .entry))) ⌝ }
 {
     let found = seek(ea, eb, el, need, row, BondId(0));
     clear(row, BondId(ea.len()));
-    if found { Answer::Given } else { Answer::Absent }
+    if found {
+        MatchingAnswer::Given
+    } else {
+        MatchingAnswer::Absent
+    }
 }
 
 // internal: the first matching that comes after the row.
-pub fn next(ea: &[u16], eb: &[u16], el: &[u8], need: &mut [u8], row: &mut [u8]) -> Answer
+pub fn next(ea: &[u16], eb: &[u16], el: &[u8], need: &mut [u8], row: &mut [u8]) -> MatchingAnswer
     requires { ⌜ Shape (now ea) (now eb) (now el) (now need) (now row) 0 ⌝ }
     ensures { λ r. ⌜ now (need .exit) ≡ now (need .entry) ⌝ }
     ensures { λ r. ⌜ reply r (now (row .exit)) ≡ rowNext (isMatching (now (need .entry)) (bondsOf (now (ea .entry)) (now (eb .entry)) (now (el .entry)))) (length (now (ea .entry))) (length (now (row .entry))) (take (length (now (ea .entry))) (now (row .entry))) ⌝ }
 {
     if !is_matching(ea, eb, el, need, row, BondId(0)) {
         clear(row, BondId(0));
-        return Answer::Refused;
+        return MatchingAnswer::Refused;
     }
     let found = later(ea, eb, el, need, row, BondId(0));
     clear(row, BondId(ea.len()));
-    if found { Answer::Given } else { Answer::Ended }
+    if found {
+        MatchingAnswer::Given
+    } else {
+        MatchingAnswer::Ended
+    }
 }

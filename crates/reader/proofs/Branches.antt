@@ -17,7 +17,7 @@ use Rattle.refusal.specs.declared.Refusal.the-variants.{Grammar}
 use Rattle.reading_grammar.specs.Grammar.{nonzero, bondSymbols}
 use Rattle.reading_grammar.specs.declared.Last.the-variants.{Plain as plain}
 use Rattle.reading_grammar.specs.declared.Mode.the-variants.{Seq as seq, AtomNext as atomNext}
-use Rattle.reading_grammar.specs.declared.Out.the-variants.{Up as up, Down as down}
+use Rattle.reading_grammar.specs.declared.Move.the-variants.{Up as up, Down as down}
 use Rattle.reading_grammar.specs.Machine.{next, resting, atomOr, bridgeOr}
 use Rattle.reading_grammar.specs.Fold.{keeps, good, bad}
 use Rattle.table.specs.Limits.{maxAtoms}

@@ -19,10 +19,10 @@ use Rattle.refusal.specs.declared.Refusal.the-variants.{Short, LongText, Gramma
 use Rattle.valence.specs.Valence.{implied}
 use Rattle.reading_grammar.specs.declared.Last.the-variants.{Plain as plain}
 use Rattle.reading_grammar.specs.declared.Mode.the-variants.{Seq as seq, AtomNext as atomNext}
-use Rattle.reading_grammar.specs.declared.State as machine
-use Rattle.reading_grammar.specs.declared.State.the-variants.{Start as start}
+use Rattle.reading_grammar.specs.declared.MachineState as machine
+use Rattle.reading_grammar.specs.declared.MachineState.the-variants.{Start as start}
 use Rattle.reading_grammar.specs.Machine.{next, step, resting, accepting}
-use Rattle.reading_grammar.specs.Fold.{Reading, going, halted, feed, read, Answer, good, bad, finish, answer}
+use Rattle.reading_grammar.specs.Fold.{Reading, going, halted, feed, read, Verdict, good, bad, finish, answer}
 use Rattle.table.specs.Limits.{maxAtoms, HYDROGENS}
 use Rattle.table.specs.Cells.{atomPlace, element, selected}
 use Rattle.table.specs.Valid.{Valid, enough}
@@ -43,7 +43,7 @@ use Rattle.reading_fields.proofs.Rest.{rest-end, rest-down-stop}
 use Rattle.reading_fields.proofs.Bytes.{there}
 use Rattle.reader.specs.declared.piece.Joint.{Joint}
 use Rattle.reader.specs.declared.bridge.Why.{Why}
-use Rattle.reader.specs.declared.ending.Answer as reply
+use Rattle.reader.specs.declared.ending.ReadAnswer as reply
 use Rattle.reader.specs.Outcome.{Bounded, Outcome, refusedAt, PastFine, Past, Goes, Stops, Sequenced}
 use Rattle.reader.specs.Ending.{told, hydrogensBy, hydrogenatedBy, endedOf, answerOf, TextGoes, TextRead}
 use Rattle.reader.proofs.Branches.{close-down}
@@ -177,21 +177,21 @@ module _ (opener offset : List ℕ) where
 
 -- ---- after the last byte
 module _ (t : Steering) (a b : List ℤ) {p : ℕ} (e : p ≡ leftmost (t .opener) (t .offset)) where
-  pub ended-open : {x y : List ℤ} → p < maxText → x ≡ zeros a → y ≡ zeros b → told (reply.Answer.Refused OpenBridge p) x y ≡ endedOf t a b
+  pub ended-open : {x y : List ℤ} → p < maxText → x ≡ zeros a → y ≡ zeros b → told (reply.ReadAnswer.Refused OpenBridge p) x y ≡ endedOf t a b
   unfolding ended
   ended-open h ex ey = rw (ex, ey, ← e, lt-ltb p maxText h)
 
   module _ (h : maxText ≤ p) {v : List ℤ} (ev : v ≡ hydrogenated (t .outside) b (t .bonds) (t .atoms) a) where
-    pub ended-matched : matchable v b (t .atoms) (t .bonds) ≡ true → told (reply.Answer.Molecule (t .atoms) (t .bonds)) v b ≡ endedOf t a b
+    pub ended-matched : matchable v b (t .atoms) (t .bonds) ≡ true → told (reply.ReadAnswer.Molecule (t .atoms) (t .bonds)) v b ≡ endedOf t a b
     unfolding ended
     ended-matched m = rw (← e, le-ltb p maxText h, ← ev, m)
 
-    pub ended-unmatched : {x y : List ℤ} → matchable v b (t .atoms) (t .bonds) ≡ false → x ≡ zeros v → y ≡ zeros b → told (reply.Answer.Refused Unmatchable 0) x y ≡ endedOf t a b
+    pub ended-unmatched : {x y : List ℤ} → matchable v b (t .atoms) (t .bonds) ≡ false → x ≡ zeros v → y ≡ zeros b → told (reply.ReadAnswer.Refused Unmatchable 0) x y ≡ endedOf t a b
     unfolding ended
     ended-unmatched m ex ey = rw (ex, ey, ← e, le-ltb p maxText h, ← ev, m)
 
 -- ---- the public call
-abbrev byAnswer : List ℤ → List ℤ → Answer Memory → ReadResult
+abbrev byAnswer : List ℤ → List ℤ → Verdict Memory → ReadResult
 byAnswer a b (good μ) = ended μ
 byAnswer a b (bad c p) = refused c p a b
 
@@ -207,21 +207,21 @@ zeros-as : (a x : List ℤ) {a₁ y : List ℤ} → a₁ ≡ zeros a → length 
 zeros-as a x e l h = h ∙ ap (λ (n : ℕ). replicate n (pos 0)) (l ∙ ap length e ∙ length-replicate (length a) (pos 0))
 
 -- an answer of the machine that is good comes from a reading that goes on
-good-going : (n : ℕ) (r : Reading Memory) (μ : Memory) → finish n r ≡ good μ → (σ : machine.State) × (r ≡ going σ μ)
+good-going : (n : ℕ) (r : Reading Memory) (μ : Memory) → finish n r ≡ good μ → (σ : machine.MachineState) × (r ≡ going σ μ)
 good-going n (going σ ν) μ h = split (accepting σ) h
   where
-    split : (x : Bool) → pick x (good ν) (bad 3 n) ≡ good μ → (τ : machine.State) × (going σ ν ≡ going τ μ)
+    split : (x : Bool) → pick x (good ν) (bad 3 n) ≡ good μ → (τ : machine.MachineState) × (going σ ν ≡ going τ μ)
     split true q = (σ, let e : ν ≡ μ = cc in ap (going σ) e)
     split false q = absurd (let z : _≡_ {A = ℕ} 0 1 = cc in omega arith)
 good-going n (halted c p) μ h = absurd (let z : _≡_ {A = ℕ} 0 1 = cc in omega arith)
 
 module _ (s : List ℕ) (a b : List ℤ) where
-  pub told-short : enough a b ≡ false → told (reply.Answer.Refused Short 0) a b ≡ readOf s a b
+  pub told-short : enough a b ≡ false → told (reply.ReadAnswer.Refused Short 0) a b ≡ readOf s a b
   unfolding readOf
   told-short h = rw h
 
   module _ (h : enough a b ≡ true) where
-    pub told-long : {x y : List ℤ} → maxText < length s → x ≡ zeros a → y ≡ zeros b → told (reply.Answer.Refused LongText maxText) x y ≡ readOf s a b
+    pub told-long : {x y : List ℤ} → maxText < length s → x ≡ zeros a → y ≡ zeros b → told (reply.ReadAnswer.Refused LongText maxText) x y ≡ readOf s a b
     unfolding readOf
     told-long l ex ey = rw (ex, ey, h, lt-leb (length s) maxText l)
 
@@ -231,7 +231,7 @@ module _ (s : List ℕ) (a b : List ℤ) where
       whole = rw (h, le-leb (length s) maxText l, ea, eb) (finished-by (length s) a b (read act 0 (going start (beginning (zeros a) (zeros b))) s))
 
       pub told-refused : {c : Refusal} {p : ℕ} {x′ y′ : List ℤ} → o .why ≡ Why.Refused c p → length x ≡ length a₁ → length y ≡ length b₁ → x′ ≡ zeros x → y′ ≡ zeros y
-          → told (reply.Answer.Refused c p) x′ y′ ≡ readOf s a b
+          → told (reply.ReadAnswer.Refused c p) x′ y′ ≡ readOf s a b
       told-refused w lx ly ex ey =
           rw (zeros-as a x ea lx ex, zeros-as b y eb ly ey) (sym (whole ∙ ap (byAnswer a b) (subst (λ (z : Why). TextGoes s a₁ b₁ x y z (o .st)) w (g .is))))
 

@@ -14,7 +14,7 @@ use Rattle.refusal.specs.Code.{codeOf}
 use Rattle.reading_grammar.specs.declared.Last.the-variants.{Plain as plain}
 use Rattle.reading_grammar.specs.declared.Mode.{Mode}
 use Rattle.reading_grammar.specs.declared.Mode.the-variants.{Seq as seq, AtomNext as atomNext}
-use Rattle.reading_grammar.specs.Fold.{Answer, bad}
+use Rattle.reading_grammar.specs.Fold.{Verdict, bad}
 use Rattle.table.specs.Limits.{maxAtoms}
 use Rattle.reading_state.specs.State.{Steering, steering, withNextAtom, joined}
 use Rattle.reading_state.specs.declared.State.{State}
@@ -48,12 +48,12 @@ resting-older true e = let z : _≡_ {A = Mode} atomNext (seq plain) = e in cc
 resting-older false e = refl
 
 -- a reading that reached p rests there
-at-rest : {s : List ℕ} {x : Answer Memory} {p q : ℕ} {m : Mode} {k : Pending} {u : Steering} {a b : List ℤ} → q ≡ p → m ≡ seq plain → k ≡ nothing → Reaches s x p m k u a b → Reaches s x q (seq plain) nothing u a b
+at-rest : {s : List ℕ} {x : Verdict Memory} {p q : ℕ} {m : Mode} {k : Pending} {u : Steering} {a b : List ℤ} → q ≡ p → m ≡ seq plain → k ≡ nothing → Reaches s x p m k u a b → Reaches s x q (seq plain) nothing u a b
 at-rest {s} {x} {p} {q} {m} {k} {u} {a} {b} e n l y =
     subst (λ (z : Pending). Reaches s x q (seq plain) z u a b) l (subst (λ (z : Mode). Reaches s x q z k u a b) n (subst⁻¹ (λ (z : ℕ). Reaches s x z m k u a b) e y))
 
 -- the reading where a sequence begins
-abbrev begun : List ℕ → Joint → ℕ → Steering → List ℤ → List ℤ → ℕ → Fields → Answer Memory
+abbrev begun : List ℕ → Joint → ℕ → Steering → List ℤ → List ℤ → ℕ → Fields → Verdict Memory
 begun s j p t a b i d = rest s p atomNext (memory t a b (pendingOf j) i d)
 
 -- ---- what holds at each turn of the loop, from p₀ in t with the tables a₀, b₀ on

@@ -13,7 +13,7 @@ use Rattle.refusal.specs.Code.{codeOf}
 use Rattle.reading_grammar.specs.declared.Last.the-variants.{Plain as plain}
 use Rattle.reading_grammar.specs.declared.Mode.{Mode}
 use Rattle.reading_grammar.specs.declared.Mode.the-variants.{Seq as seq, AtomNext as atomNext}
-use Rattle.reading_grammar.specs.Fold.{Answer, bad, keeps, refuses}
+use Rattle.reading_grammar.specs.Fold.{Verdict, bad, keeps, refuses}
 use Rattle.table.specs.Limits.{maxAtoms, maxBonds}
 use Rattle.reading_state.specs.State.{Steering, withNextAtom}
 use Rattle.reading_state.specs.declared.Fields.{Fields}
@@ -46,7 +46,7 @@ Admits n m w Room.Enough = HasRoom n m w
 Admits n m w (Room.Refused r) = (μ : Memory) → Next μ n m w → (x i : ℕ) → atomAct x i μ ≡ refuses (codeOf r) i
 
 -- a reading x goes on at an offset, in a mode, with a joint, a state and tables; what it remembers of a `%` or a bracket may be anything
-pub record Reaches (s : List ℕ) (x : Answer Memory) (p : ℕ) (m : Mode) (k : Pending) (t : Steering) (a b : List ℤ) : Type 0 where
+pub record Reaches (s : List ℕ) (x : Verdict Memory) (p : ℕ) (m : Mode) (k : Pending) (t : Steering) (a b : List ℤ) : Type 0 where
   pub tens : ℕ
   pub draft : Fields
   pub is : x ≡ rest s p m (memory t a b k tens draft)

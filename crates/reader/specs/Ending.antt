@@ -9,7 +9,7 @@ use lib.Dec.{eqb}
 use Rattle.loops.specs.Loop.{pick, run}
 use Rattle.refusal.specs.Code.{codeOf}
 use Rattle.valence.specs.Valence.{implied}
-use Rattle.reading_grammar.specs.Fold.{Answer, good, bad, answer}
+use Rattle.reading_grammar.specs.Fold.{Verdict, good, bad, answer}
 use Rattle.table.specs.Limits.{HYDROGENS}
 use Rattle.table.specs.Cells.{atomPlace, element, selected}
 use Rattle.table_graph.specs.Graph.{matchable}
@@ -20,13 +20,13 @@ use Rattle.reading.specs.Act.{act}
 use Rattle.reading.specs.Read.{ReadResult, beginning, hydrogenated, ended}
 use Rattle.reading_fields.specs.Rest.{memory}
 use Rattle.reader.specs.declared.bridge.Why.{Why}
-use Rattle.reader.specs.declared.ending.Answer as reply
+use Rattle.reader.specs.declared.ending.ReadAnswer as reply
 use Rattle.reader.specs.Outcome.{Bounded, Outcome}
 
 -- 0 with the counts, or the refusal's code with its offset and counts of 0; and both tables
-abbrev pub told : reply.Answer → List ℤ → List ℤ → ReadResult
-told (reply.Answer.Molecule n m) a b = record { code = 0; offset = 0; atomCount = n; bondCount = m; atoms = a; bonds = b }
-told (reply.Answer.Refused r p) a b = record { code = codeOf r; offset = p; atomCount = 0; bondCount = 0; atoms = a; bonds = b }
+abbrev pub told : reply.ReadAnswer → List ℤ → List ℤ → ReadResult
+told (reply.ReadAnswer.Molecule n m) a b = record { code = 0; offset = 0; atomCount = n; bondCount = m; atoms = a; bonds = b }
+told (reply.ReadAnswer.Refused r p) a b = record { code = codeOf r; offset = p; atomCount = 0; bondCount = 0; atoms = a; bonds = b }
 
 -- the hydrogens of one atom, by whether it stood outside brackets and by its bond sum
 abbrev pub hydrogensBy : ℕ → ℕ → ℕ → List ℤ → List ℤ
@@ -46,7 +46,7 @@ abbrev pub endedOf : Steering → List ℤ → List ℤ → ReadResult
 endedOf t a b = ended (memory t a b nothing 0 blank)
 
 -- reading the whole text into tables that stand so, as the byte machine answers
-abbrev pub answerOf : List ℕ → List ℤ → List ℤ → Answer Memory
+abbrev pub answerOf : List ℕ → List ℤ → List ℤ → Verdict Memory
 answerOf s a b = answer act (beginning a b) s
 
 -- the text was read whole: the machine is content with this state and these tables, or refuses as told

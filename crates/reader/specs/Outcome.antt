@@ -12,7 +12,7 @@ use Rattle.refusal.specs.Code.{codeOf}
 use Rattle.reading_grammar.specs.declared.Last.the-variants.{Plain as plain}
 use Rattle.reading_grammar.specs.declared.Mode.{Mode}
 use Rattle.reading_grammar.specs.declared.Mode.the-variants.{Seq as seq, AtomNext as atomNext}
-use Rattle.reading_grammar.specs.Fold.{Answer, bad}
+use Rattle.reading_grammar.specs.Fold.{Verdict, bad}
 use Rattle.table.specs.Limits.{maxAtoms, maxBonds}
 use Rattle.reading_state.specs.State.{Steering, steering, closed}
 use Rattle.reading_state.specs.declared.Fields.{Fields}
@@ -21,7 +21,7 @@ use Rattle.reading.specs.Memory.{Memory, Pending, nothing}
 use Rattle.reading_fields.specs.Rest.{rest, memory}
 use Rattle.reader.specs.declared.piece.Joint.{Joint}
 use Rattle.reader.specs.declared.bridge.Why.{Why}
-use Rattle.reader.specs.declared.bridge.Out.{Out}
+use Rattle.reader.specs.declared.bridge.PartRead.{PartRead}
 use Rattle.reader.specs.Piece.{pendingOf}
 use Rattle.reader.specs.Added.{Reaches}
 
@@ -41,7 +41,7 @@ pub record Outcome : Type 0 where
   pub st : Steering
 
 -- what the code hands back, and the two arrays that are lent beside its state
-abbrev pub outcome : Out → List ℕ → List ℕ → Outcome
+abbrev pub outcome : PartRead → List ℕ → List ℕ → Outcome
 outcome o p x = record { why = o .why; at = o .at; st = steering (o .st) p x }
 
 -- a refusal, at its offset
@@ -49,7 +49,7 @@ abbrev pub refusedAt : Refusal → ℕ → Steering → Outcome
 refusedAt r p t = record { why = Why.Refused r p; at = p; st = t }
 
 -- a reading x goes on as it went
-abbrev pub GoesOn : List ℕ → Answer Memory → Why → ℕ → Steering → List ℤ → List ℤ → Type 0
+abbrev pub GoesOn : List ℕ → Verdict Memory → Why → ℕ → Steering → List ℤ → List ℤ → Type 0
 GoesOn s x Why.Fine q u a b = Reaches s x q (seq plain) nothing u a b
 GoesOn s x (Why.Refused r e) q u a b = x ≡ bad (codeOf r) e
 

@@ -12,7 +12,7 @@ use Rattle.reading_grammar.specs.Grammar.{bondSymbols}
 use Rattle.reading_grammar.specs.declared.Last.the-variants.{Plain as plain}
 use Rattle.reading_grammar.specs.declared.Mode.{Mode}
 use Rattle.reading_grammar.specs.declared.Mode.the-variants.{Seq as seq, Bond as bond, AtomNext as atomNext, Inside as inside}
-use Rattle.reading_grammar.specs.Fold.{Answer, bad, keeps, refuses}
+use Rattle.reading_grammar.specs.Fold.{Verdict, bad, keeps, refuses}
 use Rattle.reading_state.specs.State.{Steering}
 use Rattle.reading_state.specs.declared.Fields.{Fields}
 use Rattle.ids.specs.Limits.{bridges}
@@ -59,7 +59,7 @@ abbrev pub Free : List ℕ → ℕ → ℕ → Type 0
 Free s at k = k ≡ 0 → Loose s at
 
 -- the reading after a bridge that ends before p
-abbrev pub afterBridge : List ℕ → ℕ → Acts → Answer Memory
+abbrev pub afterBridge : List ℕ → ℕ → Acts → Verdict Memory
 afterBridge s p (keeps μ) = rest s p (seq plain) μ
 afterBridge s p (refuses c q) = bad c q
 

@@ -29,7 +29,7 @@ pub enum Why {
 }
 
 // How it went, the next offset, and the state.
-pub struct Out {
+pub struct PartRead {
     pub why: Why,
     pub at: usize,
     pub st: State,
@@ -42,11 +42,11 @@ pub enum Closing {
 }
 
 // internal: a refusal at an offset.
-pub fn refuse(r: Refusal, at: usize, st: State) -> Out
+pub fn refuse(r: Refusal, at: usize, st: State) -> PartRead
     ensures { λ o. ⌜ ((p x : List ℕ) → outcome o p x ≡ refusedAt r at (steering st p x)) ⌝ }
 {
     let why = Why::Refused(r, at);
-    Out { why, at, st }
+    PartRead { why, at, st }
 }
 
 // Whether a bond joins two atoms.

@@ -23,7 +23,7 @@ use table::cell;
 use table_edits::clear;
 
 // A molecule with its counts of atoms and bonds, or a refusal with its offset.
-pub enum Answer {
+pub enum ReadAnswer {
     Molecule(usize, usize),
     Refused(Refusal, usize),
 }
@@ -124,7 +124,7 @@ pub fn end(
     outsides: &[u8; MAX_ATOMS],
     atoms: &mut [i32],
     bonds: &mut [i32],
-) -> Answer
+) -> ReadAnswer
     requires { ⌜ (st .atoms ≤ maxAtoms) × (st .bonds ≤ maxBonds) ⌝ }
     requires { ⌜ Valid (hydrogenated (now outsides) (now bonds) (st .bonds) (st .atoms) (now atoms)) (now bonds) (st .atoms) (st .bonds) ⌝ }
     ensures { λ r. ⌜ told r (now (atoms .exit)) (now (bonds .exit)) ≡ endedOf (steering st (now (offsets .entry)) (now (outsides .entry))) (now (atoms .entry)) (now (bonds .entry)) ⌝ }
@@ -134,14 +134,14 @@ pub fn end(
     if p < MAX_TEXT {
         clear(atoms);
         clear(bonds);
-        return Answer::Refused(Refusal::OpenBridge, p);
+        return ReadAnswer::Refused(Refusal::OpenBridge, p);
     }
     let n = st.atoms;
     let m = st.bonds;
     if complete(n, m, outsides, atoms, bonds) {
-        return Answer::Molecule(n, m);
+        return ReadAnswer::Molecule(n, m);
     }
     clear(atoms);
     clear(bonds);
-    Answer::Refused(Refusal::Unmatchable, 0)
+    ReadAnswer::Refused(Refusal::Unmatchable, 0)
 }

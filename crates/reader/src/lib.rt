@@ -7,10 +7,10 @@ ghost use Rattle.ids.specs.Limits.{maxText, bridges};
 ghost use Rattle.reading.specs.Read.{readOf};
 ghost use Rattle.reader.specs.Outcome.{outcome};
 ghost use Rattle.reader.specs.Ending.{told, TextRead};
-use crate::bridge::Out;
+use crate::bridge::PartRead;
 use crate::bridge::Why;
 use crate::bridge::refuse;
-use crate::ending::Answer;
+use crate::ending::ReadAnswer;
 use crate::piece::Joint;
 use crate::piece::Start;
 use crate::sequence::sequence;
@@ -34,7 +34,7 @@ fn read_text(
     bonds: &mut [i32],
     outsides: &mut [u8; MAX_ATOMS],
     offsets: &mut [u16; BRIDGES],
-) -> Out
+) -> PartRead
     requires { ⌜ length (now text) ≤ maxText ⌝ }
     requires { ⌜ (now offsets ≡ replicate bridges 0) × (now outsides ≡ replicate maxAtoms 0) ⌝ }
     ensures { λ r. ⌜ TextRead (now (text .entry)) (now (atoms .entry)) (now (bonds .entry)) (now (atoms .exit)) (now (bonds .exit)) (outcome r (now (offsets .exit)) (now (outsides .exit))) ⌝ }
@@ -42,7 +42,7 @@ fn read_text(
     let st = State::new();
     if text.len() == 0 {
         let fine = Why::Fine;
-        return Out {
+        return PartRead {
             why: fine,
             at: 0,
             st,
@@ -65,16 +65,16 @@ fn read_text(
 
 // Reads a text: the counts of atoms and bonds, the tables holding their rows and zeros after them; or the refusal with its offset,
 // 1 to 11 in 01's order. A table that is too short (1) leaves both as they were; every other refusal leaves both zeroed.
-pub fn read(text: &[u8], atoms: &mut [i32], bonds: &mut [i32]) -> Answer
+pub fn read(text: &[u8], atoms: &mut [i32], bonds: &mut [i32]) -> ReadAnswer
     ensures { λ r. ⌜ told r (now (atoms .exit)) (now (bonds .exit)) ≡ readOf (now (text .entry)) (now (atoms .entry)) (now (bonds .entry)) ⌝ }
 {
     if !table_validity::enough(atoms, bonds) {
-        return Answer::Refused(Refusal::Short, 0);
+        return ReadAnswer::Refused(Refusal::Short, 0);
     }
     clear(atoms);
     clear(bonds);
     if MAX_TEXT < text.len() {
-        return Answer::Refused(Refusal::LongText, MAX_TEXT);
+        return ReadAnswer::Refused(Refusal::LongText, MAX_TEXT);
     }
     let mut outsides = [0u8; MAX_ATOMS];
     let mut offsets = [0u16; BRIDGES];
@@ -88,7 +88,7 @@ pub fn read(text: &[u8], atoms: &mut [i32], bonds: &mut [i32]) -> Answer
         Why::Refused(r, p) => {
             clear(atoms);
             clear(bonds);
-            Answer::Refused(r, p)
+            ReadAnswer::Refused(r, p)
         }
     }
 }

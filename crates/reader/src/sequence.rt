@@ -8,7 +8,7 @@ ghost use Rattle.reading_state.specs.State.{steering};
 ghost use Rattle.reader.specs.Outcome.{Bounded, outcome, Sequenced, Branched, Closable, branchEnded};
 use crate::atom::Added;
 use crate::atom::atom_at;
-use crate::bridge::Out;
+use crate::bridge::PartRead;
 use crate::bridge::Why;
 use crate::bridge::bridge;
 use crate::bridge::refuse;
@@ -32,7 +32,7 @@ pub fn sequence(
     bonds: &mut [i32],
     outsides: &mut [u8; MAX_ATOMS],
     offsets: &mut [u16; BRIDGES],
-) -> Out
+) -> PartRead
     requires { ⌜ Bounded (steering from [] []) ⌝ }
     requires { ⌜ start .at ≤ length (now s) ⌝ }
     requires { ⌜ length (now s) ≤ maxText ⌝ }
@@ -59,7 +59,7 @@ pub fn sequence(
             Piece::Bridge(number, kind, q, p) => {
                 let why = bridge(st, number, kind, q, bonds, offsets);
                 let Why::Fine = why else {
-                    return Out { why, at: q, st };
+                    return PartRead { why, at: q, st };
                 };
                 let t = st.join(number, kind);
                 st = t;
@@ -75,12 +75,12 @@ pub fn sequence(
                 at = o.at;
                 let why = o.why;
                 let Why::Fine = why else {
-                    return Out { why, at, st };
+                    return PartRead { why, at, st };
                 };
             }
             Piece::End(at) => {
                 let fine = Why::Fine;
-                return Out { why: fine, at, st };
+                return PartRead { why: fine, at, st };
             }
             Piece::Wrong(q) => return refuse(Refusal::Grammar, q, st),
         }
@@ -96,7 +96,7 @@ pub fn branch(
     bonds: &mut [i32],
     outsides: &mut [u8; MAX_ATOMS],
     offsets: &mut [u16; BRIDGES],
-) -> Out
+) -> PartRead
     requires { ⌜ Bounded (steering st [] []) ⌝ }
     requires { ⌜ st .depth < maxDepth ⌝ }
     requires { ⌜ at < length (now s) ⌝ }
@@ -111,7 +111,7 @@ pub fn branch(
 }
 
 // The end of a branch: it closes at its `)`, and the hub is again what it was.
-fn end_branch(s: &[u8], o: Out) -> Out
+fn end_branch(s: &[u8], o: PartRead) -> PartRead
     requires { ⌜ length (now s) ≤ maxText ⌝ }
     requires { ⌜ Closable (o .why) (steering (o .st) [] []) ⌝ }
     ensures { λ r. ⌜ ((p x : List ℕ) → outcome r p x ≡ branchEnded (now (s .entry)) (outcome o p x)) ⌝ }
@@ -127,7 +127,7 @@ fn end_branch(s: &[u8], o: Out) -> Out
     }
     let back = t.close();
     let fine = Why::Fine;
-    Out {
+    PartRead {
         why: fine,
         at: e + 1,
         st: back,

@@ -6,8 +6,8 @@ use mathlib.Core.List.{List}
 use lib.ListN.{length, getD}
 use lib.IntN.{ℤ, pos}
 use Rattle.valence.specs.Valence.{implied}
-use Rattle.reading_grammar.specs.declared.State.{State}
-use Rattle.reading_grammar.specs.declared.State.the-variants.{Start as start}
+use Rattle.reading_grammar.specs.declared.MachineState.{MachineState}
+use Rattle.reading_grammar.specs.declared.MachineState.the-variants.{Start as start}
 use Rattle.reading_grammar.specs.Fold.{going, halted}
 use Rattle.reading_grammar.proofs.Fold.{Halts, read-halts}
 use Rattle.table.specs.Limits.{atomCells, ELEMENT, SELECTED, HYDROGENS}
@@ -31,7 +31,7 @@ use Rattle.reading.proofs.Outcome.{accepted, Outcome, outcome}
 
 module _ (s : List ℕ) (atoms bonds : List ℤ) where
   -- the memory of every reading that goes on is sane
-  pub read-sane : {σ : State} {μ : Memory} → Fits s atoms bonds → bytesRead s atoms bonds ≡ going σ μ → Sane (length atoms) (length bonds) σ (length s) μ
+  pub read-sane : {σ : MachineState} {μ : Memory} → Fits s atoms bonds → bytesRead s atoms bonds ≡ going σ μ → Sane (length atoms) (length bonds) σ (length s) μ
   read-sane f e = subst (SaneReading (length atoms) (length bonds) (length s)) e (sane-text s atoms bonds (f .room))
 
   -- the code of a byte's refusal is 3 to 9
@@ -59,7 +59,7 @@ module _ (s : List ℕ) (atoms bonds : List ℤ) where
 
   -- ---- hydrogens
 
-  given : {σ : State} {μ : Memory} → Sane (length atoms) (length bonds) σ (length s) μ → (a : ℕ) → a < μ .st .atoms → Given μ (accepted μ) a
+  given : {σ : MachineState} {μ : Memory} → Sane (length atoms) (length bonds) σ (length s) μ → (a : ℕ) → a < μ .st .atoms → Given μ (accepted μ) a
   given {σ} {μ} w a l = record { outside = outside; bracket = row-kept (μ .st .outside) (μ .bonds) (μ .st .bonds) (μ .st .atoms) (μ .atoms) a }
     where
       same : (f : ℕ) → (f ≡ HYDROGENS → ⊥) → f < atomCells → getD (atomsOf μ) (atomPlace a f) (pos 0) ≡ getD (μ .atoms) (atomPlace a f) (pos 0)
@@ -74,7 +74,7 @@ module _ (s : List ℕ) (atoms bonds : List ℤ) where
           count = rw (same ELEMENT (λ z. omega arith) (omega arith), same SELECTED (λ z. omega arith) (omega arith))
 
   -- every bridge that is open was opened before the text's end
-  pub early : {σ : State} {μ : Memory} → Fits s atoms bonds → Sane (length atoms) (length bonds) σ (length s) μ → (r : ℕ) → 0 < getD (μ .st .opener) r 0 → getD (μ .st .offset) r 0 < maxText
+  pub early : {σ : MachineState} {μ : Memory} → Fits s atoms bonds → Sane (length atoms) (length bonds) σ (length s) μ → (r : ℕ) → 0 < getD (μ .st .opener) r 0 → getD (μ .st .offset) r 0 < maxText
   early f w r o = omega (arith, w .steering .offset r o, f .short)
 
   -- code 0: every row is what was read, with the hydrogens that 01 gives to an atom outside brackets

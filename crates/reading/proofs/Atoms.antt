@@ -12,8 +12,8 @@ use Rattle.element.specs.Lookup.{letterOf}
 use Rattle.reading_grammar.specs.declared.Last.the-variants.{Plain as plain}
 use Rattle.reading_grammar.specs.declared.Mode.{Mode}
 use Rattle.reading_grammar.specs.declared.Mode.the-variants.{Seq as seq, LetterA as letterA, LetterT as letterT, Bracket as bracket}
-use Rattle.reading_grammar.specs.declared.Out.{Out}
-use Rattle.reading_grammar.specs.declared.State.the-variants.{Start as start, At as at}
+use Rattle.reading_grammar.specs.declared.Move.{Move}
+use Rattle.reading_grammar.specs.declared.MachineState.the-variants.{Start as start, At as at}
 use Rattle.reading_grammar.specs.Machine.{turn}
 use Rattle.reading_grammar.proofs.Ends.{never}
 use Rattle.table.specs.declared.Atom.{Atom}
@@ -88,7 +88,7 @@ begun-held {p} {q} {d} {i} {μ} x h few few-bonds = record { tables = tables (bo
     tables false e = atom-added (h .tables) few
 
 -- what an atom's first byte leaves
-pub first-byte : {p q d i : ℕ} {μ : Memory} {l : Letter} {o : Out} → Begins l o → Ready p q d i μ → μ .st .atoms < maxAtoms → (bonded μ ≡ true → μ .st .bonds < maxBonds)
+pub first-byte : {p q d i : ℕ} {μ : Memory} {l : Letter} {o : Move} → Begins l o → Ready p q d i μ → μ .st .atoms < maxAtoms → (bonded μ ≡ true → μ .st .bonds < maxBonds)
     → Sane p q (turn o d) (suc i) (firstByte l μ)
 unfolding begun
 first-byte (Begins.plain {e} {x} s) h a b = sane-of (seq x) (held-described (bareRow e 0) (bare-row e s) (begun-held 1 h a b)) tt
@@ -105,7 +105,7 @@ bond-room μ f t = leb-false maxBonds (μ .st .bonds) (room (bonded μ) (leb max
     room true u e f = e
     room false u e f = never f
 
-pub atom-act : {p q d i : ℕ} {μ : Memory} (b : ℕ) {o : Out} → Begins (letterOf b) o → Ready p q d i μ → SaneAct p q (turn o d) (suc i) (atomAct b i μ)
+pub atom-act : {p q d i : ℕ} {μ : Memory} (b : ℕ) {o : Move} → Begins (letterOf b) o → Ready p q d i μ → SaneAct p q (turn o d) (suc i) (atomAct b i μ)
 unfolding atomAct
 atom-act {p} {q} {d} {i} {μ} b {o} w h =
     by-test (SaneAct p q (turn o d) (suc i)) _ _ _ (λ e. tt) (λ e.

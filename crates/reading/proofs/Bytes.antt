@@ -11,8 +11,8 @@ use Rattle.loops.specs.Loop.{pick}
 use Rattle.element.specs.Symbols.{among}
 use Rattle.reading_grammar.specs.Grammar.{nonzero}
 use Rattle.reading_grammar.specs.declared.Mode.the-variants.{Percent as percent, Percent1 as percent1}
-use Rattle.reading_grammar.specs.declared.State.{State}
-use Rattle.reading_grammar.specs.declared.State.the-variants.{Start as start, At as at}
+use Rattle.reading_grammar.specs.declared.MachineState.{MachineState}
+use Rattle.reading_grammar.specs.declared.MachineState.the-variants.{Start as start, At as at}
 use Rattle.reading_grammar.specs.Machine.{alive, step}
 use Rattle.reading_grammar.specs.Fold.{Act, keeps, refuses, Reading, going, halted, after, feed, read}
 use Rattle.reading_grammar.proofs.Fold.{read-append, read-halted}
@@ -32,18 +32,18 @@ module _ (s : List ℕ) (atoms bonds : List ℤ) where
       rw (take-suc s k 0 l) (read-append act (take k s) (getD s k 0 ∷ []) 0 (going start (beginning (zeros atoms) (zeros bonds))) ∙ rw n)
 
   -- a byte that the grammar and the action let pass
-  pub record Passed (k : ℕ) (σ : State) (μ : Memory) (τ : State) (ν : Memory) : Type 0 where
+  pub record Passed (k : ℕ) (σ : MachineState) (μ : Memory) (τ : MachineState) (ν : Memory) : Type 0 where
     pub lives : alive (step σ (getD s k 0)) ≡ true
     pub moves : step σ (getD s k 0) ≡ τ
     pub keeps : act σ (getD s k 0) k μ ≡ keeps ν
 
-  module _ {k : ℕ} {σ : State} {μ : Memory} (b : Before s atoms bonds k σ μ) where
+  module _ {k : ℕ} {σ : MachineState} {μ : Memory} (b : Before s atoms bonds k σ μ) where
     after-byte : bytesRead (take (suc k) s) atoms bonds ≡ feed act k (going σ μ) (getD s k 0)
     after-byte = fed k (b .within) ∙ ap (λ (r : Reading Memory). feed act k r (getD s k 0)) (b .reached)
 
-    pub goes-on : {τ : State} {ν : Memory} → Passed k σ μ τ ν → bytesRead (take (suc k) s) atoms bonds ≡ going τ ν
+    pub goes-on : {τ : MachineState} {ν : Memory} → Passed k σ μ τ ν → bytesRead (take (suc k) s) atoms bonds ≡ going τ ν
     unfolding feed
-    goes-on {τ} {ν} w = after-byte ∙ rw (w .lives, w .keeps) (ap (λ (x : State). going x ν) (w .moves))
+    goes-on {τ} {ν} w = after-byte ∙ rw (w .lives, w .keeps) (ap (λ (x : MachineState). going x ν) (w .moves))
 
     pub ends : (c p : ℕ) → alive (step σ (getD s k 0)) ≡ true → act σ (getD s k 0) k μ ≡ refuses c p → bytesRead s atoms bonds ≡ halted c p
     unfolding feed
@@ -55,17 +55,17 @@ module _ (s : List ℕ) (atoms bonds : List ℤ) where
         ∙ read-halted act (drop (suc k) s) (0 + length (take (suc k) s)) c p
 
   -- what a reading was before its last byte
-  pub record Came (k : ℕ) (τ : State) (ν : Memory) : Type 0 where
-    pub state : State
+  pub record Came (k : ℕ) (τ : MachineState) (ν : Memory) : Type 0 where
+    pub state : MachineState
     pub memory : Memory
     pub before : Before s atoms bonds k state memory
     pub passed : Passed k state memory τ ν
 
-  pub came : (k : ℕ) {τ : State} {ν : Memory} → k < length s → bytesRead (take (suc k) s) atoms bonds ≡ going τ ν → Came k τ ν
+  pub came : (k : ℕ) {τ : MachineState} {ν : Memory} → k < length s → bytesRead (take (suc k) s) atoms bonds ≡ going τ ν → Came k τ ν
   unfolding feed
   came k {τ} {ν} l e = split (bytesRead (take k s) atoms bonds) refl (sym (fed k l) ∙ e)
     where
-      pass : (σ : State) (μ : Memory) → bytesRead (take k s) atoms bonds ≡ going σ μ → (t : Bool) → alive (step σ (getD s k 0)) ≡ t → (a : Act Memory) → act σ (getD s k 0) k μ ≡ a
+      pass : (σ : MachineState) (μ : Memory) → bytesRead (take k s) atoms bonds ≡ going σ μ → (t : Bool) → alive (step σ (getD s k 0)) ≡ t → (a : Act Memory) → act σ (getD s k 0) k μ ≡ a
           → pick t (after (step σ (getD s k 0)) a) (halted 3 k) ≡ going τ ν → Came k τ ν
       pass σ μ h true v (keeps ξ) x q =
           let m : step σ (getD s k 0) ≡ τ = cc in
@@ -82,7 +82,7 @@ module _ (s : List ℕ) (atoms bonds : List ℤ) where
   pub record Tens (k : ℕ) (ν : Memory) : Type 0 where
     pub sign : ℕ
     pub two-before : k ≡ sign + 2
-    pub state : State
+    pub state : MachineState
     pub memory : Memory
     pub before : Before s atoms bonds sign state memory
     pub place : BridgeMayStand state
@@ -94,13 +94,13 @@ module _ (s : List ℕ) (atoms bonds : List ℤ) where
   kept μ ν q = cc
 
   -- `%` changes nothing, and its first digit only the tens
-  sign-kept : {p : ℕ} {σ τ : State} {μ ν : Memory} → BridgeMayStand σ → getD s p 0 ≡ 37 → Passed p σ μ τ ν → μ ≡ ν
+  sign-kept : {p : ℕ} {σ τ : MachineState} {μ ν : Memory} → BridgeMayStand σ → getD s p 0 ≡ 37 → Passed p σ μ τ ν → μ ≡ ν
   sign-kept {p} {σ} {τ} {μ} {ν} w e h = kept μ ν (sym (at-percent w p μ) ∙ ap (λ (b : ℕ). act σ b p μ) (sym e) ∙ h .keeps)
 
-  tens-kept : {k d : ℕ} {σ τ : State} {μ ν : Memory} → σ ≡ at percent d → Passed k σ μ τ ν → counting (digit (getD s k 0)) μ ≡ ν
-  tens-kept {k} {d} {σ} {τ} {μ} {ν} e h = kept (counting (digit (getD s k 0)) μ) ν (sym (first-digit d (getD s k 0) k μ) ∙ ap (λ (x : State). act x (getD s k 0) k μ) (sym e) ∙ h .keeps)
+  tens-kept : {k d : ℕ} {σ τ : MachineState} {μ ν : Memory} → σ ≡ at percent d → Passed k σ μ τ ν → counting (digit (getD s k 0)) μ ≡ ν
+  tens-kept {k} {d} {σ} {τ} {μ} {ν} e h = kept (counting (digit (getD s k 0)) μ) ν (sym (first-digit d (getD s k 0) k μ) ∙ ap (λ (x : MachineState). act x (getD s k 0) k μ) (sym e) ∙ h .keeps)
 
-  tens-of : {p d : ℕ} {ν : Memory} {σ : State} {μ : Memory} → σ ≡ at percent d → among (getD s (suc p) 0) nonzero ≡ true → counting (digit (getD s (suc p) 0)) μ ≡ ν → Came p σ μ → Tens (suc (suc p)) ν
+  tens-of : {p d : ℕ} {ν : Memory} {σ : MachineState} {μ : Memory} → σ ≡ at percent d → among (getD s (suc p) 0) nonzero ≡ true → counting (digit (getD s (suc p) 0)) μ ≡ ν → Came p σ μ → Tens (suc (suc p)) ν
   tens-of {p} {d} {ν} {σ} {μ} e f q v =
       let g = into-percent (v .state) (getD s p 0) d (v .passed .moves ∙ e) in
       let one : p + 1 ≡ suc p = omega arith in

@@ -15,10 +15,10 @@ use Rattle.reading_grammar.specs.Grammar.{nonzero, digits, bondSymbols}
 use Rattle.reading_grammar.specs.declared.Last.{Last}
 use Rattle.reading_grammar.specs.declared.Last.the-variants.{Plain as plain, AfterC as afterC, AfterB as afterB}
 use Rattle.reading_grammar.specs.declared.Mode.the-variants.{Seq as seq, Bond as bond, AtomNext as atomNext, Inside as inside, Percent as percent, Percent1 as percent1}
-use Rattle.reading_grammar.specs.declared.Out.{Out}
-use Rattle.reading_grammar.specs.declared.Out.the-variants.{Stop as stop, To as to, Up as up, Down as down}
-use Rattle.reading_grammar.specs.declared.State.{State}
-use Rattle.reading_grammar.specs.declared.State.the-variants.{At as at}
+use Rattle.reading_grammar.specs.declared.Move.{Move}
+use Rattle.reading_grammar.specs.declared.Move.the-variants.{Stop as stop, To as to, Up as up, Down as down}
+use Rattle.reading_grammar.specs.declared.MachineState.{MachineState}
+use Rattle.reading_grammar.specs.declared.MachineState.the-variants.{At as at}
 use Rattle.reading_grammar.specs.Machine.{alive, turn, next, atomOr, bridgeOr}
 use Rattle.reading_grammar.specs.Machine as machine
 use Rattle.reading_grammar.specs.Fold.{keeps}
@@ -37,17 +37,17 @@ Second plain b = ⊥
 Second afterC b = b ≡ 108
 Second afterB b = b ≡ 114
 
-or-begins : {l : Letter} {o : Out} (a k : Acts) → Begins l o → orAtom l a k ≡ a
+or-begins : {l : Letter} {o : Move} (a k : Acts) → Begins l o → orAtom l a k ≡ a
 or-begins a k (Begins.plain s) = refl
 or-begins a k (Begins.selected s t) = refl
 or-begins a k Begins.letter-a = refl
 or-begins a k Begins.letter-t = refl
 or-begins a k Begins.opening = refl
 
-module _ (P : State → Acts → Type 0) (d i : ℕ) (μ : Memory) (b : ℕ) where
+module _ (P : MachineState → Acts → Type 0) (d i : ℕ) (μ : Memory) (b : ℕ) where
   -- ---- an atom begins, or something else follows
-  module _ (first : (o : Out) → Begins (letterOf b) o → P (turn o d) (atomAct b i μ)) where
-    or-atom : (o : Out) (a : Acts) → (alive (turn o d) ≡ true → P (turn o d) a) → alive (turn (atomOr b o) d) ≡ true → P (turn (atomOr b o) d) (orAtom (letterOf b) (atomAct b i μ) a)
+  module _ (first : (o : Move) → Begins (letterOf b) o → P (turn o d) (atomAct b i μ)) where
+    or-atom : (o : Move) (a : Acts) → (alive (turn o d) ≡ true → P (turn o d) a) → alive (turn (atomOr b o) d) ≡ true → P (turn (atomOr b o) d) (orAtom (letterOf b) (atomAct b i μ) a)
     or-atom o a other = ⊎-elim one two (begins b o)
       where
         one : Begins (letterOf b) (atomOr b o) → alive (turn (atomOr b o) d) ≡ true → P (turn (atomOr b o) d) (orAtom (letterOf b) (atomAct b i μ) a)
@@ -66,7 +66,7 @@ module _ (P : State → Acts → Type 0) (d i : ℕ) (μ : Memory) (b : ℕ) whe
 
   -- what is to be shown of each step
   pub record Outside : Type 0 where
-    pub atom : (o : Out) → Begins (letterOf b) o → P (turn o d) (atomAct b i μ)
+    pub atom : (o : Move) → Begins (letterOf b) o → P (turn o d) (atomAct b i μ)
     pub bridge : (r p : ℕ) → r < bridges → p ≤ i → P (at (seq plain) d) (bridgeAct r p μ)
     pub symbol : P (at bond d) (jointAct b μ)
     pub joint : P (at atomNext d) (jointAct b μ)
@@ -93,7 +93,7 @@ module _ (P : State → Acts → Type 0) (d i : ℕ) (μ : Memory) (b : ℕ) whe
     in-sequence x f = or-atom (w .atom) _ _ (split (among b nonzero) (eqb b 37) (among b bondSymbols) (eqb b 46) (eqb b 40) (eqb b 41) refl)
       where
         split : (t1 t2 t3 t4 t5 t6 : Bool) → among b nonzero ≡ t1
-            → let τ : State = turn (pick t1 (to (seq plain)) (pick t2 (to percent) (pick t3 (to bond) (pick t4 (to atomNext) (pick t5 up (pick t6 down (machine.goesOn x b))))))) d in
+            → let τ : MachineState = turn (pick t1 (to (seq plain)) (pick t2 (to percent) (pick t3 (to bond) (pick t4 (to atomNext) (pick t5 up (pick t6 down (machine.goesOn x b))))))) d in
             alive τ ≡ true
             → P τ (pick t1 (bridgeAct (digit b) i μ) (pick t2 (keeps μ) (pick t3 (jointAct b μ) (pick t4 (jointAct b μ) (pick t5 (branchAct i μ) (pick t6 (keeps (moved (closed (μ .st)) μ)) (letterAct x μ)))))))
         split true t2 t3 t4 t5 t6 e v = digit-bridge e
@@ -108,7 +108,7 @@ module _ (P : State → Acts → Type 0) (d i : ℕ) (μ : Memory) (b : ℕ) whe
     unfolding next modeAct bridgeOr
     in-bond = or-atom (w .atom) _ _ (split (among b nonzero) (eqb b 37) refl)
       where
-        split : (t1 t2 : Bool) → among b nonzero ≡ t1 → let τ : State = turn (pick t1 (to (seq plain)) (pick t2 (to percent) stop)) d in alive τ ≡ true → P τ (pick t1 (bridgeAct (digit b) i μ) (keeps μ))
+        split : (t1 t2 : Bool) → among b nonzero ≡ t1 → let τ : MachineState = turn (pick t1 (to (seq plain)) (pick t2 (to percent) stop)) d in alive τ ≡ true → P τ (pick t1 (bridgeAct (digit b) i μ) (keeps μ))
         split true t2 e v = digit-bridge e
         split false true e v = w .sign
         split false false e v = never v
@@ -117,7 +117,7 @@ module _ (P : State → Acts → Type 0) (d i : ℕ) (μ : Memory) (b : ℕ) whe
     unfolding next modeAct
     in-branch = or-atom (w .atom) _ _ (split (among b bondSymbols) (eqb b 46))
       where
-        split : (t1 t2 : Bool) → let τ : State = turn (pick t1 (to atomNext) (pick t2 (to atomNext) stop)) d in alive τ ≡ true → P τ (jointAct b μ)
+        split : (t1 t2 : Bool) → let τ : MachineState = turn (pick t1 (to atomNext) (pick t2 (to atomNext) stop)) d in alive τ ≡ true → P τ (jointAct b μ)
         split true t2 v = w .joint
         split false true v = w .joint
         split false false v = never v
@@ -126,7 +126,7 @@ module _ (P : State → Acts → Type 0) (d i : ℕ) (μ : Memory) (b : ℕ) whe
     unfolding next modeAct
     in-percent = split (among b nonzero) refl
       where
-        split : (t : Bool) → among b nonzero ≡ t → let τ : State = turn (pick t (to percent1) stop) d in alive τ ≡ true → P τ (keeps (counting (digit b) μ))
+        split : (t : Bool) → among b nonzero ≡ t → let τ : MachineState = turn (pick t (to percent1) stop) d in alive τ ≡ true → P τ (keeps (counting (digit b) μ))
         split true e v = w .tens (digit b) (nonzero-digit b e .0) (nonzero-digit b e .1)
         split false e v = never v
 
@@ -134,6 +134,6 @@ module _ (P : State → Acts → Type 0) (d i : ℕ) (μ : Memory) (b : ℕ) whe
     unfolding next modeAct
     in-percent1 l = split (among b digits) refl
       where
-        split : (t : Bool) → among b digits ≡ t → let τ : State = turn (pick t (to (seq plain)) stop) d in alive τ ≡ true → P τ (bridgeAct (10 * μ .tens + digit b) (i - 2) μ)
+        split : (t : Bool) → among b digits ≡ t → let τ : MachineState = turn (pick t (to (seq plain)) stop) d in alive τ ≡ true → P τ (bridgeAct (10 * μ .tens + digit b) (i - 2) μ)
         split true e v = w .bridge (10 * μ .tens + digit b) (i - 2) (omega (arith, any-digit b e)) (omega arith)
         split false e v = never v

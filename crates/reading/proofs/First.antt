@@ -8,7 +8,7 @@ use mathlib.Core.List.{List}
 use lib.ListN.{length, getD}
 use lib.IntN.{ℤ}
 use borrow.Author.Tests.{le-leb, lt-leb}
-use Rattle.reading_grammar.specs.declared.State.the-variants.{Start as start}
+use Rattle.reading_grammar.specs.declared.MachineState.the-variants.{Start as start}
 use Rattle.reading_grammar.specs.Place.{Place}
 use Rattle.reading_grammar.specs.Fold.{going, halted}
 use Rattle.reading_grammar.proofs.Fold.{Halts, read-halts}

@@ -17,9 +17,9 @@ use Rattle.element.specs.Lookup.{letterOf, selectedOf}
 use Rattle.reading_grammar.specs.Grammar.{nonzero, digits, bondSymbols}
 use Rattle.reading_grammar.specs.declared.Last.{Last}
 use Rattle.reading_grammar.specs.declared.Mode.the-variants.{Seq as seq, Percent as percent, Percent1 as percent1}
-use Rattle.reading_grammar.specs.declared.Out.{Out}
-use Rattle.reading_grammar.specs.declared.State.{State}
-use Rattle.reading_grammar.specs.declared.State.the-variants.{At as at}
+use Rattle.reading_grammar.specs.declared.Move.{Move}
+use Rattle.reading_grammar.specs.declared.MachineState.{MachineState}
+use Rattle.reading_grammar.specs.declared.MachineState.the-variants.{At as at}
 use Rattle.reading_grammar.specs.Machine.{alive, turn, step, next, atomOr, bridgeOr}
 use Rattle.reading_grammar.specs.Fold.{refuses, halted}
 use Rattle.reading_grammar.proofs.Ends.{each}
@@ -51,7 +51,7 @@ or-first Half a k n = refl
 or-first Bracket a k n = refl
 or-first Nothing a k n = absurd (n refl)
 
-begin-act : {σ : State} (b i : ℕ) (μ : Memory) → AtomMayBegin σ → letterOf b ≢ Nothing → act σ b i μ ≡ atomAct b i μ
+begin-act : {σ : MachineState} (b i : ℕ) (μ : Memory) → AtomMayBegin σ → letterOf b ≢ Nothing → act σ b i μ ≡ atomAct b i μ
 unfolding act modeAct
 begin-act b i μ AtomMayBegin.at-start n = refl
 begin-act b i μ AtomMayBegin.in-sequence n = or-first (letterOf b) _ _ n
@@ -59,17 +59,17 @@ begin-act b i μ AtomMayBegin.after-symbol n = or-first (letterOf b) _ _ n
 begin-act b i μ AtomMayBegin.after-dot n = refl
 begin-act b i μ AtomMayBegin.in-branch n = or-first (letterOf b) _ _ n
 
-lives : {l : Letter} {o : Out} → Begins l o → (d : ℕ) → alive (turn o d) ≡ true
+lives : {l : Letter} {o : Move} → Begins l o → (d : ℕ) → alive (turn o d) ≡ true
 lives (Begins.plain s) d = refl
 lives (Begins.selected s t) d = refl
 lives Begins.letter-a d = refl
 lives Begins.letter-t d = refl
 lives Begins.opening d = refl
 
-or-lives : (b d : ℕ) (k : Out) → letterOf b ≢ Nothing → alive (turn (atomOr b k) d) ≡ true
+or-lives : (b d : ℕ) (k : Move) → letterOf b ≢ Nothing → alive (turn (atomOr b k) d) ≡ true
 or-lives b d k n = ⊎-elim (λ w. lives w d) (λ e. absurd (n (e .0))) (begins b k)
 
-begin-lives : {σ : State} (b : ℕ) → AtomMayBegin σ → letterOf b ≢ Nothing → alive (step σ b) ≡ true
+begin-lives : {σ : MachineState} (b : ℕ) → AtomMayBegin σ → letterOf b ≢ Nothing → alive (step σ b) ≡ true
 unfolding step next
 begin-lives b AtomMayBegin.at-start n = or-lives b 0 _ n
 begin-lives b (AtomMayBegin.in-sequence {d = d}) n = or-lives b d _ n
@@ -147,22 +147,22 @@ digit-letter : (b : ℕ) → among b nonzero ≡ true → letterOf b ≡ Nothing
 unfolding nonzero letterOf selectedOf letters among
 digit-letter = each (λ b. letterOf b ≡ Nothing) nonzero (refl, (refl, (refl, (refl, (refl, (refl, (refl, (refl, (refl, tt)))))))))
 
-digit-act : {σ : State} (b i : ℕ) (μ : Memory) → BridgeMayStand σ → among b nonzero ≡ true → act σ b i μ ≡ bridgeAct (digit b) i μ
+digit-act : {σ : MachineState} (b i : ℕ) (μ : Memory) → BridgeMayStand σ → among b nonzero ≡ true → act σ b i μ ≡ bridgeAct (digit b) i μ
 unfolding act modeAct
 digit-act b i μ BridgeMayStand.in-sequence e = rw (digit-letter b e, e)
 digit-act b i μ BridgeMayStand.after-symbol e = rw (digit-letter b e, e)
 
-digit-or : (b d : ℕ) (k : Out) → among b nonzero ≡ true → alive (turn (atomOr b (bridgeOr b k)) d) ≡ true
+digit-or : (b d : ℕ) (k : Move) → among b nonzero ≡ true → alive (turn (atomOr b (bridgeOr b k)) d) ≡ true
 unfolding bridgeOr
 digit-or b d k e = ⊎-elim (λ w. absurd (no-letter w (digit-letter b e))) (λ f. rw (f .1, e)) (begins b (bridgeOr b k))
 
-digit-lives : {σ : State} (b : ℕ) → BridgeMayStand σ → among b nonzero ≡ true → alive (step σ b) ≡ true
+digit-lives : {σ : MachineState} (b : ℕ) → BridgeMayStand σ → among b nonzero ≡ true → alive (step σ b) ≡ true
 unfolding step next
 digit-lives b (BridgeMayStand.in-sequence {d = d}) e = digit-or b d _ e
 digit-lives b (BridgeMayStand.after-symbol {d}) e = digit-or b d _ e
 
 -- `%`, its first digit, its second
-sign-step : {σ : State} → BridgeMayStand σ → (d : ℕ) × (step σ 37 ≡ at percent d)
+sign-step : {σ : MachineState} → BridgeMayStand σ → (d : ℕ) × (step σ 37 ≡ at percent d)
 unfolding step next atomOr bridgeOr letters nonzero among
 sign-step (BridgeMayStand.in-sequence {d = d}) = (d, refl)
 sign-step (BridgeMayStand.after-symbol {d}) = (d, refl)
@@ -197,14 +197,14 @@ module _ (s : List ℕ) (atoms bonds : List ℤ) where
     pub most : code ≤ c
     pub halts : bytesRead s atoms bonds ≡ halted code p
 
-  halts-at : {k c p : ℕ} {σ : State} {μ : Memory} (a : Acts) → Before s atoms bonds k σ μ → alive (step σ (getD s k 0)) ≡ true → act σ (getD s k 0) k μ ≡ a → Refuses a c p → Halts c p
+  halts-at : {k c p : ℕ} {σ : MachineState} {μ : Memory} (a : Acts) → Before s atoms bonds k σ μ → alive (step σ (getD s k 0)) ≡ true → act σ (getD s k 0) k μ ≡ a → Refuses a c p → Halts c p
   halts-at {p = p} a b v e w = record { code = w .code; low = w .low; most = w .most; halts = ends s atoms bonds b (w .code) p v (e ∙ w .said) }
 
   atom-halts : {c p : ℕ} {μ : Memory} → AtomBegins s atoms bonds p μ → Refuses (atomAct (getD s p 0) p μ) c p → Halts c p
   atom-halts {p = p} {μ = μ} w = halts-at (atomAct (getD s p 0) p μ) (w .before) (begin-lives (getD s p 0) (w .place) (w .first-byte)) (begin-act (getD s p 0) p μ (w .place) (w .first-byte))
 
   -- `%` and two digits: the memory is the same but for the first
-  percent-halts : {c p : ℕ} {σ : State} {μ : Memory} → Before s atoms bonds p σ μ → BridgeMayStand σ → getD s p 0 ≡ 37 → among (getD s (suc p) 0) nonzero ≡ true → among (getD s (suc (suc p)) 0) digits ≡ true → suc (suc p) < length s
+  percent-halts : {c p : ℕ} {σ : MachineState} {μ : Memory} → Before s atoms bonds p σ μ → BridgeMayStand σ → getD s p 0 ≡ 37 → among (getD s (suc p) 0) nonzero ≡ true → among (getD s (suc (suc p)) 0) digits ≡ true → suc (suc p) < length s
       → let r : ℕ = 10 * digit (getD s (suc p) 0) + digit (getD s (suc (suc p)) 0) in
       Open (μ .st .opener) r → Told c (refusalOf μ r) → Halts c p
   percent-halts {c} {p} {σ} {μ} b w e f g l o t =

@@ -11,9 +11,9 @@ use Rattle.element.specs.Symbols.{among}
 use Rattle.reading_grammar.specs.Grammar.{digits}
 use Rattle.reading_grammar.specs.declared.Last.the-variants.{Plain as plain}
 use Rattle.reading_grammar.specs.declared.Mode.the-variants.{Seq as seq, Percent1 as percent1}
-use Rattle.reading_grammar.specs.declared.Out.the-variants.{Stop as stop, To as to}
-use Rattle.reading_grammar.specs.declared.State.{State}
-use Rattle.reading_grammar.specs.declared.State.the-variants.{At as at}
+use Rattle.reading_grammar.specs.declared.Move.the-variants.{Stop as stop, To as to}
+use Rattle.reading_grammar.specs.declared.MachineState.{MachineState}
+use Rattle.reading_grammar.specs.declared.MachineState.the-variants.{At as at}
 use Rattle.reading_grammar.specs.Machine.{alive, turn, step, next}
 use Rattle.reading_grammar.proofs.Ends.{never}
 use Rattle.reading.specs.Memory.{Memory, kindOf}
@@ -64,24 +64,24 @@ module _ (s : List ℕ) (atoms bonds : List ℤ) where
         awaited = ap (λ (ν : Memory). ν .pending) (w .counted);
       }
 
-  bridge-at : {k : ℕ} {σ : State} {μ : Memory} {r p : ℕ} → Before s atoms bonds k σ μ → alive (step σ (getD s k 0)) ≡ true → Closes σ (getD s k 0) k μ r p → Bridge μ r p
+  bridge-at : {k : ℕ} {σ : MachineState} {μ : Memory} {r p : ℕ} → Before s atoms bonds k σ μ → alive (step σ (getD s k 0)) ≡ true → Closes σ (getD s k 0) k μ r p → Bridge μ r p
   bridge-at b v c = go b v (c .complete) (c .opened)
     where
-      go : {k : ℕ} {σ : State} {μ : Memory} {r p : ℕ} → Before s atoms bonds k σ μ → alive (step σ (getD s k 0)) ≡ true → Completes σ (getD s k 0) k μ r p → Open (μ .st .opener) r → Bridge μ r p
+      go : {k : ℕ} {σ : MachineState} {μ : Memory} {r p : ℕ} → Before s atoms bonds k σ μ → alive (step σ (getD s k 0)) ≡ true → Completes σ (getD s k 0) k μ r p → Open (μ .st .opener) r → Bridge μ r p
       go {σ = σ} {μ = μ} b v (Completes.by-digit w e) o =
           record { memory = μ; closes = record { state = σ; before = b; place = w; complete = Numbered.by-digit e; opened = o }; steering = refl; table = refl; awaited = refl }
       go {k = k} b v Completes.by-percent o = by-tens b v (tens s atoms bonds k (b .within) (b .reached)) o
 
-  atom-at : {k : ℕ} {σ : State} {μ : Memory} → Before s atoms bonds k σ μ → alive (step σ (getD s k 0)) ≡ true → Starts σ (getD s k 0) → AtomBegins s atoms bonds k μ
+  atom-at : {k : ℕ} {σ : MachineState} {μ : Memory} → Before s atoms bonds k σ μ → alive (step σ (getD s k 0)) ≡ true → Starts σ (getD s k 0) → AtomBegins s atoms bonds k μ
   atom-at {σ = σ} b v n = record { state = σ; before = b; place = n .place; first-byte = n .first-byte v }
 
   -- what is refused at a byte holds at its offset
-  pub refused-holds : {k : ℕ} {σ : State} {μ : Memory} {c p : ℕ} → Before s atoms bonds k σ μ → alive (step σ (getD s k 0)) ≡ true → Why σ (getD s k 0) k μ c p → Holds s atoms bonds c p
+  pub refused-holds : {k : ℕ} {σ : MachineState} {μ : Memory} {c p : ℕ} → Before s atoms bonds k σ μ → alive (step σ (getD s k 0)) ≡ true → Why σ (getD s k 0) k μ c p → Holds s atoms bonds c p
   refused-holds b v (Why.many-atoms n a) = Holds.atom-201 (atom-at b v n) a
   refused-holds {μ = μ} b v (Why.many-bonds n h a) = Holds.child-251 (atom-at b v n) (to-be-bonded μ h) a
   refused-holds b v (Why.many-bridges c a) = let w = bridge-at b v c in Holds.bridge-251 (w .closes) (rw (w .steering) a)
   refused-holds {k} {σ} {μ} b v (Why.many-branches {x} {d} q e a) =
-      Holds.branch-65 (record { last = x; depth = d; before = subst (λ (τ : State). Before s atoms bonds k τ μ) q b; byte = e }) a
+      Holds.branch-65 (record { last = x; depth = d; before = subst (λ (τ : MachineState). Before s atoms bonds k τ μ) q b; byte = e }) a
   refused-holds b v (Why.to-itself c h) = let w = bridge-at b v c in Holds.to-itself (w .closes) (rw (w .steering) h)
   refused-holds {μ = μ} b v (Why.joined-twice {r} c h) =
       let w = bridge-at b v c in

@@ -12,10 +12,10 @@ use Rattle.element.specs.Lookup.{numberOf}
 use Rattle.reading_grammar.specs.Grammar.{nonzero, digits, several, signs}
 use Rattle.reading_grammar.specs.declared.Last.the-variants.{Plain as plain}
 use Rattle.reading_grammar.specs.declared.Mode.the-variants.{Seq as seq, Bracket as bracket, Isotope as isotope, Symbol1 as symbol1, Symbolled as symbolled, Hydrogen as hydrogen, Hydrogens as hydrogens, Sign as sign, Charged as charged, Colon as colon, Extension as extension}
-use Rattle.reading_grammar.specs.declared.Out.{Out}
-use Rattle.reading_grammar.specs.declared.Out.the-variants.{Stop as stop, To as to}
-use Rattle.reading_grammar.specs.declared.State.{State}
-use Rattle.reading_grammar.specs.declared.State.the-variants.{At as at}
+use Rattle.reading_grammar.specs.declared.Move.{Move}
+use Rattle.reading_grammar.specs.declared.Move.the-variants.{Stop as stop, To as to}
+use Rattle.reading_grammar.specs.declared.MachineState.{MachineState}
+use Rattle.reading_grammar.specs.declared.MachineState.the-variants.{At as at}
 use Rattle.reading_grammar.specs.Machine.{alive, turn, symbolOr, next}
 use Rattle.reading_grammar.specs.Machine as machine
 use Rattle.reading_grammar.specs.Fold.{keeps}
@@ -30,7 +30,7 @@ use Rattle.reading.proofs.Letters.{digit-no-symbol, digit-closes-not, n
 use Rattle.reading.proofs.Atoms.{Held, sane-of, held-later, held-drafted, held-described}
 
 -- what follows a byte, the machine being alive
-abbrev pub Follows : ℕ → ℕ → ℕ → State → Acts → Type 0
+abbrev pub Follows : ℕ → ℕ → ℕ → MachineState → Acts → Type 0
 Follows p q i τ a = alive τ ≡ true → SaneAct p q τ (suc i) a
 
 module _ {p q d i : ℕ} {μ : Memory} (h : Held p q d i μ) where
@@ -69,7 +69,7 @@ module _ {p q d i : ℕ} {μ : Memory} (h : Held p q d i μ) where
       split false v = charge-act r b v
 
   -- ---- a symbol, or a digit of the isotope before it
-  symbol-act : InRange 999 0 (μ .draft) → (b : ℕ) (k : Out) → alive (turn k d) ≡ false → Follows p q i (turn (symbolOr b k) d) (keeps (drafted (fields.symbolled b (μ .draft)) μ))
+  symbol-act : InRange 999 0 (μ .draft) → (b : ℕ) (k : Move) → alive (turn k d) ≡ false → Follows p q i (turn (symbolOr b k) d) (keeps (drafted (fields.symbolled b (μ .draft)) μ))
   unfolding symbolOr
   symbol-act r b k n = split (starts b symbols) (among b marks)
     where
@@ -82,7 +82,7 @@ module _ {p q d i : ℕ} {μ : Memory} (h : Held p q d i μ) where
       split false false v = never (sym n ∙ v)
 
   -- with a digit the machine goes to o, where the isotope with that digit is in range
-  isotope-act : InRange 999 0 (μ .draft) → (b : ℕ) (k : Out) → (among b digits ≡ false → alive (turn k d) ≡ false)
+  isotope-act : InRange 999 0 (μ .draft) → (b : ℕ) (k : Move) → (among b digits ≡ false → alive (turn k d) ≡ false)
       → (among b digits ≡ true → Follows p q i (turn k d) (keeps (drafted (isotoped b (μ .draft)) μ)))
       → Follows p q i (turn (symbolOr b k) d) (isotopeAct b μ)
   isotope-act r b k off on = split (among b digits) refl

@@ -16,8 +16,8 @@ use Rattle.reading_grammar.specs.declared.Last.{Last}
 use Rattle.reading_grammar.specs.declared.Last.the-variants.{Plain as plain, AfterC as afterC, AfterB as afterB}
 use Rattle.reading_grammar.specs.declared.Mode.{Mode}
 use Rattle.reading_grammar.specs.declared.Mode.the-variants.{Seq as seq, Bond as bond, AtomNext as atomNext, Inside as inside, Percent as percent, Percent1 as percent1, LetterA as letterA, LetterT as letterT, Bracket as bracket, Isotope as isotope, Symbol1 as symbol1, Symbolled as symbolled, Hydrogen as hydrogen, Hydrogens as hydrogens, Sign as sign, Charged as charged, Colon as colon, Extension as extension}
-use Rattle.reading_grammar.specs.declared.State.{State}
-use Rattle.reading_grammar.specs.declared.State.the-variants.{Start as start, At as at}
+use Rattle.reading_grammar.specs.declared.MachineState.{MachineState}
+use Rattle.reading_grammar.specs.declared.MachineState.the-variants.{Start as start, At as at}
 use Rattle.reading_grammar.specs.Machine.{alive, step, next, symbolOr}
 use Rattle.reading_grammar.specs.Machine as machine
 use Rattle.reading_grammar.specs.Fold.{Reading, going, halted, keeps, feed, read}
@@ -83,7 +83,7 @@ flag-of m d μ w c = subst (λ x. After 0 x μ) w (c .1) .1
 
 module _ (s : List ℕ) (atoms bonds : List ℤ) where
   -- the reading before the byte k, with that byte
-  one-more : (k : ℕ) {σ : State} {μ : Memory} → k < length s → bytesRead (take k s) atoms bonds ≡ going σ μ → bytesRead (take (suc k) s) atoms bonds ≡ feed act (0 + length (take k s)) (going σ μ) (getD s k 0)
+  one-more : (k : ℕ) {σ : MachineState} {μ : Memory} → k < length s → bytesRead (take k s) atoms bonds ≡ going σ μ → bytesRead (take (suc k) s) atoms bonds ≡ feed act (0 + length (take k s)) (going σ μ) (getD s k 0)
   unfolding read
   one-more k l e =
       ap (λ (t : List ℕ). bytesRead t atoms bonds) (take-suc s k 0 l)
@@ -91,26 +91,26 @@ module _ (s : List ℕ) (atoms bonds : List ℤ) where
       ∙ ap (λ (r : Reading Memory). feed act (0 + length (take k s)) r (getD s k 0)) e
 
   -- the rest of the reading
-  rest : (k : ℕ) {σ : State} {μ : Memory} → bytesRead (take k s) atoms bonds ≡ going σ μ → bytesRead s atoms bonds ≡ read act (0 + length (take k s)) (going σ μ) (drop k s)
+  rest : (k : ℕ) {σ : MachineState} {μ : Memory} → bytesRead (take k s) atoms bonds ≡ going σ μ → bytesRead s atoms bonds ≡ read act (0 + length (take k s)) (going σ μ) (drop k s)
   rest k e =
       ap (λ (t : List ℕ). bytesRead t atoms bonds) (sym (take-append-drop k s))
       ∙ read-append act (take k s) (drop k s) 0 (going start (beginning (zeros atoms) (zeros bonds)))
       ∙ ap (λ (r : Reading Memory). read act (0 + length (take k s)) r (drop k s)) e
 
-  sane-before : (k : ℕ) {σ : State} {μ : Memory} → Fits s atoms bonds → bytesRead (take k s) atoms bonds ≡ going σ μ → Sane (length atoms) (length bonds) σ (0 + length (take k s)) μ
+  sane-before : (k : ℕ) {σ : MachineState} {μ : Memory} → Fits s atoms bonds → bytesRead (take k s) atoms bonds ≡ going σ μ → Sane (length atoms) (length bonds) σ (0 + length (take k s)) μ
   sane-before k f e = sane-going (take k s) (sane-beginning atoms bonds (f .room)) e
 
   -- in every state reached, an open bracket is the hub's
-  complete-0 : (k : ℕ) {σ : State} {μ : Memory} → Fits s atoms bonds → bytesRead (take k s) atoms bonds ≡ going σ μ → Complete 0 σ μ
+  complete-0 : (k : ℕ) {σ : MachineState} {μ : Memory} → Fits s atoms bonds → bytesRead (take k s) atoms bonds ≡ going σ μ → Complete 0 σ μ
   complete-0 k f e = stays 0 (take k s) (sane-beginning atoms bonds (f .room)) (omega arith) e .complete
 
   -- a text that is read to its end does not halt before
-  not-halted : (k : ℕ) {τ : State} {ν : Memory} {c p : ℕ} → bytesRead s atoms bonds ≡ going τ ν → bytesRead (take k s) atoms bonds ≡ halted c p → ⊥
+  not-halted : (k : ℕ) {τ : MachineState} {ν : Memory} {c p : ℕ} → bytesRead s atoms bonds ≡ going τ ν → bytesRead (take k s) atoms bonds ≡ halted c p → ⊥
   not-halted k {τ} {ν} e h =
       let f : bytesRead (take k s ++ drop k s) atoms bonds ≡ going τ ν = rw (take-append-drop k s) e in
       goes-not-halted (prefix-goes act (take k s) (drop k s) 0 (going start (beginning (zeros atoms) (zeros bonds))) f) h
 
-  module _ (ok : readOf s atoms bonds .code ≡ 0) (k : ℕ) {σ : State} {μ : Memory} (reached : bytesRead (take k s) atoms bonds ≡ going σ μ) where
+  module _ (ok : readOf s atoms bonds .code ≡ 0) (k : ℕ) {σ : MachineState} {μ : Memory} (reached : bytesRead (take k s) atoms bonds ≡ going σ μ) where
     told : Accepted s atoms bonds (readOf s atoms bonds)
     told = read-accepted s atoms bonds ok
 

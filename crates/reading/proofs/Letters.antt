@@ -15,14 +15,14 @@ use Rattle.element.specs.Lookup.{indexFrom, numberOf, selectedOf, letterOf}
 use Rattle.reading_grammar.specs.Grammar.{nonzero, digits}
 use Rattle.reading_grammar.specs.declared.Last.{Last}
 use Rattle.reading_grammar.specs.declared.Mode.the-variants.{Seq as seq, LetterA as letterA, LetterT as letterT, Bracket as bracket}
-use Rattle.reading_grammar.specs.declared.Out.{Out}
-use Rattle.reading_grammar.specs.declared.Out.the-variants.{Stop as stop, To as to}
+use Rattle.reading_grammar.specs.declared.Move.{Move}
+use Rattle.reading_grammar.specs.declared.Move.the-variants.{Stop as stop, To as to}
 use Rattle.reading_grammar.specs.Machine.{atomOr, symbolOr, closing}
 use Rattle.reading_grammar.proofs.Ends.{each, never}
 use Rattle.table.specs.Valid.{selectable}
 
 -- a byte that begins an atom, and where the machine goes with it
-pub data Begins : Letter → Out → Type 0 where
+pub data Begins : Letter → Move → Type 0 where
   plain : {e : ℕ} {x : Last} → e ≤ 118 → Begins (Plain e) (to (seq x))
   selected : {e : ℕ} {x : Last} → e ≤ 118 → selectable e ≡ true → Begins (Selected e) (to (seq x))
   letter-a : Begins Half (to letterA)
@@ -37,10 +37,10 @@ other-than l b h x e = split (eqb b x) refl
     split true q = never (sym h ∙ ap (λ c. among c l) (eqb-true b x q) ∙ e)
     split false q = refl
 
-on-letter : (b : ℕ) → among b letters ≡ true → (k : Out) → Begins (letterOf b) (atomOr b k)
+on-letter : (b : ℕ) → among b letters ≡ true → (k : Move) → Begins (letterOf b) (atomOr b k)
 unfolding letters letterOf selectedOf atomOr among numberOf indexFrom symbols sameBytes
 on-letter =
-    each (λ b. (k : Out) → Begins (letterOf b) (atomOr b k)) letters (
+    each (λ b. (k : Move) → Begins (letterOf b) (atomOr b k)) letters (
       (λ k. Begins.plain (omega arith)),
       (
         (λ k. Begins.plain (omega arith)),
@@ -99,7 +99,7 @@ unlisted b h =
     let o : (x : ℕ) → among x letters ≡ true → eqb b x ≡ false = other-than letters b h in
     record { star = o 42 refl; c = o 99 refl; n = o 110 refl; o = o 111 refl; p = o 112 refl; s = o 115 refl }
 
-off-letter : (b : ℕ) → among b letters ≡ false → (k : Out) → Begins (letterOf b) (atomOr b k) ⊎ ((letterOf b ≡ Nothing) × (atomOr b k ≡ k))
+off-letter : (b : ℕ) → among b letters ≡ false → (k : Move) → Begins (letterOf b) (atomOr b k) ⊎ ((letterOf b ≡ Nothing) × (atomOr b k ≡ k))
 unfolding letterOf selectedOf atomOr
 off-letter b h k = let u = unlisted b h in rw (u .star, u .c, u .n, u .o, u .p, u .s, h) (split (eqb b 65) (eqb b 84) (eqb b 91))
   where
@@ -111,7 +111,7 @@ off-letter b h k = let u = unlisted b h in rw (u .star, u .c, u .n, u .o, u .p, 
     split false false true = inl Begins.opening
     split false false false = inr (refl, refl)
 
-pub begins : (b : ℕ) (k : Out) → Begins (letterOf b) (atomOr b k) ⊎ ((letterOf b ≡ Nothing) × (atomOr b k ≡ k))
+pub begins : (b : ℕ) (k : Move) → Begins (letterOf b) (atomOr b k) ⊎ ((letterOf b ≡ Nothing) × (atomOr b k ≡ k))
 begins b k = split (among b letters) refl
   where
     split : (t : Bool) → among b letters ≡ t → Begins (letterOf b) (atomOr b k) ⊎ ((letterOf b ≡ Nothing) × (atomOr b k ≡ k))
@@ -119,9 +119,9 @@ begins b k = split (among b letters) refl
     split false e = off-letter b e k
 
 -- a digit begins no symbol and closes no bracket
-pub digit-no-symbol : (b : ℕ) → among b digits ≡ true → (k : Out) → symbolOr b k ≡ k
+pub digit-no-symbol : (b : ℕ) → among b digits ≡ true → (k : Move) → symbolOr b k ≡ k
 unfolding digits symbolOr symbols starts marks among
-digit-no-symbol = each (λ b. (k : Out) → symbolOr b k ≡ k) digits ((λ k. refl), ((λ k. refl), ((λ k. refl), ((λ k. refl), ((λ k. refl), ((λ k. refl), ((λ k. refl), ((λ k. refl), ((λ k. refl), ((λ k. refl), tt))))))))))
+digit-no-symbol = each (λ b. (k : Move) → symbolOr b k ≡ k) digits ((λ k. refl), ((λ k. refl), ((λ k. refl), ((λ k. refl), ((λ k. refl), ((λ k. refl), ((λ k. refl), ((λ k. refl), ((λ k. refl), ((λ k. refl), tt))))))))))
 
 pub digit-closes-not : (b : ℕ) → among b digits ≡ true → closing b ≡ stop
 unfolding digits closing

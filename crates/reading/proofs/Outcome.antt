@@ -8,7 +8,7 @@ use lib.IntN.{ℤ}
 use lib.Dec.{leb, ltb}
 use borrow.Author.Tests.{leb-true, leb-false, ltb-true, ltb-false}
 use Rattle.loops.specs.Loop.{pick}
-use Rattle.reading_grammar.specs.declared.State.{State}
+use Rattle.reading_grammar.specs.declared.MachineState.{MachineState}
 use Rattle.reading_grammar.specs.Machine.{accepting}
 use Rattle.reading_grammar.specs.Fold.{Reading, going, halted}
 use Rattle.table.specs.Valid.{enough}
@@ -26,16 +26,16 @@ pub data Outcome (s : List ℕ) (atoms bonds : List ℤ) : ReadResult → Type 0
   too-short : enough atoms bonds ≡ false → Outcome s atoms bonds (short atoms bonds)
   too-long : enough atoms bonds ≡ true → maxText < length s → Outcome s atoms bonds (refused 2 maxText atoms bonds)
   halts : {c p : ℕ} → Fits s atoms bonds → bytesRead s atoms bonds ≡ halted c p → Outcome s atoms bonds (refused c p atoms bonds)
-  unfinished : {σ : State} {μ : Memory} → Fits s atoms bonds → bytesRead s atoms bonds ≡ going σ μ → accepting σ ≡ false → Outcome s atoms bonds (refused 3 (length s) atoms bonds)
-  unclosed : {σ : State} {μ : Memory} → Fits s atoms bonds → bytesRead s atoms bonds ≡ going σ μ → accepting σ ≡ true → leftmost (μ .st .opener) (μ .st .offset) < maxText
+  unfinished : {σ : MachineState} {μ : Memory} → Fits s atoms bonds → bytesRead s atoms bonds ≡ going σ μ → accepting σ ≡ false → Outcome s atoms bonds (refused 3 (length s) atoms bonds)
+  unclosed : {σ : MachineState} {μ : Memory} → Fits s atoms bonds → bytesRead s atoms bonds ≡ going σ μ → accepting σ ≡ true → leftmost (μ .st .opener) (μ .st .offset) < maxText
       → Outcome s atoms bonds (refused 10 (leftmost (μ .st .opener) (μ .st .offset)) (μ .atoms) (μ .bonds))
-  unmatched : {σ : State} {μ : Memory} → Fits s atoms bonds → bytesRead s atoms bonds ≡ going σ μ → accepting σ ≡ true → maxText ≤ leftmost (μ .st .opener) (μ .st .offset)
+  unmatched : {σ : MachineState} {μ : Memory} → Fits s atoms bonds → bytesRead s atoms bonds ≡ going σ μ → accepting σ ≡ true → maxText ≤ leftmost (μ .st .opener) (μ .st .offset)
       → matchable (atomsOf μ) (μ .bonds) (μ .st .atoms) (μ .st .bonds) ≡ false → Outcome s atoms bonds (refused 11 0 (atomsOf μ) (μ .bonds))
-  accepts : {σ : State} {μ : Memory} → Fits s atoms bonds → bytesRead s atoms bonds ≡ going σ μ → accepting σ ≡ true → maxText ≤ leftmost (μ .st .opener) (μ .st .offset)
+  accepts : {σ : MachineState} {μ : Memory} → Fits s atoms bonds → bytesRead s atoms bonds ≡ going σ μ → accepting σ ≡ true → maxText ≤ leftmost (μ .st .opener) (μ .st .offset)
       → matchable (atomsOf μ) (μ .bonds) (μ .st .atoms) (μ .st .bonds) ≡ true → Outcome s atoms bonds (accepted μ)
 
 module _ (s : List ℕ) (atoms bonds : List ℤ) where
-  at-end : Fits s atoms bonds → (σ : State) (μ : Memory) → bytesRead s atoms bonds ≡ going σ μ → accepting σ ≡ true → Outcome s atoms bonds (ended μ)
+  at-end : Fits s atoms bonds → (σ : MachineState) (μ : Memory) → bytesRead s atoms bonds ≡ going σ μ → accepting σ ≡ true → Outcome s atoms bonds (ended μ)
   unfolding ended
   at-end f σ μ e a = split (ltb (leftmost (μ .st .opener) (μ .st .offset)) maxText) refl (matchable (atomsOf μ) (μ .bonds) (μ .st .atoms) (μ .st .bonds)) refl
     where

@@ -13,10 +13,10 @@ use Rattle.reading_grammar.specs.declared.Last.{Last}
 use Rattle.reading_grammar.specs.declared.Last.the-variants.{Plain as plain, AfterC as afterC, AfterB as afterB}
 use Rattle.reading_grammar.specs.declared.Mode.{Mode}
 use Rattle.reading_grammar.specs.declared.Mode.the-variants.{Seq as seq, Bond as bond, AtomNext as atomNext, Inside as inside, Percent as percent, Percent1 as percent1, LetterA as letterA, LetterT as letterT, Bracket as bracket, Isotope as isotope, Symbol1 as symbol1, Symbolled as symbolled, Hydrogen as hydrogen, Hydrogens as hydrogens, Sign as sign, Charged as charged, Colon as colon, Extension as extension}
-use Rattle.reading_grammar.specs.declared.Out.{Out}
-use Rattle.reading_grammar.specs.declared.Out.the-variants.{Stop as stop, To as to, Up as up, Down as down}
-use Rattle.reading_grammar.specs.declared.State.{State}
-use Rattle.reading_grammar.specs.declared.State.the-variants.{Dead as dead, Start as start, At as at}
+use Rattle.reading_grammar.specs.declared.Move.{Move}
+use Rattle.reading_grammar.specs.declared.Move.the-variants.{Stop as stop, To as to, Up as up, Down as down}
+use Rattle.reading_grammar.specs.declared.MachineState.{MachineState}
+use Rattle.reading_grammar.specs.declared.MachineState.the-variants.{Dead as dead, Start as start, At as at}
 use Rattle.reading_grammar.specs.Machine.{turn, step, next, atomOr, bridgeOr, symbolOr, closing, extending, charging, hydrating, goesOn}
 use Rattle.reading_grammar.specs.Fold.{keeps}
 use Rattle.reading.specs.Memory.{Memory, counting}
@@ -46,14 +46,14 @@ sort charged = 0
 sort colon = 0
 sort (extension n) = 0
 
-abbrev sortOf : Out → ℕ
+abbrev sortOf : Move → ℕ
 sortOf stop = 0
 sortOf (to m) = sort m
 sortOf up = 0
 sortOf down = 0
 
 -- what leads to a mode after `%` says so
-led-to : (m : Mode) (o : Out) (d e : ℕ) → 0 < sort m → turn o d ≡ at m e → sortOf o ≡ sort m
+led-to : (m : Mode) (o : Move) (d e : ℕ) → 0 < sort m → turn o d ≡ at m e → sortOf o ≡ sort m
 led-to m stop d e h q = absurd (let z : _≡_ {A = ℕ} 0 1 = cc in omega arith)
 led-to m (to n) d e h q = let f : n ≡ m = cc in ap sort f
 led-to m up d e h q = let f : inside ≡ m = cc in let g : 0 ≡ sort m = ap sort f in absurd (omega arith)
@@ -62,14 +62,14 @@ led-to m down (suc d) e h q = let f : seq plain ≡ m = cc in let g : 0 ≡ sort
 
 -- what holds of 0, wherever a byte leads to another mode
 module _ (P : ℕ → Type 0) (z : P 0) (b : ℕ) where
-  abbrev Leads : Out → Type 0
+  abbrev Leads : Move → Type 0
   Leads o = P (sortOf o)
 
-  atom-leads : (k : Out) → Leads k → Leads (atomOr b k)
+  atom-leads : (k : Move) → Leads k → Leads (atomOr b k)
   unfolding atomOr
   atom-leads k h = by-test Leads (among b letters) _ _ (λ e. z) (λ e. by-test Leads (eqb b 65) _ _ (λ e. z) (λ e. by-test Leads (eqb b 84) _ _ (λ e. z) (λ e. by-test Leads (eqb b 91) _ _ (λ e. z) (λ e. h))))
 
-  symbol-leads : (k : Out) → Leads k → Leads (symbolOr b k)
+  symbol-leads : (k : Move) → Leads k → Leads (symbolOr b k)
   unfolding symbolOr
   symbol-leads k h = by-test Leads (starts b symbols) _ _ (λ e. z) (λ e. by-test Leads (among b marks) _ _ (λ e. z) (λ e. h))
 
@@ -89,7 +89,7 @@ module _ (P : ℕ → Type 0) (z : P 0) (b : ℕ) where
   unfolding hydrating
   hydrate-leads = by-test Leads (eqb b 72) _ _ (λ e. z) (λ e. charge-leads)
 
-  bridge-leads : (k : Out) → (b ≡ 37 → P 1) → Leads k → Leads (bridgeOr b k)
+  bridge-leads : (k : Move) → (b ≡ 37 → P 1) → Leads k → Leads (bridgeOr b k)
   unfolding bridgeOr
   bridge-leads k w h = by-test Leads (among b nonzero) _ _ (λ e. z) (λ e. by-test Leads (eqb b 37) _ _ (λ f. w (eqb-true b 37 f)) (λ f. h))
 
@@ -145,13 +145,13 @@ module _ (b : ℕ) where
   led (extension (suc n)) = let z = elsewhere (extension (suc n)) in by-test (Leads (Led (extension (suc n))) z b) (among b digits) _ _ (λ e. z) (λ e. close-leads (Led (extension (suc n))) z b)
 
 -- the state before, and the byte
-pub into-percent : (σ : State) (b e : ℕ) → step σ b ≡ at percent e → BridgeMayStand σ × (b ≡ 37)
+pub into-percent : (σ : MachineState) (b e : ℕ) → step σ b ≡ at percent e → BridgeMayStand σ × (b ≡ 37)
 unfolding step
 into-percent dead b e q = absurd (let z : _≡_ {A = ℕ} 0 1 = cc in omega arith)
 into-percent start b e q = absurd (let z = led-to percent (atomOr b stop) 0 e (omega arith) q in omega (arith, atom-leads (λ n. n ≡ 0) refl b stop refl))
 into-percent (at m d) b e q = led b m .sign d (led-to percent (next m b) d e (omega arith) q)
 
-pub into-percent1 : (σ : State) (b e : ℕ) → step σ b ≡ at percent1 e → ((d : ℕ) × (σ ≡ at percent d)) × (among b nonzero ≡ true)
+pub into-percent1 : (σ : MachineState) (b e : ℕ) → step σ b ≡ at percent1 e → ((d : ℕ) × (σ ≡ at percent d)) × (among b nonzero ≡ true)
 unfolding step
 into-percent1 dead b e q = absurd (let z : _≡_ {A = ℕ} 0 1 = cc in omega arith)
 into-percent1 start b e q = absurd (let z = led-to percent1 (atomOr b stop) 0 e (omega arith) q in omega (arith, atom-leads (λ n. n ≡ 0) refl b stop refl))
@@ -160,7 +160,7 @@ into-percent1 (at m d) b e q =
     ((d, ap (λ (n : Mode). at n d) (w .0)), w .1)
 
 -- what the bytes do
-pub at-percent : {σ : State} → BridgeMayStand σ → (i : ℕ) (μ : Memory) → act σ 37 i μ ≡ keeps μ
+pub at-percent : {σ : MachineState} → BridgeMayStand σ → (i : ℕ) (μ : Memory) → act σ 37 i μ ≡ keeps μ
 unfolding act modeAct letterOf selectedOf letters among nonzero
 at-percent BridgeMayStand.in-sequence i μ = refl
 at-percent BridgeMayStand.after-symbol i μ = refl

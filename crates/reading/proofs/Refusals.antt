@@ -18,10 +18,10 @@ use Rattle.reading_grammar.specs.declared.Last.{Last}
 use Rattle.reading_grammar.specs.declared.Last.the-variants.{Plain as plain, AfterC as afterC, AfterB as afterB}
 use Rattle.reading_grammar.specs.declared.Mode.{Mode}
 use Rattle.reading_grammar.specs.declared.Mode.the-variants.{Seq as seq, Bond as bond, AtomNext as atomNext, Inside as inside, Percent as percent, Percent1 as percent1, LetterA as letterA, LetterT as letterT, Bracket as bracket, Isotope as isotope, Symbol1 as symbol1, Symbolled as symbolled, Hydrogen as hydrogen, Hydrogens as hydrogens, Sign as sign, Charged as charged, Colon as colon, Extension as extension}
-use Rattle.reading_grammar.specs.declared.Out.{Out}
-use Rattle.reading_grammar.specs.declared.Out.the-variants.{Stop as stop}
-use Rattle.reading_grammar.specs.declared.State.{State}
-use Rattle.reading_grammar.specs.declared.State.the-variants.{Dead as dead, Start as start, At as at}
+use Rattle.reading_grammar.specs.declared.Move.{Move}
+use Rattle.reading_grammar.specs.declared.Move.the-variants.{Stop as stop}
+use Rattle.reading_grammar.specs.declared.MachineState.{MachineState}
+use Rattle.reading_grammar.specs.declared.MachineState.the-variants.{Dead as dead, Start as start, At as at}
 use Rattle.reading_grammar.specs.Machine.{alive, turn, step, next, atomOr}
 use Rattle.reading_grammar.specs.Fold.{keeps, refuses}
 use Rattle.reading_grammar.proofs.Ends.{never}
@@ -36,22 +36,22 @@ use Rattle.reading.proofs.Cases.{by-test}
 use Rattle.reading.proofs.Letters.{Begins, begins}
 
 -- the byte b completes the bridge number r, whose digit or `%` stands at p
-pub data Completes : State → ℕ → ℕ → Memory → ℕ → ℕ → Type 0 where
-  by-digit : {σ : State} {b i : ℕ} {μ : Memory} → BridgeMayStand σ → among b nonzero ≡ true → Completes σ b i μ (digit b) i
+pub data Completes : MachineState → ℕ → ℕ → Memory → ℕ → ℕ → Type 0 where
+  by-digit : {σ : MachineState} {b i : ℕ} {μ : Memory} → BridgeMayStand σ → among b nonzero ≡ true → Completes σ b i μ (digit b) i
   by-percent : {b d i : ℕ} {μ : Memory} → Completes (at percent1 d) b i μ (10 * μ .tens + digit b) (i - 2)
 
 -- the bridge number r is open, and the byte closes it
-pub record Closes (σ : State) (b i : ℕ) (μ : Memory) (r p : ℕ) : Type 0 where
+pub record Closes (σ : MachineState) (b i : ℕ) (μ : Memory) (r p : ℕ) : Type 0 where
   pub complete : Completes σ b i μ r p
   pub opened : Open (μ .st .opener) r
 
 -- the byte b begins an atom, if the grammar goes on
-pub record Starts (σ : State) (b : ℕ) : Type 0 where
+pub record Starts (σ : MachineState) (b : ℕ) : Type 0 where
   pub place : AtomMayBegin σ
   pub first-byte : alive (step σ b) ≡ true → letterOf b ≢ Nothing
 
 -- the byte b at the place i, in the state σ, is refused with a code and an offset
-pub data Why (σ : State) (b i : ℕ) (μ : Memory) : ℕ → ℕ → Type 0 where
+pub data Why (σ : MachineState) (b i : ℕ) (μ : Memory) : ℕ → ℕ → Type 0 where
   many-atoms : Starts σ b → maxAtoms ≤ μ .st .atoms → Why σ b i μ 4 i
   many-bonds : Starts σ b → bonded μ ≡ true → maxBonds ≤ μ .st .bonds → Why σ b i μ 5 i
   many-bridges : {r p : ℕ} → Closes σ b i μ r p → maxBonds ≤ μ .st .bonds → Why σ b i μ 5 p
@@ -61,14 +61,14 @@ pub data Why (σ : State) (b i : ℕ) (μ : Memory) : ℕ → ℕ → Type 0 whe
   symbols-differ : {r p : ℕ} → Closes σ b i μ r p → clash (getD (μ .st .symbol) r 0) (kindOf (μ .pending)) ≡ true → Why σ b i μ 9 p
 
 -- what a byte does, if it is a refusal, has a reason
-abbrev Explained : State → ℕ → ℕ → Memory → Acts → Type 0
+abbrev Explained : MachineState → ℕ → ℕ → Memory → Acts → Type 0
 Explained σ b i μ (keeps ν) = Unit {0}
 Explained σ b i μ (refuses c p) = Why σ b i μ c p
 
 positive : (n : ℕ) → n ≢ 0 → 0 < n
 positive n h = omega arith
 
-module _ (σ : State) (b i : ℕ) (μ : Memory) where
+module _ (σ : MachineState) (b i : ℕ) (μ : Memory) where
   atom-why : Starts σ b → Explained σ b i μ (atomAct b i μ)
   unfolding atomAct
   atom-why n =
@@ -110,7 +110,7 @@ module _ (σ : State) (b i : ℕ) (μ : Memory) where
   goes-why afterB = tt
 
 -- where only an atom may stand and the grammar goes on, one begins
-pub no-letter : {l : Letter} {o : Out} → Begins l o → l ≡ Nothing → ⊥
+pub no-letter : {l : Letter} {o : Move} → Begins l o → l ≡ Nothing → ⊥
 no-letter (Begins.plain s) e = let z : _≡_ {A = ℕ} 0 1 = cc in omega arith
 no-letter (Begins.selected s t) e = let z : _≡_ {A = ℕ} 0 1 = cc in omega arith
 no-letter Begins.letter-a e = let z : _≡_ {A = ℕ} 0 1 = cc in omega arith
@@ -128,7 +128,7 @@ module _ (d b i : ℕ) (μ : Memory) where
   hydrate-why : (m : Mode) → Explained (at m d) b i μ (hydrogenAct b μ)
   hydrate-why m = by-test (Explained (at m d) b i μ) (eqb b 72) _ _ (λ e. tt) (λ e. charge-why m)
 
-  digit-why : (σ : State) → BridgeMayStand σ → among b nonzero ≡ true → Explained σ b i μ (bridgeAct (digit b) i μ)
+  digit-why : (σ : MachineState) → BridgeMayStand σ → among b nonzero ≡ true → Explained σ b i μ (bridgeAct (digit b) i μ)
   digit-why σ w e = bridge-why σ b i μ (digit b) i (Completes.by-digit w e)
 
   mode-why : (m : Mode) → Explained (at m d) b i μ (modeAct m b i μ)
@@ -159,14 +159,14 @@ module _ (d b i : ℕ) (μ : Memory) where
   mode-why colon = tt
   mode-why (extension n) = by-test (Explained (at (extension n) d) b i μ) (among b digits) _ _ (λ e. tt) (λ e. tt)
 
-explained : (σ : State) (b i : ℕ) (μ : Memory) → Explained σ b i μ (act σ b i μ)
+explained : (σ : MachineState) (b i : ℕ) (μ : Memory) → Explained σ b i μ (act σ b i μ)
 unfolding act step
 explained dead b i μ = tt
 explained start b i μ = atom-why start b i μ (record { place = AtomMayBegin.at-start; first-byte = atom-only b 0 })
 explained (at m d) b i μ = mode-why d b i μ m
 
 -- every refusal of a byte has its reason
-pub why : (σ : State) (b i : ℕ) (μ : Memory) (c p : ℕ) → act σ b i μ ≡ refuses c p → Why σ b i μ c p
+pub why : (σ : MachineState) (b i : ℕ) (μ : Memory) (c p : ℕ) → act σ b i μ ≡ refuses c p → Why σ b i μ c p
 why σ b i μ c p e = subst (Explained σ b i μ) e (explained σ b i μ)
 
 -- the codes are 4 to 9, and the offset is not after the byte
@@ -175,11 +175,11 @@ pub record Code (i c p : ℕ) : Type 0 where
   pub high : c ≤ 9
   pub early : p ≤ i
 
-completed : {σ : State} {b i : ℕ} {μ : Memory} {r p : ℕ} → Completes σ b i μ r p → p ≤ i
+completed : {σ : MachineState} {b i : ℕ} {μ : Memory} {r p : ℕ} → Completes σ b i μ r p → p ≤ i
 completed (Completes.by-digit w e) = omega arith
 completed Completes.by-percent = omega arith
 
-pub code-of : {σ : State} {b i : ℕ} {μ : Memory} {c p : ℕ} → Why σ b i μ c p → Code i c p
+pub code-of : {σ : MachineState} {b i : ℕ} {μ : Memory} {c p : ℕ} → Why σ b i μ c p → Code i c p
 code-of (Why.many-atoms n a) = record { low = omega arith; high = omega arith; early = omega arith }
 code-of (Why.many-bonds n k a) = record { low = omega arith; high = omega arith; early = omega arith }
 code-of (Why.many-bridges k a) = record { low = omega arith; high = omega arith; early = completed (k .complete) }
@@ -188,12 +188,12 @@ code-of (Why.to-itself k e) = record { low = omega arith; high = omega arith; ea
 code-of (Why.joined-twice k j) = record { low = omega arith; high = omega arith; early = completed (k .complete) }
 code-of (Why.symbols-differ k e) = record { low = omega arith; high = omega arith; early = completed (k .complete) }
 
-pub act-code : (σ : State) (b i : ℕ) (μ : Memory) (c p : ℕ) → act σ b i μ ≡ refuses c p → Code i c p
+pub act-code : (σ : MachineState) (b i : ℕ) (μ : Memory) (c p : ℕ) → act σ b i μ ≡ refuses c p → Code i c p
 act-code σ b i μ c p e = code-of (why σ b i μ c p e)
 
 -- what the laws of the fold ask
-pub never-3 : (σ : State) (b i : ℕ) (μ : Memory) (p : ℕ) → act σ b i μ ≡ refuses 3 p → ⊥
+pub never-3 : (σ : MachineState) (b i : ℕ) (μ : Memory) (p : ℕ) → act σ b i μ ≡ refuses 3 p → ⊥
 never-3 σ b i μ p e = let k = act-code σ b i μ 3 p e in omega arith
 
-pub in-time : (σ : State) (b i : ℕ) (μ : Memory) (c p : ℕ) → act σ b i μ ≡ refuses c p → p ≤ i
+pub in-time : (σ : MachineState) (b i : ℕ) (μ : Memory) (c p : ℕ) → act σ b i μ ≡ refuses c p → p ≤ i
 in-time σ b i μ c p e = act-code σ b i μ c p e .early

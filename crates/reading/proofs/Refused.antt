@@ -8,7 +8,7 @@ use mathlib.Core.List.{List}
 use lib.ListN.{length, replicate}
 use lib.IntN.{ℤ, pos}
 use borrow.Author.Tests.{lt-leb}
-use Rattle.reading_grammar.specs.declared.State.{State}
+use Rattle.reading_grammar.specs.declared.MachineState.{MachineState}
 use Rattle.table.specs.Valid.{enough}
 use Rattle.ids.specs.Limits.{maxText}
 use Rattle.reading.specs.Memory.{Memory}
@@ -49,7 +49,7 @@ module _ (s : List ℕ) (atoms bonds : List ℤ) where
       go t (Outcome.accepts f e a l m) z = absurd (omega arith)
 
   -- the tables of a memory are as long as those handed in
-  same-zeros : {σ : State} {μ : Memory} (c p : ℕ) (t : List ℤ) → Sane (length atoms) (length bonds) σ (length s) μ → length t ≡ length (μ .atoms) → refused c p t (μ .bonds) ≡ refused c p atoms bonds
+  same-zeros : {σ : MachineState} {μ : Memory} (c p : ℕ) (t : List ℤ) → Sane (length atoms) (length bonds) σ (length s) μ → length t ≡ length (μ .atoms) → refused c p t (μ .bonds) ≡ refused c p atoms bonds
   same-zeros {σ} {μ} c p t w e =
       let a : zeros t ≡ zeros atoms = ap (λ (n : ℕ). replicate n (pos 0)) (e ∙ w .tables .atom-length) in
       let b : zeros (μ .bonds) ≡ zeros bonds = ap (λ (n : ℕ). replicate n (pos 0)) (w .tables .bond-length) in

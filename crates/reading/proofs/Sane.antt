@@ -9,8 +9,8 @@ use lib.Signed.{leZ}
 use lib.Dec.{eqb}
 use Rattle.reading_grammar.specs.declared.Mode.{Mode}
 use Rattle.reading_grammar.specs.declared.Mode.the-variants.{Seq as seq, Bond as bond, AtomNext as atomNext, Inside as inside, Percent as percent, Percent1 as percent1, LetterA as letterA, LetterT as letterT, Bracket as bracket, Isotope as isotope, Symbol1 as symbol1, Symbolled as symbolled, Hydrogen as hydrogen, Hydrogens as hydrogens, Sign as sign, Charged as charged, Colon as colon, Extension as extension}
-use Rattle.reading_grammar.specs.declared.State.{State}
-use Rattle.reading_grammar.specs.declared.State.the-variants.{Dead as dead, Start as start, At as at}
+use Rattle.reading_grammar.specs.declared.MachineState.{MachineState}
+use Rattle.reading_grammar.specs.declared.MachineState.the-variants.{Dead as dead, Start as start, At as at}
 use Rattle.reading_grammar.specs.Fold.{Reading, going, halted, Act, keeps, refuses}
 use Rattle.table.specs.Limits.{maxAtoms, maxBonds, atomCells, bondCells, FIRST}
 use Rattle.table.specs.Cells.{inRange, bondCell, end1, end2}
@@ -117,7 +117,7 @@ pub record Standing (m : Mode) (d : ℕ) (μ : Memory) : Type 0 where
   pub depth : μ .st .depth ≡ d
   pub half : HalfRead m μ
 
-abbrev pub Stands : State → Memory → Type 0
+abbrev pub Stands : MachineState → Memory → Type 0
 Stands dead μ = ⊥
 Stands start μ = Unread (μ .st)
 Stands (at m d) μ = Standing m d μ
@@ -125,7 +125,7 @@ Stands (at m d) μ = Standing m d μ
 -- ---- together
 
 -- i bytes are read, the machine is in the state σ, the tables have p and q cells
-pub record Sane (p q : ℕ) (σ : State) (i : ℕ) (μ : Memory) : Type 0 where
+pub record Sane (p q : ℕ) (σ : MachineState) (i : ℕ) (μ : Memory) : Type 0 where
   pub tables : Tables p q (μ .st .atoms) (μ .st .bonds) (μ .atoms) (μ .bonds)
   pub steering : Steers i (μ .st)
   pub kind : kindOf (μ .pending) ≤ 3
@@ -137,6 +137,6 @@ SaneReading p q i (going σ μ) = Sane p q σ i μ
 SaneReading p q i (halted c k) = Unit {0}
 
 -- what a byte does keeps it so, in the state τ
-abbrev pub SaneAct : ℕ → ℕ → State → ℕ → Act Memory → Type 0
+abbrev pub SaneAct : ℕ → ℕ → MachineState → ℕ → Act Memory → Type 0
 SaneAct p q τ i (keeps μ) = Sane p q τ i μ
 SaneAct p q τ i (refuses c k) = Unit {0}

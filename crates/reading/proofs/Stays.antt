@@ -19,9 +19,9 @@ use Rattle.reading_grammar.specs.declared.Last.{Last}
 use Rattle.reading_grammar.specs.declared.Last.the-variants.{Plain as plain, AfterC as afterC, AfterB as afterB}
 use Rattle.reading_grammar.specs.declared.Mode.{Mode}
 use Rattle.reading_grammar.specs.declared.Mode.the-variants.{Seq as seq, Bond as bond, AtomNext as atomNext, Inside as inside, Percent as percent, Percent1 as percent1, LetterA as letterA, LetterT as letterT, Bracket as bracket, Isotope as isotope, Symbol1 as symbol1, Symbolled as symbolled, Hydrogen as hydrogen, Hydrogens as hydrogens, Sign as sign, Charged as charged, Colon as colon, Extension as extension}
-use Rattle.reading_grammar.specs.declared.Out.{Out}
-use Rattle.reading_grammar.specs.declared.State.{State}
-use Rattle.reading_grammar.specs.declared.State.the-variants.{Dead as dead, Start as start, At as at}
+use Rattle.reading_grammar.specs.declared.Move.{Move}
+use Rattle.reading_grammar.specs.declared.MachineState.{MachineState}
+use Rattle.reading_grammar.specs.declared.MachineState.the-variants.{Dead as dead, Start as start, At as at}
 use Rattle.reading_grammar.specs.Machine.{alive, accepting, turn, step, next}
 use Rattle.reading_grammar.specs.Fold.{keeps, refuses, Reading, going, halted, after, feed, read}
 use Rattle.reading_grammar.proofs.Ends.{never}
@@ -79,7 +79,7 @@ After n half-letter μ = n ≤ μ .st .hub .0
 After n half-bracket μ = (n ≤ μ .st .hub .0) × (getD (μ .st .outside) (μ .st .hub .0) 0 ≡ 0)
 
 -- the first n atoms are complete
-abbrev pub Complete : ℕ → State → Memory → Type 0
+abbrev pub Complete : ℕ → MachineState → Memory → Type 0
 Complete n dead μ = Unit {0}
 Complete n start μ = n ≤ μ .st .atoms
 Complete n (at m d) μ = (n ≤ μ .st .atoms) × After n (writing m) μ
@@ -97,16 +97,16 @@ pub same-on : {n k : ℕ} {κ μ ν : Memory} → Same n k κ μ → Same n k μ
 same-on p q = record { rows = λ a l. q .rows a l ∙ p .rows a l; flags = λ a l. q .flags a l ∙ p .flags a l; bonds = λ b l. q .bonds b l ∙ p .bonds b l }
 
 -- what a byte leaves: complete atoms are the same, and complete
-pub record Left (n k : ℕ) (μ : Memory) (τ : State) (ν : Memory) : Type 0 where
+pub record Left (n k : ℕ) (μ : Memory) (τ : MachineState) (ν : Memory) : Type 0 where
   pub complete : Complete n τ ν
   pub bonds : k ≤ ν .st .bonds
   pub same : Same n k μ ν
 
-abbrev LeftAct : ℕ → ℕ → Memory → State → Acts → Type 0
+abbrev LeftAct : ℕ → ℕ → Memory → MachineState → Acts → Type 0
 LeftAct n k μ τ (keeps ν) = Left n k μ τ ν
 LeftAct n k μ τ (refuses c p) = Unit {0}
 
-abbrev Leaves : ℕ → ℕ → Memory → State → Acts → Type 0
+abbrev Leaves : ℕ → ℕ → Memory → MachineState → Acts → Type 0
 Leaves n k μ τ a = alive τ ≡ true → LeftAct n k μ τ a
 
 -- ---- writes behind the first n atoms and the first k bonds
@@ -129,7 +129,7 @@ after-any no-row n ν l f = tt
 after-any half-letter n ν l f = l
 after-any half-bracket n ν l f = (l, f)
 
-complete-any : (τ : State) (n : ℕ) (ν : Memory) → n ≤ ν .st .atoms → n ≤ ν .st .hub .0 → getD (ν .st .outside) (ν .st .hub .0) 0 ≡ 0 → Complete n τ ν
+complete-any : (τ : MachineState) (n : ℕ) (ν : Memory) → n ≤ ν .st .atoms → n ≤ ν .st .hub .0 → getD (ν .st .outside) (ν .st .hub .0) 0 ≡ 0 → Complete n τ ν
 complete-any dead n ν a l f = tt
 complete-any start n ν a l f = a
 complete-any (at m d) n ν a l f = (a, after-any (writing m) n ν l f)
@@ -177,7 +177,7 @@ module _ {p q d i n k : ℕ} {μ : Memory} (h : Ready p q d i μ) (na : n ≤ μ
     unfolding begun
     letter-left x y = record { complete = (omega arith, after-letter x y); bonds = more-bonds 1; same = letter-same y }
 
-    first-left : {l : Letter} {o : Out} → Begins l o → Left n k μ (turn o d) (firstByte l μ)
+    first-left : {l : Letter} {o : Move} → Begins l o → Left n k μ (turn o d) (firstByte l μ)
     unfolding begun
     first-left (Begins.plain {e} {x} s) = letter-left x (bareRow e 0)
     first-left (Begins.selected {e} {x} s t) = letter-left x (bareRow e 1)
@@ -190,7 +190,7 @@ module _ {p q d i n k : ℕ} {μ : Memory} (h : Ready p q d i μ) (na : n ≤ μ
           same = begun-same 0;
         }
 
-  atom-left : (b : ℕ) {o : Out} → Begins (letterOf b) o → LeftAct n k μ (turn o d) (atomAct b i μ)
+  atom-left : (b : ℕ) {o : Move} → Begins (letterOf b) o → LeftAct n k μ (turn o d) (atomAct b i μ)
   unfolding atomAct
   atom-left b {o} w =
       by-test (LeftAct n k μ (turn o d)) _ _ _ (λ e. tt) (λ e.
@@ -259,7 +259,7 @@ module _ {p q d i n k : ℕ} {μ : Memory} (h : Held p q d i μ) (na : n ≤ μ 
   seq-left x b l = in-sequence (LeftAct n k μ) d i μ b (outside b) x (λ z e s. second-left (l z) e)
 
   -- ---- in a bracket, whatever mode follows
-  module _ (τ : State) (l : (n ≤ μ .st .hub .0) × (getD (μ .st .outside) (μ .st .hub .0) 0 ≡ 0)) where
+  module _ (τ : MachineState) (l : (n ≤ μ .st .hub .0) × (getD (μ .st .outside) (μ .st .hub .0) 0 ≡ 0)) where
     draft-left : (f : _) → LeftAct n k μ τ (keeps (drafted f μ))
     draft-left f = record { complete = complete-any τ n (drafted f μ) na (l .0) (l .1); bonds = kb; same = record { rows = λ a s. refl; flags = λ a s. refl; bonds = λ b s. refl } }
 
@@ -290,23 +290,23 @@ module _ (n k : ℕ) {p q i : ℕ} {μ : Memory} where
   mode-left bracket {d} w c kb b v = draft-left (held-of w) (c .0) kb (turn (next bracket b) d) (c .1) _
   mode-left (isotope j) {d} w c kb b v = draft-left (held-of w) (c .0) kb (turn (next (isotope j) b) d) (c .1) _
   mode-left (symbol1 a) {d} w c kb b v =
-      let τ : State = turn (next (symbol1 a) b) d in
+      let τ : MachineState = turn (next (symbol1 a) b) d in
       by-test (LeftAct n k μ τ) (listed (a ∷ b ∷ []) symbols) _ _ (λ e. draft-left (held-of w) (c .0) kb τ (c .1) _) (λ e. hydrate-left (held-of w) (c .0) kb τ (c .1) b)
   mode-left symbolled {d} w c kb b v = hydrate-left (held-of w) (c .0) kb (turn (next symbolled b) d) (c .1) b
   mode-left hydrogen {d} w c kb b v =
-      let τ : State = turn (next hydrogen b) d in
+      let τ : MachineState = turn (next hydrogen b) d in
       by-test (LeftAct n k μ τ) (among b several) _ _ (λ e. draft-left (held-of w) (c .0) kb τ (c .1) _) (λ e. charge-left (held-of w) (c .0) kb τ (c .1) b)
   mode-left hydrogens {d} w c kb b v = charge-left (held-of w) (c .0) kb (turn (next hydrogens b) d) (c .1) b
   mode-left sign {d} w c kb b v =
-      let τ : State = turn (next sign b) d in
+      let τ : MachineState = turn (next sign b) d in
       by-test (LeftAct n k μ τ) (among b several) _ _ (λ e. draft-left (held-of w) (c .0) kb τ (c .1) _) (λ e. close-left (held-of w) (c .0) kb τ (c .1) b)
   mode-left charged {d} w c kb b v = close-left (held-of w) (c .0) kb (turn (next charged b) d) (c .1) b
   mode-left colon {d} w c kb b v = draft-left (held-of w) (c .0) kb (turn (next colon b) d) (c .1) _
   mode-left (extension j) {d} w c kb b v =
-      let τ : State = turn (next (extension j) b) d in
+      let τ : MachineState = turn (next (extension j) b) d in
       by-test (LeftAct n k μ τ) (among b digits) _ _ (λ e. draft-left (held-of w) (c .0) kb τ (c .1) _) (λ e. close-left (held-of w) (c .0) kb τ (c .1) b)
 
-  step-left : (σ : State) → Sane p q σ i μ → Complete n σ μ → k ≤ μ .st .bonds → (b : ℕ) → Leaves n k μ (step σ b) (act σ b i μ)
+  step-left : (σ : MachineState) → Sane p q σ i μ → Complete n σ μ → k ≤ μ .st .bonds → (b : ℕ) → Leaves n k μ (step σ b) (act σ b i μ)
   unfolding step act
   step-left dead w c kb b v = absurd (w .stands)
   step-left start w c kb b v = only-atom (LeftAct n k μ) 0 i μ b (λ o x. atom-left (ready-start w) c kb b x) v
@@ -317,7 +317,7 @@ abbrev LeftReading : ℕ → ℕ → Memory → Reading Memory → Type 0
 LeftReading n k μ (going τ ν) = Left n k μ τ ν
 LeftReading n k μ (halted c p) = Unit {0}
 
-left-after : (n k : ℕ) (μ : Memory) (τ : State) (a : Acts) → LeftAct n k μ τ a → LeftReading n k μ (after τ a)
+left-after : (n k : ℕ) (μ : Memory) (τ : MachineState) (a : Acts) → LeftAct n k μ τ a → LeftReading n k μ (after τ a)
 left-after n k μ τ (keeps ν) w = w
 left-after n k μ τ (refuses c p) w = tt
 
@@ -341,23 +341,23 @@ module _ (p q n k : ℕ) (κ : Memory) where
   read-left (b ∷ s) i r w l = read-left s (suc i) (feed act i r b) (sane-feed p q i r w b) (feed-left i r w l b)
 
 -- the atoms that are complete, and the bonds that stand, stay as they are over any further bytes
-pub stays : {p q i : ℕ} {σ τ : State} {μ ν : Memory} (n : ℕ) (s : List ℕ) → Sane p q σ i μ → Complete n σ μ → read act i (going σ μ) s ≡ going τ ν → Left n (μ .st .bonds) μ τ ν
+pub stays : {p q i : ℕ} {σ τ : MachineState} {μ ν : Memory} (n : ℕ) (s : List ℕ) → Sane p q σ i μ → Complete n σ μ → read act i (going σ μ) s ≡ going τ ν → Left n (μ .st .bonds) μ τ ν
 stays {p} {q} {i} {σ} {τ} {μ} {ν} n s w c e =
     subst (LeftReading n (μ .st .bonds) μ) e (read-left p q n (μ .st .bonds) μ s i (going σ μ) w (record { complete = c; bonds = omega arith; same = same-itself n (μ .st .bonds) μ }))
 
 -- a text read to its end has the atoms that were complete
-pub counted : (n : ℕ) (τ : State) (ν : Memory) → accepting τ ≡ true → Complete n τ ν → n ≤ ν .st .atoms
+pub counted : (n : ℕ) (τ : MachineState) (ν : Memory) → accepting τ ≡ true → Complete n τ ν → n ≤ ν .st .atoms
 unfolding accepting
 counted n dead ν a c = never a
 counted n start ν a c = c
 counted n (at m d) ν a c = c .0
 
 -- so do all atoms read so far where the next byte is not a second letter
-pub record Stayed (μ : Memory) (τ : State) (ν : Memory) : Type 0 where
+pub record Stayed (μ : Memory) (τ : MachineState) (ν : Memory) : Type 0 where
   pub same : Same (μ .st .atoms) (μ .st .bonds) μ ν
   pub count : accepting τ ≡ true → μ .st .atoms ≤ ν .st .atoms
 
-pub letter-stays : {p q i d : ℕ} {x : Last} {τ : State} {μ ν : Memory} (s : List ℕ) → Sane p q (at (seq x) d) i μ → (Second x (getD s 0 0) → ⊥) → read act i (going (at (seq x) d) μ) s ≡ going τ ν → Stayed μ τ ν
+pub letter-stays : {p q i d : ℕ} {x : Last} {τ : MachineState} {μ ν : Memory} (s : List ℕ) → Sane p q (at (seq x) d) i μ → (Second x (getD s 0 0) → ⊥) → read act i (going (at (seq x) d) μ) s ≡ going τ ν → Stayed μ τ ν
 unfolding read feed step act
 letter-stays {τ = τ} {μ = μ} {ν = ν} [] w n e =
     let z : μ ≡ ν = cc in

@@ -14,8 +14,8 @@ use Rattle.loops.proofs.Loops.{and-left, and-right}
 use Rattle.reading_grammar.specs.declared.Last.the-variants.{Plain as plain}
 use Rattle.reading_grammar.specs.declared.Mode.{Mode}
 use Rattle.reading_grammar.specs.declared.Mode.the-variants.{Seq as seq, Bond as bond, AtomNext as atomNext, Inside as inside, Percent as percent, Percent1 as percent1, LetterA as letterA, LetterT as letterT, Bracket as bracket, Isotope as isotope, Symbol1 as symbol1, Symbolled as symbolled, Hydrogen as hydrogen, Hydrogens as hydrogens, Sign as sign, Charged as charged, Colon as colon, Extension as extension}
-use Rattle.reading_grammar.specs.declared.State.{State}
-use Rattle.reading_grammar.specs.declared.State.the-variants.{Dead as dead, Start as start, At as at}
+use Rattle.reading_grammar.specs.declared.MachineState.{MachineState}
+use Rattle.reading_grammar.specs.declared.MachineState.the-variants.{Dead as dead, Start as start, At as at}
 use Rattle.reading_grammar.specs.Machine.{alive, turn, step, next}
 use Rattle.reading_grammar.specs.Fold.{keeps, refuses, Reading, going, halted, after, feed, read}
 use Rattle.table.specs.Limits.{maxAtoms, maxBonds, atomCells, bondCells}
@@ -33,7 +33,7 @@ use Rattle.reading.proofs.InBracket.{Follows, extend-act, charge-act, h
 use Rattle.reading.proofs.Joints.{bridge-act, branch-act, unbranch-act, joint-held, counting-held}
 
 -- ---- by mode
-abbrev Next : ℕ → ℕ → ℕ → State → Acts → Type 0
+abbrev Next : ℕ → ℕ → ℕ → MachineState → Acts → Type 0
 Next p q i τ a = SaneAct p q τ (suc i) a
 
 module _ {p q i : ℕ} {μ : Memory} where
@@ -76,7 +76,7 @@ module _ {p q i : ℕ} {μ : Memory} where
   mode-step (extension k) w b v = extension-step (held-of w) k (w .stands .half .0) (w .stands .half .1) b v
 
   -- a byte
-  pub sane-step : (σ : State) → Sane p q σ i μ → (b : ℕ) → Follows p q i (step σ b) (act σ b i μ)
+  pub sane-step : (σ : MachineState) → Sane p q σ i μ → (b : ℕ) → Follows p q i (step σ b) (act σ b i μ)
   unfolding step act
   sane-step dead w b v = absurd (w .stands)
   sane-step start w b v = only-atom (Next p q i) 0 i μ b (λ o x. atom-act b x (ready-start w)) v
@@ -84,7 +84,7 @@ module _ {p q i : ℕ} {μ : Memory} where
 
 -- ---- over a text
 module _ (p q : ℕ) where
-  sane-after : (i : ℕ) (τ : State) (a : Acts) → SaneAct p q τ i a → SaneReading p q i (after τ a)
+  sane-after : (i : ℕ) (τ : MachineState) (a : Acts) → SaneAct p q τ i a → SaneReading p q i (after τ a)
   sane-after i τ (keeps μ) w = w
   sane-after i τ (refuses c k) w = tt
 
@@ -106,7 +106,7 @@ module _ (p q : ℕ) where
       rw e (sane-read s (suc i) (feed act i r b) (sane-feed i r w b))
 
 -- the same, where the reading goes on
-pub sane-going : {p q i : ℕ} {σ τ : State} {μ ν : Memory} (s : List ℕ) → Sane p q σ i μ → read act i (going σ μ) s ≡ going τ ν → Sane p q τ (i + length s) ν
+pub sane-going : {p q i : ℕ} {σ τ : MachineState} {μ ν : Memory} (s : List ℕ) → Sane p q σ i μ → read act i (going σ μ) s ≡ going τ ν → Sane p q τ (i + length s) ν
 sane-going {p} {q} {i} {σ} {τ} {μ} {ν} s w e = subst (SaneReading p q (i + length s)) e (sane-read p q s i (going σ μ) w)
 
 -- ---- from the beginning

@@ -10,7 +10,7 @@ use lib.ListN.{length}
 use lib.IntN.{ℤ}
 use Rattle.reading_grammar.specs.Grammar.{Text}
 use Rattle.reading_grammar.specs.Place.{Place}
-use Rattle.reading_grammar.specs.declared.State.{State}
+use Rattle.reading_grammar.specs.declared.MachineState.{MachineState}
 use Rattle.reading_grammar.specs.Machine.{accepting}
 use Rattle.reading_grammar.specs.Fold.{Reading, going, halted, bad, finish, answer}
 use Rattle.reading_grammar.proofs.Viable.{place-unique, text-no-place}
@@ -29,7 +29,7 @@ module _ (s : List ℕ) (atoms bonds : List ℤ) where
   unfolding answer
   answered r e = ap (finish (length s)) e
 
-  is-text : {σ : State} {μ : Memory} → bytesRead s atoms bonds ≡ going σ μ → accepting σ ≡ true → Text s
+  is-text : {σ : MachineState} {μ : Memory} → bytesRead s atoms bonds ≡ going σ μ → accepting σ ≡ true → Text s
   is-text {σ} {μ} e a = good-text act (beginning (zeros atoms) (zeros bonds)) μ s (answered (going σ μ) e ∙ rw a)
 
   -- a text's outcome, and that of bytes that are refused

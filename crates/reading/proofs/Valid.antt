@@ -8,7 +8,7 @@ use lib.IntN.{ℤ}
 use lib.Dec.{eqb}
 use borrow.Author.Tests.{eqb-true, lt-ltb, le-leb}
 use Rattle.loops.specs.Loop.{each}
-use Rattle.reading_grammar.specs.declared.State.{State}
+use Rattle.reading_grammar.specs.declared.MachineState.{MachineState}
 use Rattle.table.specs.Limits.{maxAtoms, maxBonds}
 use Rattle.table.specs.Cells.{end1, end2}
 use Rattle.table.specs.Valid.{atomOk, bondOk, sameEnds, fresh, distinct, valid, Valid}
@@ -55,11 +55,11 @@ valid-with {n = n} {m = m} {bonds = bonds} t w rows =
     }
 
 -- the tables are valid between any two bytes
-pub sane-between : {p q i : ℕ} {σ : State} {μ : Memory} → Sane p q σ i μ → Valid (μ .atoms) (μ .bonds) (μ .st .atoms) (μ .st .bonds)
+pub sane-between : {p q i : ℕ} {σ : MachineState} {μ : Memory} → Sane p q σ i μ → Valid (μ .atoms) (μ .bonds) (μ .st .atoms) (μ .st .bonds)
 sane-between {μ = μ} w = valid-with (μ .atoms) (w .tables) (w .tables .atom-rows)
 
 -- and with the hydrogens that are given at the end
-pub sane-valid : {p q i : ℕ} {σ : State} {μ : Memory} → Sane p q σ i μ
+pub sane-valid : {p q i : ℕ} {σ : MachineState} {μ : Memory} → Sane p q σ i μ
     → Valid (hydrogenated (μ .st .outside) (μ .bonds) (μ .st .bonds) (μ .st .atoms) (μ .atoms)) (μ .bonds) (μ .st .atoms) (μ .st .bonds)
 sane-valid {μ = μ} w = valid-with (hydrogenated (μ .st .outside) (μ .bonds) (μ .st .bonds) (μ .st .atoms) (μ .atoms)) (w .tables) rows
   where

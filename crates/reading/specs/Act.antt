@@ -14,8 +14,8 @@ use Rattle.reading_grammar.specs.declared.Last.{Last}
 use Rattle.reading_grammar.specs.declared.Last.the-variants.{Plain as plain, AfterC as afterC, AfterB as afterB}
 use Rattle.reading_grammar.specs.declared.Mode.{Mode}
 use Rattle.reading_grammar.specs.declared.Mode.the-variants.{Seq as seq, Bond as bond, AtomNext as atomNext, Inside as inside, Percent as percent, Percent1 as percent1, LetterA as letterA, LetterT as letterT, Bracket as bracket, Isotope as isotope, Symbol1 as symbol1, Symbolled as symbolled, Hydrogen as hydrogen, Hydrogens as hydrogens, Sign as sign, Charged as charged, Colon as colon, Extension as extension}
-use Rattle.reading_grammar.specs.declared.State.{State}
-use Rattle.reading_grammar.specs.declared.State.the-variants.{Dead as dead, Start as start, At as at}
+use Rattle.reading_grammar.specs.declared.MachineState.{MachineState}
+use Rattle.reading_grammar.specs.declared.MachineState.the-variants.{Dead as dead, Start as start, At as at}
 use Rattle.reading_grammar.specs.Fold.{Act, keeps, refuses}
 use Rattle.table.specs.Limits.{maxAtoms, maxBonds}
 use Rattle.table.specs.Rows.{withBond}
@@ -134,7 +134,7 @@ modeAct charged b i μ = closeAct b μ
 modeAct colon b i μ = keeps (drafted (fields.extended b (μ .draft)) μ)
 modeAct (extension n) b i μ = pick (among b digits) (keeps (drafted (fields.extended b (μ .draft)) μ)) (closeAct b μ)
 
-unfoldable pub act : State → ℕ → ℕ → Memory → Acts
+unfoldable pub act : MachineState → ℕ → ℕ → Memory → Acts
 act dead b i μ = keeps μ
 act start b i μ = atomAct b i μ
 act (at m d) b i μ = modeAct m b i μ

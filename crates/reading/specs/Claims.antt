@@ -9,7 +9,7 @@ use lib.IntN.{ℤ, pos}
 use Rattle.valence.specs.Valence.{implied}
 use Rattle.reading_grammar.specs.Grammar.{Text}
 use Rattle.reading_grammar.specs.Place.{Place}
-use Rattle.reading_grammar.specs.declared.State.{State}
+use Rattle.reading_grammar.specs.declared.MachineState.{MachineState}
 use Rattle.reading_grammar.specs.Machine.{accepting}
 use Rattle.reading_grammar.specs.Fold.{going}
 use Rattle.table.specs.declared.Atom.{Atom}
@@ -38,7 +38,7 @@ module _ (s : List ℕ) (atoms bonds : List ℤ) where
   -- an accepted text, the memory after its last byte, and the rows
   pub record Accepted (t : ReadResult) : Type 0 where
     pub fits : Fits s atoms bonds
-    pub state : State
+    pub state : MachineState
     pub memory : Memory
     pub reached : bytesRead s atoms bonds ≡ going state memory
     pub ends : accepting state ≡ true

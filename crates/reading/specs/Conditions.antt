@@ -13,8 +13,8 @@ use Rattle.reading_grammar.specs.Grammar.{nonzero, digits}
 use Rattle.reading_grammar.specs.Place.{Place}
 use Rattle.reading_grammar.specs.declared.Last.{Last}
 use Rattle.reading_grammar.specs.declared.Mode.the-variants.{Seq as seq, Bond as bond, AtomNext as atomNext, Inside as inside}
-use Rattle.reading_grammar.specs.declared.State.{State}
-use Rattle.reading_grammar.specs.declared.State.the-variants.{Start as start, At as at}
+use Rattle.reading_grammar.specs.declared.MachineState.{MachineState}
+use Rattle.reading_grammar.specs.declared.MachineState.the-variants.{Start as start, At as at}
 use Rattle.reading_grammar.specs.Machine.{accepting}
 use Rattle.reading_grammar.specs.Fold.{Reading, going, read}
 use Rattle.table.specs.Limits.{maxAtoms, maxBonds}
@@ -38,7 +38,7 @@ abbrev pub atomsOf : Memory → List ℤ
 atomsOf μ = hydrogenated (μ .st .outside) (μ .bonds) (μ .st .bonds) (μ .st .atoms) (μ .atoms)
 
 -- where an atom may begin: at the start, in a sequence, after a bond symbol, after a dot (or a symbol in a branch), in a branch
-pub data AtomMayBegin : State → Type 0 where
+pub data AtomMayBegin : MachineState → Type 0 where
   at-start : AtomMayBegin start
   in-sequence : {x : Last} {d : ℕ} → AtomMayBegin (at (seq x) d)
   after-symbol : {d : ℕ} → AtomMayBegin (at bond d)
@@ -46,7 +46,7 @@ pub data AtomMayBegin : State → Type 0 where
   in-branch : {d : ℕ} → AtomMayBegin (at inside d)
 
 -- where a bridge may stand: in a sequence, and after a bond symbol there
-pub data BridgeMayStand : State → Type 0 where
+pub data BridgeMayStand : MachineState → Type 0 where
   in-sequence : {x : Last} {d : ℕ} → BridgeMayStand (at (seq x) d)
   after-symbol : {d : ℕ} → BridgeMayStand (at bond d)
 
@@ -89,13 +89,13 @@ module _ (s : List ℕ) (atoms bonds : List ℤ) where
     pub short : length s ≤ maxText
 
   -- the bytes before p were read, and there is one at p
-  pub record Before (p : ℕ) (σ : State) (μ : Memory) : Type 0 where
+  pub record Before (p : ℕ) (σ : MachineState) (μ : Memory) : Type 0 where
     pub within : p < length s
     pub reached : bytesRead (take p s) atoms bonds ≡ going σ μ
 
   -- an atom begins at p, "its first byte"
   pub record AtomBegins (p : ℕ) (μ : Memory) : Type 0 where
-    pub state : State
+    pub state : MachineState
     pub before : Before p state μ
     pub place : AtomMayBegin state
     pub first-byte : letterOf (getD s p 0) ≢ Nothing
@@ -108,7 +108,7 @@ module _ (s : List ℕ) (atoms bonds : List ℤ) where
 
   -- the bridge r closes at p
   pub record BridgeCloses (p r : ℕ) (μ : Memory) : Type 0 where
-    pub state : State
+    pub state : MachineState
     pub before : Before p state μ
     pub place : BridgeMayStand state
     pub complete : Numbered p r
@@ -146,21 +146,21 @@ module _ (s : List ℕ) (atoms bonds : List ℤ) where
     pub smallest-number : (d : ℕ) → d < c → Holds d p → ⊥
 
   -- the text was read to its end
-  pub record Read (σ : State) (μ : Memory) : Type 0 where
+  pub record Read (σ : MachineState) (μ : Memory) : Type 0 where
     pub fits : Fits
     pub reached : bytesRead s atoms bonds ≡ going σ μ
     pub ends : accepting σ ≡ true
 
   -- 10: "a bridge is open at the end (place: the leftmost opening)"
   pub record Unclosed (p : ℕ) : Type 0 where
-    pub state : State
+    pub state : MachineState
     pub memory : Memory
     pub reads : Read state memory
     pub leftmost : LeftmostOpening (memory .st .opener) (memory .st .offset) p
 
   -- 11: "no placement exists", no bridge being open
   pub record Unmatched : Type 0 where
-    pub state : State
+    pub state : MachineState
     pub memory : Memory
     pub reads : Read state memory
     pub no-open-bridge : (r : ℕ) → getD (memory .st .opener) r 0 ≡ 0

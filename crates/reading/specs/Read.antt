@@ -15,7 +15,7 @@ use Rattle.ids.specs.Limits.{maxText, bridges}
 use Rattle.reading_state.specs.State.{started}
 use Rattle.reading_grammar.specs.Fold.{Reading, going, halted, read}
 use Rattle.reading_grammar.specs.Machine.{accepting}
-use Rattle.reading_grammar.specs.declared.State.the-variants.{Start as start}
+use Rattle.reading_grammar.specs.declared.MachineState.the-variants.{Start as start}
 use Rattle.reading.specs.Memory.{Memory, nothing, blank}
 use Rattle.reading.specs.Act.{act}
 

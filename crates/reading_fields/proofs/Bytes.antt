@@ -12,8 +12,8 @@ use Rattle.loops.proofs.Loops.{and-left, and-right}
 use Rattle.reading_grammar.proofs.Ends.{each}
 use Rattle.element.specs.Symbols.{among}
 use Rattle.reading_grammar.specs.Grammar.{nonzero, digits, several, signs, starts, marks, symbols}
-use Rattle.reading_grammar.specs.declared.Out.{Out}
-use Rattle.reading_grammar.specs.declared.Out.the-variants.{Stop as stop}
+use Rattle.reading_grammar.specs.declared.Move.{Move}
+use Rattle.reading_grammar.specs.declared.Move.the-variants.{Stop as stop}
 use Rattle.reading_grammar.specs.Machine.{symbolOr, charging, extending, closing}
 use Rattle.reading.specs.Bracket.{digit}
 use Rattle.reading_fields.specs.declared.byte.Number.{Number}
@@ -93,9 +93,9 @@ no-nonzero b h = split (among b nonzero) refl
     split true e = sym (nonzero-digit b e) ∙ h
     split false e = refl
 
-pub digit-no-symbol : (b : ℕ) → among b digits ≡ true → (k : Out) → symbolOr b k ≡ k
+pub digit-no-symbol : (b : ℕ) → among b digits ≡ true → (k : Move) → symbolOr b k ≡ k
 unfolding symbolOr symbols starts marks among digits
-digit-no-symbol = each (λ b. (k : Out) → symbolOr b k ≡ k) digits ((λ k. refl), ((λ k. refl), ((λ k. refl), ((λ k. refl), ((λ k. refl), ((λ k. refl), ((λ k. refl), ((λ k. refl), ((λ k. refl), ((λ k. refl), tt))))))))))
+digit-no-symbol = each (λ b. (k : Move) → symbolOr b k ≡ k) digits ((λ k. refl), ((λ k. refl), ((λ k. refl), ((λ k. refl), ((λ k. refl), ((λ k. refl), ((λ k. refl), ((λ k. refl), ((λ k. refl), ((λ k. refl), tt))))))))))
 
 pub digit-no-charge : (b : ℕ) → among b digits ≡ true → charging b ≡ stop
 unfolding charging extending closing signs among digits

@@ -15,9 +15,9 @@ use Rattle.element.specs.declared.Symbol.{Symbol}
 use Rattle.element.specs.declared.Symbol.the-variants.{Long, Brief, Selected, Half, Nothing}
 use Rattle.reading_grammar.specs.Grammar.{digits}
 use Rattle.reading_grammar.specs.declared.Mode.the-variants.{Isotope as isotope, Symbol1 as symbol1, Symbolled as symbolled}
-use Rattle.reading_grammar.specs.declared.Out.the-variants.{Stop as stop, To as to}
+use Rattle.reading_grammar.specs.declared.Move.the-variants.{Stop as stop, To as to}
 use Rattle.reading_grammar.specs.Machine.{next, resting, symbolOr}
-use Rattle.reading_grammar.specs.Fold.{Answer, bad}
+use Rattle.reading_grammar.specs.Fold.{Verdict, bad}
 use Rattle.reading_grammar.proofs.Ends.{each, all, all-listed}
 use Rattle.reading_grammar.proofs.Complete.{on-element}
 use Rattle.reading.specs.Memory.{Memory, drafted}
@@ -83,7 +83,7 @@ unfolding symbolOr
 ends a q r = rw (q, r)
 
 module _ (s : List ℕ) (at : ℕ) {a b : ℕ} (ka : Peeked s at a) (kb : Peeked s (at + 1) b) (l : at < length s) where
-  abbrev afterSymbol : Memory → ℕ → Symbol → Answer Memory
+  abbrev afterSymbol : Memory → ℕ → Symbol → Verdict Memory
   afterSymbol μ i (Long e) = restIn s μ (at + 2) symbolled (fields i e 0 0 (pos 0) 0)
   afterSymbol μ i (Brief e) = restIn s μ (at + 1) symbolled (fields i e 0 0 (pos 0) 0)
   afterSymbol μ i (Selected e) = restIn s μ (at + 1) symbolled (fields i e 1 0 (pos 0) 0)

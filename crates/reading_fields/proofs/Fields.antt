@@ -16,7 +16,7 @@ use Rattle.element.specs.Symbols.{among}
 use Rattle.reading_grammar.specs.Grammar.{nonzero, digits, several, signs, symbols, starts, marks}
 use Rattle.reading_grammar.specs.declared.Mode.the-variants.{Bracket as bracket, Isotope as isotope, Symbolled as symbolled, Hydrogen as hydrogen, Hydrogens as hydrogens, Sign as sign, Charged as charged, Colon as colon, Extension as extension, Seq as seq}
 use Rattle.reading_grammar.specs.declared.Last.the-variants.{Plain as plain}
-use Rattle.reading_grammar.specs.declared.Out.the-variants.{Stop as stop, To as to}
+use Rattle.reading_grammar.specs.declared.Move.the-variants.{Stop as stop, To as to}
 use Rattle.reading_grammar.specs.Machine.{next, resting, symbolOr, hydrating, charging, extending, closing}
 use Rattle.reading_grammar.specs.Fold.{bad}
 use Rattle.reading.specs.Memory.{Memory, blank, rowOf, drafted, described}

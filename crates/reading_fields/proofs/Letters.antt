@@ -22,8 +22,8 @@ use Rattle.reading_grammar.specs.declared.Last.{Last}
 use Rattle.reading_grammar.specs.declared.Last.the-variants.{Plain as plain, AfterC as afterC, AfterB as afterB}
 use Rattle.reading_grammar.specs.declared.Mode.{Mode}
 use Rattle.reading_grammar.specs.declared.Mode.the-variants.{Seq as seq, AtomNext as atomNext, LetterA as letterA, LetterT as letterT, Bracket as bracket}
-use Rattle.reading_grammar.specs.declared.Out.{Out}
-use Rattle.reading_grammar.specs.declared.Out.the-variants.{Stop as stop, To as to}
+use Rattle.reading_grammar.specs.declared.Move.{Move}
+use Rattle.reading_grammar.specs.declared.Move.the-variants.{Stop as stop, To as to}
 use Rattle.reading_grammar.specs.Machine.{next, resting, atomOr, bridgeOr, lastOf, goesOn}
 use Rattle.reading_grammar.specs.Fold.{keeps}
 use Rattle.reading_grammar.proofs.Ends.{each}
@@ -45,22 +45,22 @@ abbrev halfMode : ℕ → Mode
 halfMode b = pick (eqb b 65) letterA letterT
 
 -- what the machine does where a letter, a bracket or nothing begins
-abbrev firstOut : ℕ → Letter → Out → Out
+abbrev firstOut : ℕ → Letter → Move → Move
 firstOut b (Alone e) k = to (seq (lastOf b))
 firstOut b (Selected e) k = to (seq plain)
 firstOut b Half k = to (halfMode b)
 firstOut b Opening k = to bracket
 firstOut b Nothing k = k
 
-star-first : (b : ℕ) → b ≡ 42 → (k : Out) → atomOr b k ≡ to (seq (lastOf b))
+star-first : (b : ℕ) → b ≡ 42 → (k : Move) → atomOr b k ≡ to (seq (lastOf b))
 unfolding atomOr letters among
 star-first b e k = rw e
 
-selected-first : (b : ℕ) → among b selectedLetters ≡ true → (k : Out) → atomOr b k ≡ to (seq plain)
+selected-first : (b : ℕ) → among b selectedLetters ≡ true → (k : Move) → atomOr b k ≡ to (seq plain)
 unfolding atomOr letters among
-selected-first = each (λ b. (k : Out) → atomOr b k ≡ to (seq plain)) selectedLetters ((λ k. refl), ((λ k. refl), ((λ k. refl), ((λ k. refl), ((λ k. refl), tt)))))
+selected-first = each (λ b. (k : Move) → atomOr b k ≡ to (seq plain)) selectedLetters ((λ k. refl), ((λ k. refl), ((λ k. refl), ((λ k. refl), ((λ k. refl), tt)))))
 
-pub letter-first : (b : ℕ) (k : Out) → atomOr b k ≡ firstOut b (letterOf b) k
+pub letter-first : (b : ℕ) (k : Move) → atomOr b k ≡ firstOut b (letterOf b) k
 unfolding letterOf atomOr
 letter-first b k = split (eqb b 42) (eqb (selectedOf b) 0) refl refl
   where
@@ -78,7 +78,7 @@ letter-first b k = split (eqb b 42) (eqb (selectedOf b) 0) refl refl
     split false false e f = selected-first b (selected-letter b f) k
     split false true e f = others (among b letters) (eqb b 65) (eqb b 84) (eqb b 91) refl
 
-pub nothing-first : (b : ℕ) → letterOf b ≡ Nothing → (k : Out) → atomOr b k ≡ k
+pub nothing-first : (b : ℕ) → letterOf b ≡ Nothing → (k : Move) → atomOr b k ≡ k
 nothing-first b e k = letter-first b k ∙ ap (λ (l : Letter). firstOut b l k) e
 
 -- after an atom the byte does the same whatever the atom's letter was, unless it is the letter's second one

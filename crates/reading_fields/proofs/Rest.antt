@@ -12,8 +12,8 @@ use Rattle.loops.specs.Loop.{pick}
 use Rattle.reading_grammar.specs.declared.Mode.{Mode}
 use Rattle.reading_grammar.specs.declared.Mode.the-variants.{Inside as inside, Seq as seq}
 use Rattle.reading_grammar.specs.declared.Last.the-variants.{Plain as plain}
-use Rattle.reading_grammar.specs.declared.State.{State}
-use Rattle.reading_grammar.specs.declared.Out.the-variants.{Stop as stop, To as to, Up as up, Down as down}
+use Rattle.reading_grammar.specs.declared.MachineState.{MachineState}
+use Rattle.reading_grammar.specs.declared.Move.the-variants.{Stop as stop, To as to, Up as up, Down as down}
 use Rattle.reading_grammar.specs.Machine.{next, turn, step, resting, alive, accepting}
 use Rattle.reading_grammar.specs.Fold.{keeps, refuses, Reading, halted, after, feed, read, good, bad, finish}
 use Rattle.reading.specs.Memory.{Memory}
@@ -27,7 +27,7 @@ read-halted [] i c p = refl
 read-halted (b ∷ s) i c p = read-halted s (suc i) c p
 
 -- what a byte leaves: the state after it, if that is alive, and what the action says
-abbrev fed : State → Acts → ℕ → Reading Memory
+abbrev fed : MachineState → Acts → ℕ → Reading Memory
 fed σ a p = pick (alive σ) (after σ a) (halted 3 p)
 
 module _ (s : List ℕ) (p : ℕ) (m : Mode) (μ : Memory) where

@@ -10,7 +10,7 @@ use Rattle.reading_grammar.specs.Grammar.{digits}
 use Rattle.reading_grammar.specs.declared.Last.the-variants.{Plain as plain}
 use Rattle.reading_grammar.specs.declared.Mode.{Mode}
 use Rattle.reading_grammar.specs.declared.Mode.the-variants.{Seq as seq, Bracket as bracket, Isotope as isotope, Symbolled as symbolled, Hydrogens as hydrogens, Charged as charged, Extension as extension}
-use Rattle.reading_grammar.specs.Fold.{Answer, bad}
+use Rattle.reading_grammar.specs.Fold.{Verdict, bad}
 use Rattle.reading_state.specs.declared.Fields.{Fields}
 use Rattle.reading.specs.Memory.{Memory, blank, rowOf, drafted, described}
 use Rattle.reading.specs.Bracket.{digit}
@@ -54,23 +54,23 @@ abbrev pub fields : ℕ → ℕ → ℕ → ℕ → ℤ → ℕ → Fields
 fields i e y h c x = record { element = e; selected = y; isotope = i; hydrogens = h; charge = c; extension = x }
 
 -- what is left to read from an offset in a mode, with these fields
-abbrev pub restIn : List ℕ → Memory → ℕ → Mode → Fields → Answer Memory
+abbrev pub restIn : List ℕ → Memory → ℕ → Mode → Fields → Verdict Memory
 restIn s μ p m f = rest s p m (drafted f μ)
 
 -- a reading x goes on after a field, or is refused
-abbrev pub afterField : Field → (ℕ → ℕ → Answer Memory) → Answer Memory
+abbrev pub afterField : Field → (ℕ → ℕ → Verdict Memory) → Verdict Memory
 afterField (Field.Value v p) k = k v p
 afterField (Field.Refused p) k = bad 3 p
 
-abbrev pub afterCharge : Charge → (ℤ → ℕ → Answer Memory) → Answer Memory
+abbrev pub afterCharge : Charge → (ℤ → ℕ → Verdict Memory) → Verdict Memory
 afterCharge (Charge.Value v p) k = k v p
 afterCharge (Charge.Refused p) k = bad 3 p
 
-abbrev pub afterNamed : Named → (ℕ → ℕ → ℕ → Answer Memory) → Answer Memory
+abbrev pub afterNamed : Named → (ℕ → ℕ → ℕ → Verdict Memory) → Verdict Memory
 afterNamed (Named.Value e y p) k = k e y p
 afterNamed (Named.Refused p) k = bad 3 p
 
-abbrev pub afterBracket : List ℕ → Memory → Bracket → Answer Memory
+abbrev pub afterBracket : List ℕ → Memory → Bracket → Verdict Memory
 afterBracket s μ (Bracket.Row f p) = rest s p (seq plain) (described (rowOf f) (drafted f μ))
 afterBracket s μ (Bracket.Refused p) = bad 3 p
 

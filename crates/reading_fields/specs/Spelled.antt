@@ -7,7 +7,7 @@ use Rattle.element.specs.Lookup.{letterOf}
 use Rattle.reading_grammar.specs.declared.Last.the-variants.{Plain as plain}
 use Rattle.reading_grammar.specs.declared.Mode.{Mode}
 use Rattle.reading_grammar.specs.declared.Mode.the-variants.{Seq as seq, AtomNext as atomNext}
-use Rattle.reading_grammar.specs.declared.Out.the-variants.{To as to}
+use Rattle.reading_grammar.specs.declared.Move.the-variants.{To as to}
 use Rattle.reading_grammar.specs.Machine.{next}
 use Rattle.reading_grammar.specs.Fold.{keeps, bad}
 use Rattle.table.specs.declared.Atom.{Atom}

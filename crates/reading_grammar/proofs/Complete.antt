@@ -8,26 +8,26 @@ use lib.Dec.{eqb, leb}
 use borrow.Author.Tests.{eqb-true, eq-eqb}
 use Rattle.reading_grammar.specs.Grammar
 use Rattle.reading_grammar.specs.Grammar.{starts, pick, among, listed, sameBytes, nonzero, digits, several, bondSymbols, signs, letters, marks, symbols, Digits, Number, number, Isotope, Symbol, mark, element, Hydrogens, Charge, Extension, Atom, letter, Cl, Br, At, Ts, Bridge, short, long, Bond, elided, Joint, Sequence, sequence, Pieces, Piece, branch, Text, empty, text}
-use Rattle.reading_grammar.specs.Machine.{Last, plain, afterC, afterB, Mode, seq, bond, atomNext, inside, percent, percent1, letterA, letterT, bracket, isotope, symbol1, symbolled, hydrogen, hydrogens, sign, charged, colon, extension, Out, stop, to, up, down, State, dead, start, at, lastOf, goesOn, atomOr, bridgeOr, closing, extending, charging, hydrating, symbolOr, next, turn, step, run, resting, accepting}
+use Rattle.reading_grammar.specs.Machine.{Last, plain, afterC, afterB, Mode, seq, bond, atomNext, inside, percent, percent1, letterA, letterT, bracket, isotope, symbol1, symbolled, hydrogen, hydrogens, sign, charged, colon, extension, Move, stop, to, up, down, MachineState, dead, start, at, lastOf, goesOn, atomOr, bridgeOr, closing, extending, charging, hydrating, symbolOr, next, turn, step, run, resting, accepting}
 use Rattle.reading_grammar.proofs.Ends.{EndExtension, EndCharge, EndHydrogens, EndSymbol, EndIsotope, All, each, never, run-append, run-dead, all, all-listed}
 
 -- the machine goes from a state to a state over the bytes
-pub record Runs (σ : State) (s : List ℕ) (τ : State) : Type 0 where
+pub record Runs (σ : MachineState) (s : List ℕ) (τ : MachineState) : Type 0 where
   pub is : run σ s ≡ τ
 
-pub record Goes (m : Mode) (b : ℕ) (o : Out) : Type 0 where
+pub record Goes (m : Mode) (b : ℕ) (o : Move) : Type 0 where
   pub is : next m b ≡ o
 
-pub via : {m : Mode} {b d : ℕ} {o : Out} {s : List ℕ} {τ : State} → Goes m b o → Runs (turn o d) s τ → Runs (at m d) (b ∷ s) τ
+pub via : {m : Mode} {b d : ℕ} {o : Move} {s : List ℕ} {τ : MachineState} → Goes m b o → Runs (turn o d) s τ → Runs (at m d) (b ∷ s) τ
 unfolding run step
-via {d = d} {s = s} g r = record { is = ap (λ (o : Out). run (turn o d) s) (g .is) ∙ r .is }
+via {d = d} {s = s} g r = record { is = ap (λ (o : Move). run (turn o d) s) (g .is) ∙ r .is }
 
-pub stay : {σ : State} → Runs σ [] σ
+pub stay : {σ : MachineState} → Runs σ [] σ
 unfolding run
 stay = record { is = refl }
 
-pub along : {σ τ υ : State} {s t : List ℕ} → Runs σ s τ → Runs τ t υ → Runs σ (s ++ t) υ
-along {σ = σ} {s = s} {t = t} p q = record { is = run-append s t σ ∙ ap (λ (ρ : State). run ρ t) (p .is) ∙ q .is }
+pub along : {σ τ υ : MachineState} {s t : List ℕ} → Runs σ s τ → Runs τ t υ → Runs σ (s ++ t) υ
+along {σ = σ} {s = s} {t = t} p q = record { is = run-append s t σ ∙ ap (λ (ρ : MachineState). run ρ t) (p .is) ∙ q .is }
 
 -- the extension and the closing bracket
 to-digit : (n b : ℕ) → among b digits ≡ true → Goes (extension (suc n)) b (to (extension n))
@@ -40,7 +40,7 @@ digits-ext {n = zero} Digits.none = via (record { is = refl }) stay
 digits-ext {n = suc n} Digits.none = via (record { is = refl }) stay
 digits-ext (Digits.more {n} {d = b} e r) = via (to-digit n b e) (digits-ext r)
 
-on-nonzero : (m : Mode) (o : Out) → All (λ b. Goes m b o) nonzero → (b : ℕ) → among b nonzero ≡ true → Goes m b o
+on-nonzero : (m : Mode) (o : Move) → All (λ b. Goes m b o) nonzero → (b : ℕ) → among b nonzero ≡ true → Goes m b o
 on-nonzero m o h = each (λ b. Goes m b o) nonzero h
 
 colon-digit : (b : ℕ) → among b nonzero ≡ true → Goes colon b (to (extension 3))
@@ -111,23 +111,23 @@ listed-starts a r ((b ∷ t) ∷ l) h = split (eqb a b) h (listed-starts a r l)
     split true h k = refl
     split false h k = k h
 
-alone : (a b : ℕ) {o : Out} → listed (a ∷ []) symbols ≡ true → leb 97 b ≡ false → hydrating b ≡ o → Goes (symbol1 a) b o
+alone : (a b : ℕ) {o : Move} → listed (a ∷ []) symbols ≡ true → leb 97 b ≡ false → hydrating b ≡ o → Goes (symbol1 a) b o
 unfolding next
 alone a b e h g = record { is = rw (no-second a b h, e) g }
 
 -- a mode in which a symbol may begin
 abbrev pub Symbols : Mode → Type 0
-Symbols m = (b : ℕ) → (k : Out) × (next m b ≡ symbolOr b k)
+Symbols m = (b : ℕ) → (k : Move) × (next m b ≡ symbolOr b k)
 
-on-mark : (b : ℕ) → among b marks ≡ true → (k : Out) → symbolOr b k ≡ to symbolled
+on-mark : (b : ℕ) → among b marks ≡ true → (k : Move) → symbolOr b k ≡ to symbolled
 unfolding marks symbolOr symbols starts among
-on-mark = each (λ b. (k : Out) → symbolOr b k ≡ to symbolled) marks ((λ k. refl), ((λ k. refl), ((λ k. refl), ((λ k. refl), ((λ k. refl), ((λ k. refl), tt))))))
+on-mark = each (λ b. (k : Move) → symbolOr b k ≡ to symbolled) marks ((λ k. refl), ((λ k. refl), ((λ k. refl), ((λ k. refl), ((λ k. refl), ((λ k. refl), tt))))))
 
-pub on-element : (a : ℕ) (r : List ℕ) → listed (a ∷ r) symbols ≡ true → (k : Out) → symbolOr a k ≡ to (symbol1 a)
+pub on-element : (a : ℕ) (r : List ℕ) → listed (a ∷ r) symbols ≡ true → (k : Move) → symbolOr a k ≡ to (symbol1 a)
 unfolding symbolOr
 on-element a r e k = rw (listed-starts a r symbols e)
 
-goes : {m : Mode} {b : ℕ} {o : Out} → Symbols m → ((k : Out) → symbolOr b k ≡ o) → Goes m b o
+goes : {m : Mode} {b : ℕ} {o : Move} → Symbols m → ((k : Move) → symbolOr b k ≡ o) → Goes m b o
 goes {b = b} w h = record { is = w b .1 ∙ h (w b .0) }
 
 pair-goes : (a b : ℕ) → listed (a ∷ b ∷ []) symbols ≡ true → Goes (symbol1 a) b (to symbolled)
@@ -173,22 +173,22 @@ takes-bracket (EndIsotope.ends Isotope.none x) = takes-symbol bracket (λ b. (pi
 takes-bracket (EndIsotope.ends (Isotope.isotope (number {d = b} e r)) x) = via (bracket-digit b e) (digits-iso r x)
 
 -- a state in which an atom may begin, at a depth
-pub record Atoms (σ : State) (d : ℕ) : Type 0 where
-  pub begins : (b : ℕ) → (k : Out) × (step σ b ≡ turn (atomOr b k) d)
+pub record Atoms (σ : MachineState) (d : ℕ) : Type 0 where
+  pub begins : (b : ℕ) → (k : Move) × (step σ b ≡ turn (atomOr b k) d)
 
-pub record Reaches (σ : State) (s : List ℕ) (d : ℕ) : Type 0 where
+pub record Reaches (σ : MachineState) (s : List ℕ) (d : ℕ) : Type 0 where
   pub last : Last
   pub runs : Runs σ s (at (seq last) d)
 
-by-atom : {σ τ : State} {s : List ℕ} {d : ℕ} (b : ℕ) (o : Out) → Atoms σ d → ((k : Out) → atomOr b k ≡ o) → Runs (turn o d) s τ → Runs σ (b ∷ s) τ
+by-atom : {σ τ : MachineState} {s : List ℕ} {d : ℕ} (b : ℕ) (o : Move) → Atoms σ d → ((k : Move) → atomOr b k ≡ o) → Runs (turn o d) s τ → Runs σ (b ∷ s) τ
 unfolding run
-by-atom {s = s} {d = d} b o w h r = record { is = ap (λ (ρ : State). run ρ s) (w .begins b .1 ∙ ap (λ (q : Out). turn q d) (h (w .begins b .0))) ∙ r .is }
+by-atom {s = s} {d = d} b o w h r = record { is = ap (λ (ρ : MachineState). run ρ s) (w .begins b .1 ∙ ap (λ (q : Move). turn q d) (h (w .begins b .0))) ∙ r .is }
 
-on-letter : (b : ℕ) → among b letters ≡ true → (k : Out) → atomOr b k ≡ to (seq (lastOf b))
+on-letter : (b : ℕ) → among b letters ≡ true → (k : Move) → atomOr b k ≡ to (seq (lastOf b))
 unfolding atomOr
 on-letter b e k = rw e
 
-pub takes-atom : {σ : State} {d : ℕ} {a : List ℕ} → Atoms σ d → Atom a → Reaches σ a d
+pub takes-atom : {σ : MachineState} {d : ℕ} {a : List ℕ} → Atoms σ d → Atom a → Reaches σ a d
 unfolding atomOr bridgeOr among letters next nonzero bondSymbols
 takes-atom w (letter {b} e) = record { last = lastOf b; runs = by-atom b (to (seq (lastOf b))) w (on-letter b e) stay }
 takes-atom w Cl = record { last = plain; runs = by-atom 67 (to (seq afterC)) w (λ k. refl) (via (record { is = refl }) stay) }
@@ -230,13 +230,13 @@ inside-symbol : (b : ℕ) → among b bondSymbols ≡ true → Goes inside b (to
 unfolding next atomOr among letters bondSymbols
 inside-symbol = each (λ b. Goes inside b (to atomNext)) bondSymbols (record { is = refl }, (record { is = refl }, (record { is = refl }, tt)))
 
-on-bridge : (b : ℕ) → among b nonzero ≡ true → (k : Out) → atomOr b (bridgeOr b k) ≡ to (seq plain)
+on-bridge : (b : ℕ) → among b nonzero ≡ true → (k : Move) → atomOr b (bridgeOr b k) ≡ to (seq plain)
 unfolding atomOr bridgeOr among letters nonzero
-on-bridge = each (λ b. (k : Out) → atomOr b (bridgeOr b k) ≡ to (seq plain)) nonzero ((λ k. refl), ((λ k. refl), ((λ k. refl), ((λ k. refl), ((λ k. refl), ((λ k. refl), ((λ k. refl), ((λ k. refl), ((λ k. refl), tt)))))))))
+on-bridge = each (λ b. (k : Move) → atomOr b (bridgeOr b k) ≡ to (seq plain)) nonzero ((λ k. refl), ((λ k. refl), ((λ k. refl), ((λ k. refl), ((λ k. refl), ((λ k. refl), ((λ k. refl), ((λ k. refl), ((λ k. refl), tt)))))))))
 
 -- a mode in which a bridge may begin
 pub record Bridges (m : Mode) : Type 0 where
-  pub begins : (b : ℕ) → (k : Out) × (next m b ≡ atomOr b (bridgeOr b k))
+  pub begins : (b : ℕ) → (k : Move) × (next m b ≡ atomOr b (bridgeOr b k))
 
 bridges-seq : (x : Last) → Bridges (seq x)
 unfolding next
@@ -262,7 +262,7 @@ takes-bridge w (long {d = b} {e = c} e f) = record {
   runs = via {o = to percent} (record { is = w .begins 37 .1 }) (via (percent-digit b e) (via (percent1-digit c f) stay));
 }
 
-pub onward : {σ τ : State} {s t : List ℕ} {d : ℕ} → Runs σ s τ → Reaches τ t d → Reaches σ (s ++ t) d
+pub onward : {σ τ : MachineState} {s t : List ℕ} {d : ℕ} → Runs σ s τ → Reaches τ t d → Reaches σ (s ++ t) d
 onward p q = record { last = q .last; runs = along p (q .runs) }
 
 one : {m n : Mode} {d : ℕ} {b : ℕ} → Goes m b (to n) → Runs (at m d) (b ∷ []) (at n d)
@@ -294,7 +294,7 @@ takes-bridged x {d} (Bond.symbol {b} e) r = onward (one (seq-symbol x b e)) (tak
 
 -- after ( and an optional bond symbol or dot an atom may begin
 pub record Joined (j : List ℕ) (d : ℕ) : Type 0 where
-  pub state : State
+  pub state : MachineState
   pub runs : Runs (at inside d) j state
   pub atoms : Atoms state d
 
@@ -304,15 +304,15 @@ takes-joint d (Joint.bond (Bond.symbol {b} e)) = record { state = at atomNext d;
 takes-joint d Joint.dot = record { state = at atomNext d; runs = one inside-dot; atoms = atoms-dot d }
 
 -- after ( : the joint, the sequence and )
-takes-branch : {j s : List ℕ} (x : Last) (d : ℕ) → Joint j → ((σ : State) → Atoms σ (suc d) → Reaches σ s (suc d)) → Reaches (at (seq x) d) (40 ∷ (j ++ (s ++ 41 ∷ []))) d
+takes-branch : {j s : List ℕ} (x : Last) (d : ℕ) → Joint j → ((σ : MachineState) → Atoms σ (suc d) → Reaches σ s (suc d)) → Reaches (at (seq x) d) (40 ∷ (j ++ (s ++ 41 ∷ []))) d
 takes-branch x d j f =
     let u = takes-joint (suc d) j in
     let r = f (u .state) (u .atoms) in
     record { last = plain; runs = via (one-up x d) (along (u .runs) (along (r .runs) (via (one-down (r .last) d) stay))) }
 
-takes-sequence : {s : List ℕ} → Sequence s → (σ : State) (d : ℕ) → Atoms σ d → Reaches σ s d
+takes-sequence : {s : List ℕ} → Sequence s → (σ : MachineState) (d : ℕ) → Atoms σ d → Reaches σ s d
 takes-sequence q = elim q
-    as (λ s q. (σ : State) (d : ℕ) → Atoms σ d → Reaches σ s d)
+    as (λ s q. (σ : MachineState) (d : ℕ) → Atoms σ d → Reaches σ s d)
     (λ p q. (x : Last) (d : ℕ) → Reaches (at (seq x) d) p d)
     (λ p q. (x : Last) (d : ℕ) → Reaches (at (seq x) d) p d) [
       | sequence a (p → hp) ↦ λ σ d w. let r = takes-atom w a in onward (r .runs) (hp (r .last) d)

@@ -7,7 +7,7 @@ use native.Mathlib.Omega.{arith}
 use lib.Dec.{eqb}
 use borrow.Author.Tests.{eqb-true, eq-eqb}
 use Rattle.reading_grammar.specs.Grammar.{pick, among, listed, sameBytes, symbols, Digits, Number, Isotope, Symbol, Hydrogens, Charge, Extension}
-use Rattle.reading_grammar.specs.Machine.{State, dead, run, step}
+use Rattle.reading_grammar.specs.Machine.{MachineState, dead, run, step}
 
 pub data EndExtension : List ℕ → Type 0 where
   ends : {e : List ℕ} → Extension e → EndExtension (e ++ 93 ∷ [])
@@ -41,7 +41,7 @@ each P (x ∷ l) h b e = split (eqb b x) refl e (each P l (h .1) b)
     split true q r k = subst P (sym (eqb-true b x q)) (h .0)
     split false q r k = k r
 
-pub run-append : (s t : List ℕ) (σ : State) → run σ (s ++ t) ≡ run (run σ s) t
+pub run-append : (s t : List ℕ) (σ : MachineState) → run σ (s ++ t) ≡ run (run σ s) t
 unfolding run
 run-append [] t σ = refl
 run-append (b ∷ s) t σ = run-append s t (step σ b)

@@ -10,7 +10,7 @@ use native.Mathlib.Nat.{add-zero}
 use lib.ListN.{length, getD, take, drop, take-append-drop}
 use lib.Seq.{take-take}
 use Rattle.reading_grammar.specs.Grammar.{pick, Text}
-use Rattle.reading_grammar.specs.Machine.{State, start, step, run, alive, accepting, reach}
+use Rattle.reading_grammar.specs.Machine.{MachineState, start, step, run, alive, accepting, reach}
 use Rattle.reading_grammar.specs.Place.{Viable, Place}
 use Rattle.reading_grammar.proofs.Sound.{sound}
 use Rattle.reading_grammar.proofs.Complete.{complete}
@@ -23,37 +23,37 @@ prefix-viable i s v = (drop i s ++ v .0, subst Text (ap (λ (l : List ℕ). l ++
 text-viable : (s : List ℕ) → Text s → (i : ℕ) → Viable (take i s)
 text-viable s x i = (drop i s, subst Text (sym (take-append-drop i s)) x)
 
-reach-dies : (σ : State) (b : ℕ) (s : List ℕ) → alive (step σ b) ≡ false → reach σ (b ∷ s) ≡ 0
+reach-dies : (σ : MachineState) (b : ℕ) (s : List ℕ) → alive (step σ b) ≡ false → reach σ (b ∷ s) ≡ 0
 unfolding reach
 reach-dies σ b s e = rw e
 
-reach-lives : (σ : State) (b : ℕ) (s : List ℕ) → alive (step σ b) ≡ true → reach σ (b ∷ s) ≡ suc (reach (step σ b) s)
+reach-lives : (σ : MachineState) (b : ℕ) (s : List ℕ) → alive (step σ b) ≡ true → reach σ (b ∷ s) ≡ suc (reach (step σ b) s)
 unfolding reach
 reach-lives σ b s e = rw e
 
 -- a reading that did not halt
 pub data Goes {M : Type 0} : Reading M → Type 0 where
-  goes : {σ : State} {μ : M} → Goes (going σ μ)
+  goes : {σ : MachineState} {μ : M} → Goes (going σ μ)
 
 module _ {M : Type 0} (act : Action M) where
   -- where a reading from a state ends
-  pub data Ends (i : ℕ) (σ : State) (s : List ℕ) : Reading M → Type 0 where
-    goes-on : {τ : State} {μ : M} → run σ s ≡ τ → alive τ ≡ true → Ends i σ s (going τ μ)
+  pub data Ends (i : ℕ) (σ : MachineState) (s : List ℕ) : Reading M → Type 0 where
+    goes-on : {τ : MachineState} {μ : M} → run σ s ≡ τ → alive τ ≡ true → Ends i σ s (going τ μ)
     by-grammar : {c p : ℕ} → c ≡ 3 → p ≡ i + reach σ s → reach σ s < length s → Ends i σ s (halted c p)
-    by-action : {c p : ℕ} (k j : ℕ) (τ : State) (b : ℕ) (μ : M) → j ≡ i + k → k < length s → alive (run σ (take (suc k) s)) ≡ true → act τ b j μ ≡ refuses c p → Ends i σ s (halted c p)
+    by-action : {c p : ℕ} (k j : ℕ) (τ : MachineState) (b : ℕ) (μ : M) → j ≡ i + k → k < length s → alive (run σ (take (suc k) s)) ≡ true → act τ b j μ ≡ refuses c p → Ends i σ s (halted c p)
 
   pub read-halted : (s : List ℕ) (i c p : ℕ) → read act i (halted c p) s ≡ halted c p
   unfolding read feed
   read-halted [] i c p = refl
   read-halted (b ∷ s) i c p = read-halted s (suc i) c p
 
-  shift : {i b : ℕ} {σ : State} {s : List ℕ} {r : Reading M} → alive (step σ b) ≡ true → Ends (suc i) (step σ b) s r → Ends i σ (b ∷ s) r
+  shift : {i b : ℕ} {σ : MachineState} {s : List ℕ} {r : Reading M} → alive (step σ b) ≡ true → Ends (suc i) (step σ b) s r → Ends i σ (b ∷ s) r
   unfolding run
   shift e (goes-on q a) = goes-on q a
   shift {i} {b} {σ} {s} e (by-grammar {p = p} c q h) = by-grammar {p = p} c (omega (arith, reach-lives σ b s e)) (omega (arith, reach-lives σ b s e))
   shift {i} {b} {σ} {s} e (by-action k j τ c μ q h a x) = by-action (suc k) j τ c μ (omega arith) (omega arith) a x
 
-  read-ends : (s : List ℕ) (i : ℕ) (σ : State) (μ : M) → alive σ ≡ true → Ends i σ s (read act i (going σ μ) s)
+  read-ends : (s : List ℕ) (i : ℕ) (σ : MachineState) (μ : M) → alive σ ≡ true → Ends i σ s (read act i (going σ μ) s)
   unfolding read feed run
   read-ends [] i σ μ l = goes-on refl l
   read-ends (b ∷ s) i σ μ l = split (alive (step σ b)) refl (act σ b i μ) refl (read-ends s (suc i) (step σ b))
@@ -95,7 +95,7 @@ module _ {M : Type 0} (act : Action M) where
   }
 
   -- refusal 3 stands at the place of the grammar
-  pub bad-3 : ((σ : State) (b i : ℕ) (μ : M) (p : ℕ) → act σ b i μ ≡ refuses 3 p → ⊥) → (μ : M) (s : List ℕ) (p : ℕ) → answer act μ s ≡ bad 3 p → Place s p
+  pub bad-3 : ((σ : MachineState) (b i : ℕ) (μ : M) (p : ℕ) → act σ b i μ ≡ refuses 3 p → ⊥) → (μ : M) (s : List ℕ) (p : ℕ) → answer act μ s ≡ bad 3 p → Place s p
   unfolding answer
   bad-3 never3 μ s p = go (read act 0 (going start μ) s) (read-ends s 0 start μ refl)
     where
@@ -116,7 +116,7 @@ module _ {M : Type 0} (act : Action M) where
           absurd (never3 τ b j ν p e)
 
   -- another refusal is told at a byte up to which some text goes: before the place of the grammar, if there is one
-  pub bad-other : ((σ : State) (b i : ℕ) (μ : M) (c p : ℕ) → act σ b i μ ≡ refuses c p → p ≤ i) → (μ : M) (s : List ℕ) (c p : ℕ) → c ≢ 3 → answer act μ s ≡ bad c p
+  pub bad-other : ((σ : MachineState) (b i : ℕ) (μ : M) (c p : ℕ) → act σ b i μ ≡ refuses c p → p ≤ i) → (μ : M) (s : List ℕ) (c p : ℕ) → c ≢ 3 → answer act μ s ≡ bad c p
       → (k : ℕ) × (p ≤ k) × (k < length s) × Viable (take (suc k) s)
   unfolding answer
   bad-other early μ s c p n3 = go (read act 0 (going start μ) s) (read-ends s 0 start μ refl)
@@ -133,7 +133,7 @@ module _ {M : Type 0} (act : Action M) where
           let g : p ≤ j = early τ b j ν c p f in
           (k, omega arith, l, viable (take (suc k) s) a)
 
-  pub other-first : ((σ : State) (b i : ℕ) (μ : M) (c p : ℕ) → act σ b i μ ≡ refuses c p → p ≤ i) → (μ : M) (s : List ℕ) (c p q : ℕ) → c ≢ 3 → answer act μ s ≡ bad c p → Place s q → p < q
+  pub other-first : ((σ : MachineState) (b i : ℕ) (μ : M) (c p : ℕ) → act σ b i μ ≡ refuses c p → p ≤ i) → (μ : M) (s : List ℕ) (c p q : ℕ) → c ≢ 3 → answer act μ s ≡ bad c p → Place s q → p < q
   other-first early μ s c p q n3 h x =
       let b = bad-other early μ s c p n3 h in
       split (decLt p q) b
@@ -154,7 +154,7 @@ module _ {M : Type 0} (act : Action M) where
       rw e (read-append s t (suc i) (feed act i r b))
 
   -- a piece before a reading that goes on goes on
-  pub prefix-goes : (s t : List ℕ) (i : ℕ) (r : Reading M) {τ : State} {ν : M} → read act i r (s ++ t) ≡ going τ ν → Goes (read act i r s)
+  pub prefix-goes : (s t : List ℕ) (i : ℕ) (r : Reading M) {τ : MachineState} {ν : M} → read act i r (s ++ t) ≡ going τ ν → Goes (read act i r s)
   prefix-goes s t i r {τ} {ν} e = split (read act i r s) refl
     where
       split : (q : Reading M) → read act i r s ≡ q → Goes q
@@ -165,15 +165,15 @@ module _ {M : Type 0} (act : Action M) where
 
   -- where a reading halts: before that byte it goes on, and there the grammar or the action refuses
   pub data Halts (i : ℕ) (r : Reading M) (s : List ℕ) (c p : ℕ) : Type 0 where
-    by-grammar : (k : ℕ) (τ : State) (ν : M) → k < length s → read act i r (take k s) ≡ going τ ν → alive (step τ (getD s k 0)) ≡ false → c ≡ 3 → p ≡ i + k → Halts i r s c p
-    by-action : (k : ℕ) (τ : State) (ν : M) → k < length s → read act i r (take k s) ≡ going τ ν → alive (step τ (getD s k 0)) ≡ true → act τ (getD s k 0) (i + k) ν ≡ refuses c p → Halts i r s c p
+    by-grammar : (k : ℕ) (τ : MachineState) (ν : M) → k < length s → read act i r (take k s) ≡ going τ ν → alive (step τ (getD s k 0)) ≡ false → c ≡ 3 → p ≡ i + k → Halts i r s c p
+    by-action : (k : ℕ) (τ : MachineState) (ν : M) → k < length s → read act i r (take k s) ≡ going τ ν → alive (step τ (getD s k 0)) ≡ true → act τ (getD s k 0) (i + k) ν ≡ refuses c p → Halts i r s c p
 
   later-halt : {i b c p : ℕ} {r : Reading M} {s : List ℕ} → Halts (suc i) (feed act i r b) s c p → Halts i r (b ∷ s) c p
   unfolding read
   later-halt {i} (Halts.by-grammar k τ ν l e a q h) = Halts.by-grammar (suc k) τ ν (omega arith) e a q (omega arith)
   later-halt {i} (Halts.by-action k τ ν l e a q) = let f : i + suc k ≡ suc i + k = omega arith in Halts.by-action (suc k) τ ν (omega arith) e a (rw f q)
 
-  pub read-halts : (s : List ℕ) (i : ℕ) (σ : State) (μ : M) (c p : ℕ) → read act i (going σ μ) s ≡ halted c p → Halts i (going σ μ) s c p
+  pub read-halts : (s : List ℕ) (i : ℕ) (σ : MachineState) (μ : M) (c p : ℕ) → read act i (going σ μ) s ≡ halted c p → Halts i (going σ μ) s c p
   unfolding read feed
   read-halts [] i σ μ c p e = absurd (let z : _≡_ {A = ℕ} 0 1 = cc in omega arith)
   read-halts (b ∷ s) i σ μ c p g = split (alive (step σ b)) refl (act σ b i μ) refl (read-halts s (suc i) (step σ b)) g

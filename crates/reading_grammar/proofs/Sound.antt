@@ -7,7 +7,7 @@ use native.Mathlib.Omega.{arith}
 use lib.Dec.{eqb, leb}
 use borrow.Author.Tests.{eqb-true, eq-eqb}
 use Rattle.reading_grammar.specs.Grammar.{starts, pick, among, listed, sameBytes, nonzero, digits, several, bondSymbols, signs, letters, marks, symbols, Digits, Number, number, Isotope, Symbol, mark, element, Hydrogens, Charge, Extension, Atom, letter, Cl, Br, At, Ts, Bridge, short, long, Bond, elided, Joint, Sequence, sequence, Pieces, Piece, branch, Text, empty, text}
-use Rattle.reading_grammar.specs.Machine.{Last, plain, afterC, afterB, Mode, seq, bond, atomNext, inside, percent, percent1, letterA, letterT, bracket, isotope, symbol1, symbolled, hydrogen, hydrogens, sign, charged, colon, extension, Out, stop, to, up, down, State, dead, start, at, lastOf, goesOn, atomOr, bridgeOr, closing, extending, charging, hydrating, symbolOr, next, turn, step, run, resting, accepting}
+use Rattle.reading_grammar.specs.Machine.{Last, plain, afterC, afterB, Mode, seq, bond, atomNext, inside, percent, percent1, letterA, letterT, bracket, isotope, symbol1, symbolled, hydrogen, hydrogens, sign, charged, colon, extension, Move, stop, to, up, down, MachineState, dead, start, at, lastOf, goesOn, atomOr, bridgeOr, closing, extending, charging, hydrating, symbolOr, next, turn, step, run, resting, accepting}
 use Rattle.reading_grammar.proofs.Ends.{EndExtension, EndCharge, EndHydrogens, EndSymbol, EndIsotope, never, run-dead}
 
 -- what completes the item that a mode is in
@@ -82,7 +82,7 @@ data Tail : ℕ → List ℕ → Type 0 where
 data Rest : Mode → ℕ → List ℕ → Type 0 where
   rest : {m : Mode} {d : ℕ} (u : List ℕ) {t : List ℕ} → Half m u → Tail d t → Rest m d (u ++ t)
 
-abbrev RestOut : Out → ℕ → List ℕ → Type 0
+abbrev RestOut : Move → ℕ → List ℕ → Type 0
 RestOut stop d s = ⊥
 RestOut (to m) d s = Rest m d s
 RestOut up d s = Rest inside (suc d) s
@@ -93,7 +93,7 @@ RestOut down (suc d) s = Rest (seq plain) d s
 data AtomRest : ℕ → ℕ → List ℕ → Type 0 where
   begun : {b d : ℕ} {u t : List ℕ} → Atom (b ∷ u) → Tail d t → AtomRest b d (u ++ t)
 
-on-pick : {G : Type 0} (d : ℕ) (s : List ℕ) (t : Bool) (a b : Out) → RestOut (pick t a b) d s → (t ≡ true → RestOut a d s → G) → (RestOut b d s → G) → G
+on-pick : {G : Type 0} (d : ℕ) (s : List ℕ) (t : Bool) (a b : Move) → RestOut (pick t a b) d s → (t ≡ true → RestOut a d s → G) → (RestOut b d s → G) → G
 on-pick d s true a b h f g = f refl h
 on-pick d s false a b h f g = g h
 
@@ -137,7 +137,7 @@ after-[ {u} b e x = subst (λ (c : ℕ). Atom (c ∷ u)) (sym (eqb-true b 91 e))
 begin : {m : Mode} {b d : ℕ} {s : List ℕ} → ((u : List ℕ) → Half m u → Atom (b ∷ u)) → Rest m d s → AtomRest b d s
 begin f (rest u h t) = begun (f u h) t
 
-on-atom : {G : Type 0} (d : ℕ) (s : List ℕ) (b : ℕ) (k : Out) → RestOut (atomOr b k) d s → (AtomRest b d s → G) → (RestOut k d s → G) → G
+on-atom : {G : Type 0} (d : ℕ) (s : List ℕ) (b : ℕ) (k : Move) → RestOut (atomOr b k) d s → (AtomRest b d s → G) → (RestOut k d s → G) → G
 unfolding atomOr
 on-atom d s b k h f g =
     on-pick d s (among b letters) _ _ h (λ e x. f (begin (λ u a. after-letter b e refl a) x)) λ h.
@@ -205,7 +205,7 @@ symbol-ends : (b : ℕ) (u : List ℕ) → SymbolRest b u → EndSymbol (b ∷ u
 symbol-ends b u (SymbolRest.alone e x) = EndSymbol.ends (element e) x
 symbol-ends b u (SymbolRest.pair e x) = EndSymbol.ends (element e) x
 
-on-symbol : {G : Type 0} (d : ℕ) (s : List ℕ) (b : ℕ) (k : Out) → RestOut (symbolOr b k) d s → (Ends EndSymbol d (b ∷ s) → G) → (RestOut k d s → G) → G
+on-symbol : {G : Type 0} (d : ℕ) (s : List ℕ) (b : ℕ) (k : Move) → RestOut (symbolOr b k) d s → (Ends EndSymbol d (b ∷ s) → G) → (RestOut k d s → G) → G
 unfolding symbolOr
 on-symbol d s b k h f g =
     on-pick d s (starts b symbols) _ _ h (λ e x. f (from-rest (symbol-ends b) x)) λ h.
@@ -248,7 +248,7 @@ down-tail (suc d) s x = close Pieces.none (tail-of x)
 long-bridge : {b : ℕ} → b ≡ 37 → (u : List ℕ) → Two u → Bridge (b ∷ u)
 long-bridge q u (two e f) = subst (λ (c : ℕ). Bridge (c ∷ u)) (sym q) (long e f)
 
-on-bridge : {G : Type 0} (d : ℕ) (s : List ℕ) (b : ℕ) (k : Out) → RestOut (bridgeOr b k) d s → (Ends Bridge d (b ∷ s) → G) → (RestOut k d s → G) → G
+on-bridge : {G : Type 0} (d : ℕ) (s : List ℕ) (b : ℕ) (k : Move) → RestOut (bridgeOr b k) d s → (Ends Bridge d (b ∷ s) → G) → (RestOut k d s → G) → G
 unfolding bridgeOr
 on-bridge d s b k h f g =
     on-pick d s (among b nonzero) _ _ h (λ e x. f (ends {u = b ∷ []} (short e) (tail-of x))) λ h.
@@ -323,7 +323,7 @@ back (extension (suc n)) d s b h =
     to-rest (map-ends (closed-ext (suc n)) (at-closing d s b h))
 
 -- ---- what is accepted from a state
-back-out : (o : Out) (d : ℕ) (s : List ℕ) → accepting (run (turn o d) s) ≡ true
+back-out : (o : Move) (d : ℕ) (s : List ℕ) → accepting (run (turn o d) s) ≡ true
     → ((m : Mode) (d : ℕ) → accepting (run (at m d) s) ≡ true → Rest m d s) → RestOut o d s
 unfolding accepting
 back-out stop d s h f = never (sym (ap accepting (run-dead s)) ∙ h)

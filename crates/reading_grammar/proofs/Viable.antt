@@ -10,7 +10,7 @@ use lib.Dec.{eqb, leb}
 use lib.ListN.{length, take, drop, replicate, take-append-drop}
 use borrow.Author.Tests.{eqb-true, eq-eqb}
 use Rattle.reading_grammar.specs.Grammar.{starts, pick, among, listed, sameBytes, nonzero, digits, several, bondSymbols, signs, letters, marks, symbols, Hydrogens, Charge, Extension, Text}
-use Rattle.reading_grammar.specs.Machine.{Last, plain, afterC, afterB, Mode, seq, bond, atomNext, inside, percent, percent1, letterA, letterT, bracket, isotope, symbol1, symbolled, hydrogen, hydrogens, sign, charged, colon, extension, Out, stop, to, up, down, State, dead, start, at, lastOf, goesOn, atomOr, bridgeOr, closing, extending, charging, hydrating, symbolOr, next, turn, step, run, resting, accepting, alive, reach, Verdict, fine, refused, verdict}
+use Rattle.reading_grammar.specs.Machine.{Last, plain, afterC, afterB, Mode, seq, bond, atomNext, inside, percent, percent1, letterA, letterT, bracket, isotope, symbol1, symbolled, hydrogen, hydrogens, sign, charged, colon, extension, Move, stop, to, up, down, MachineState, dead, start, at, lastOf, goesOn, atomOr, bridgeOr, closing, extending, charging, hydrating, symbolOr, next, turn, step, run, resting, accepting, alive, reach, Verdict, fine, refused, verdict}
 use Rattle.reading_grammar.specs.Place.{Viable, Place}
 use Rattle.reading_grammar.specs.Completion.{restOf, fill, completion}
 use Rattle.reading_grammar.proofs.Ends.{EndExtension, EndCharge, EndHydrogens, never, run-append, run-dead}
@@ -38,30 +38,30 @@ sane charged = true
 sane colon = true
 sane (extension n) = true
 
-abbrev saneOut : Out → Bool
+abbrev saneOut : Move → Bool
 saneOut stop = true
 saneOut (to m) = sane m
 saneOut up = true
 saneOut down = true
 
-abbrev pub saneState : State → Bool
+abbrev pub saneState : MachineState → Bool
 saneState dead = true
 saneState start = true
 saneState (at m d) = sane m
 
-either : (t : Bool) (a b : Out) → (t ≡ true → saneOut a ≡ true) → saneOut b ≡ true → saneOut (pick t a b) ≡ true
+either : (t : Bool) (a b : Move) → (t ≡ true → saneOut a ≡ true) → saneOut b ≡ true → saneOut (pick t a b) ≡ true
 either true a b f h = f refl
 either false a b f h = h
 
-sane-atom : (b : ℕ) (k : Out) → saneOut k ≡ true → saneOut (atomOr b k) ≡ true
+sane-atom : (b : ℕ) (k : Move) → saneOut k ≡ true → saneOut (atomOr b k) ≡ true
 unfolding atomOr sane
 sane-atom b k h = either (among b letters) _ _ (λ e. refl) (either (eqb b 65) _ _ (λ e. refl) (either (eqb b 84) _ _ (λ e. refl) (either (eqb b 91) _ _ (λ e. refl) h)))
 
-sane-bridge : (b : ℕ) (k : Out) → saneOut k ≡ true → saneOut (bridgeOr b k) ≡ true
+sane-bridge : (b : ℕ) (k : Move) → saneOut k ≡ true → saneOut (bridgeOr b k) ≡ true
 unfolding bridgeOr sane
 sane-bridge b k h = either (among b nonzero) _ _ (λ e. refl) (either (eqb b 37) _ _ (λ e. refl) h)
 
-sane-symbol : (b : ℕ) (k : Out) → saneOut k ≡ true → saneOut (symbolOr b k) ≡ true
+sane-symbol : (b : ℕ) (k : Move) → saneOut k ≡ true → saneOut (symbolOr b k) ≡ true
 unfolding symbolOr sane
 sane-symbol b k h = either (starts b symbols) _ _ (λ e. e) (either (among b marks) _ _ (λ e. refl) h)
 
@@ -110,7 +110,7 @@ sane-next colon b = either (among b nonzero) _ _ (λ e. refl) refl
 sane-next (extension zero) b = sane-closing b
 sane-next (extension (suc n)) b = either (among b digits) _ _ (λ e. refl) (sane-closing b)
 
-sane-turn : (o : Out) (d : ℕ) → saneOut o ≡ true → saneState (turn o d) ≡ true
+sane-turn : (o : Move) (d : ℕ) → saneOut o ≡ true → saneState (turn o d) ≡ true
 unfolding sane
 sane-turn stop d h = refl
 sane-turn (to m) d h = h
@@ -118,13 +118,13 @@ sane-turn up d h = refl
 sane-turn down zero h = refl
 sane-turn down (suc d) h = refl
 
-sane-step : (σ : State) (b : ℕ) → saneState (step σ b) ≡ true
+sane-step : (σ : MachineState) (b : ℕ) → saneState (step σ b) ≡ true
 unfolding step
 sane-step dead b = refl
 sane-step start b = sane-turn (atomOr b stop) 0 (sane-atom b stop refl)
 sane-step (at m d) b = sane-turn (next m b) d (sane-next m b)
 
-sane-run : (s : List ℕ) (σ : State) → saneState σ ≡ true → saneState (run σ s) ≡ true
+sane-run : (s : List ℕ) (σ : MachineState) → saneState σ ≡ true → saneState (run σ s) ≡ true
 unfolding run
 sane-run [] σ h = h
 sane-run (b ∷ s) σ h = sane-run s (step σ b) (sane-step σ b)
@@ -154,7 +154,7 @@ unfolding next run step
 fill-symbol a d h =
     let e : listed (a ∷ restOf a symbols) symbols ≡ true = starts-listed a symbols h in
     let q : Runs (at bracket d) (a ∷ (restOf a symbols ++ 93 ∷ [])) (at (seq plain) d) = takes-element bracket (a ∷ restOf a symbols) (λ b. (_, refl)) e plain-end in
-    record { is = ap (λ (o : Out). run (turn o d) (restOf a symbols ++ 93 ∷ [])) (sym (on-element a (restOf a symbols) e _)) ∙ q .is }
+    record { is = ap (λ (o : Move). run (turn o d) (restOf a symbols ++ 93 ∷ [])) (sym (on-element a (restOf a symbols) e _)) ∙ q .is }
 
 fills : (m : Mode) (d : ℕ) → sane m ≡ true → Reaches (at m d) (fill m) d
 unfolding sane fill next run step atomOr bridgeOr among letters bondSymbols nonzero digits several signs symbolOr starts symbols closing extending charging hydrating listed sameBytes marks
@@ -183,7 +183,7 @@ closes : (d : ℕ) (x : Last) → Reaches (at (seq x) d) (replicate d 41) 0
 closes zero x = record { last = x; runs = stay }
 closes (suc d) x = let r = closes d plain in record { last = r .last; runs = via (one-down x d) (r .runs) }
 
-pub completes : (σ : State) → saneState σ ≡ true → alive σ ≡ true → accepting (run σ (completion σ)) ≡ true
+pub completes : (σ : MachineState) → saneState σ ≡ true → alive σ ≡ true → accepting (run σ (completion σ)) ≡ true
 unfolding accepting resting completion run
 completes dead h a = never a
 completes start h a = refl
@@ -200,7 +200,7 @@ viable s a = (
       (ap accepting (run-append s (completion (run start s)) start) ∙ completes (run start s) (sane-run s start refl) a),
 )
 
-alive-of : (σ : State) (t : List ℕ) → accepting (run σ t) ≡ true → alive σ ≡ true
+alive-of : (σ : MachineState) (t : List ℕ) → accepting (run σ t) ≡ true → alive σ ≡ true
 unfolding accepting
 alive-of dead t h = never (sym (ap accepting (run-dead t)) ∙ h)
 alive-of start t h = refl
@@ -213,12 +213,12 @@ pub viable-iff : (s : List ℕ) → Viable s ↔ (alive (run start s) ≡ true)
 viable-iff s = (live s, viable s)
 
 -- ---- the place
-pub record Reached (σ : State) (s : List ℕ) (p : ℕ) : Type 0 where
+pub record Reached (σ : MachineState) (s : List ℕ) (p : ℕ) : Type 0 where
   pub fits : p ≤ length s
   pub before : (i : ℕ) → i ≤ p → alive (run σ (take i s)) ≡ true
   pub here : p < length s → alive (run σ (take (suc p) s)) ≡ false
 
-pub reach-from : (s : List ℕ) (σ : State) → alive σ ≡ true → Reached σ s (reach σ s)
+pub reach-from : (s : List ℕ) (σ : MachineState) → alive σ ≡ true → Reached σ s (reach σ s)
 unfolding reach run
 reach-from [] σ a = record { fits = omega arith; before = now; here = λ h. absurd (omega arith) }
   where

@@ -4,7 +4,7 @@ use Prim.Native.Nat.{ℕ, zero, suc}
 use lib.Dec.{eqb}
 use lib.ListN.{replicate}
 use Rattle.reading_grammar.specs.Grammar.{pick, symbols}
-use Rattle.reading_grammar.specs.Machine.{Mode, seq, bond, atomNext, inside, percent, percent1, letterA, letterT, bracket, isotope, symbol1, symbolled, hydrogen, hydrogens, sign, charged, colon, extension, State, dead, start, at}
+use Rattle.reading_grammar.specs.Machine.{Mode, seq, bond, atomNext, inside, percent, percent1, letterA, letterT, bracket, isotope, symbol1, symbolled, hydrogen, hydrogens, sign, charged, colon, extension, MachineState, dead, start, at}
 
 -- the rest of the first word that begins with a
 unfoldable pub restOf : ℕ → List (List ℕ) → List ℕ
@@ -34,7 +34,7 @@ fill colon = 49 ∷ 93 ∷ []
 fill (extension n) = 93 ∷ []
 
 -- bytes that complete a text
-unfoldable pub completion : State → List ℕ
+unfoldable pub completion : MachineState → List ℕ
 completion dead = []
 completion start = []
 completion (at m d) = fill m ++ replicate d 41

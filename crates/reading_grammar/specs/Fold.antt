@@ -5,7 +5,7 @@ use mathlib.Core.List.{List, [], _∷_, _++_}
 use Prim.Native.Nat.{ℕ, zero, suc}
 use lib.ListN.{length}
 use Rattle.reading_grammar.specs.Grammar.{pick}
-use Rattle.reading_grammar.specs.Machine.{State, start, step, alive, accepting}
+use Rattle.reading_grammar.specs.Machine.{MachineState, start, step, alive, accepting}
 
 pub data Act (M : Type 0) : Type 0 where
   keeps : M → Act M
@@ -13,13 +13,13 @@ pub data Act (M : Type 0) : Type 0 where
 
 -- at a state, for a byte, at a place
 abbrev pub Action : Type 0 → Type 0
-Action M = State → ℕ → ℕ → M → Act M
+Action M = MachineState → ℕ → ℕ → M → Act M
 
 pub data Reading (M : Type 0) : Type 0 where
-  going : State → M → Reading M
+  going : MachineState → M → Reading M
   halted : ℕ → ℕ → Reading M
 
-abbrev pub after : {M : Type 0} → State → Act M → Reading M
+abbrev pub after : {M : Type 0} → MachineState → Act M → Reading M
 after σ (keeps μ) = going σ μ
 after σ (refuses c p) = halted c p
 
@@ -32,13 +32,13 @@ unfoldable pub read : {M : Type 0} → Action M → ℕ → Reading M → List �
 read act i r [] = r
 read act i r (b ∷ s) = read act (suc i) (feed act i r b) s
 
-pub data Answer (M : Type 0) : Type 0 where
-  good : M → Answer M
-  bad : ℕ → ℕ → Answer M
+pub data Verdict (M : Type 0) : Type 0 where
+  good : M → Verdict M
+  bad : ℕ → ℕ → Verdict M
 
-abbrev pub finish : {M : Type 0} → ℕ → Reading M → Answer M
+abbrev pub finish : {M : Type 0} → ℕ → Reading M → Verdict M
 finish n (going σ μ) = pick (accepting σ) (good μ) (bad 3 n)
 finish n (halted c p) = bad c p
 
-unfoldable pub answer : {M : Type 0} → Action M → M → List ℕ → Answer M
+unfoldable pub answer : {M : Type 0} → Action M → M → List ℕ → Verdict M
 answer act μ s = finish (length s) (read act 0 (going start μ) s)

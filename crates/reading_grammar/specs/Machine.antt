@@ -9,46 +9,46 @@ pub use Rattle.reading_grammar.specs.declared.Last.{Last}
 pub use Rattle.reading_grammar.specs.declared.Last.the-variants.{Plain as plain, AfterC as afterC, AfterB as afterB}
 pub use Rattle.reading_grammar.specs.declared.Mode.{Mode}
 pub use Rattle.reading_grammar.specs.declared.Mode.the-variants.{Seq as seq, Bond as bond, AtomNext as atomNext, Inside as inside, Percent as percent, Percent1 as percent1, LetterA as letterA, LetterT as letterT, Bracket as bracket, Isotope as isotope, Symbol1 as symbol1, Symbolled as symbolled, Hydrogen as hydrogen, Hydrogens as hydrogens, Sign as sign, Charged as charged, Colon as colon, Extension as extension}
-pub use Rattle.reading_grammar.specs.declared.Out.{Out}
-pub use Rattle.reading_grammar.specs.declared.Out.the-variants.{Stop as stop, To as to, Up as up, Down as down}
-pub use Rattle.reading_grammar.specs.declared.State.{State}
-pub use Rattle.reading_grammar.specs.declared.State.the-variants.{Dead as dead, Start as start, At as at}
+pub use Rattle.reading_grammar.specs.declared.Move.{Move}
+pub use Rattle.reading_grammar.specs.declared.Move.the-variants.{Stop as stop, To as to, Up as up, Down as down}
+pub use Rattle.reading_grammar.specs.declared.MachineState.{MachineState}
+pub use Rattle.reading_grammar.specs.declared.MachineState.the-variants.{Dead as dead, Start as start, At as at}
 use Rattle.reading_grammar.specs.Grammar.{pick, among, listed, sameBytes, starts, nonzero, digits, several, bondSymbols, signs, letters, marks, symbols}
 
 abbrev pub lastOf : ℕ → Last
 lastOf b = pick (eqb b 67) afterC (pick (eqb b 66) afterB plain)
 
-abbrev pub goesOn : Last → ℕ → Out
+abbrev pub goesOn : Last → ℕ → Move
 goesOn plain b = stop
 goesOn afterC b = pick (eqb b 108) (to (seq plain)) stop
 goesOn afterB b = pick (eqb b 114) (to (seq plain)) stop
 
 -- an atom's first byte, or else k
-unfoldable pub atomOr : ℕ → Out → Out
+unfoldable pub atomOr : ℕ → Move → Move
 atomOr b k =
     pick (among b letters) (to (seq (lastOf b)))
     (pick (eqb b 65) (to letterA) (pick (eqb b 84) (to letterT) (pick (eqb b 91) (to bracket) k)))
 
-unfoldable pub bridgeOr : ℕ → Out → Out
+unfoldable pub bridgeOr : ℕ → Move → Move
 bridgeOr b k = pick (among b nonzero) (to (seq plain)) (pick (eqb b 37) (to percent) k)
 
-unfoldable pub closing : ℕ → Out
+unfoldable pub closing : ℕ → Move
 closing b = pick (eqb b 93) (to (seq plain)) stop
 
-unfoldable pub extending : ℕ → Out
+unfoldable pub extending : ℕ → Move
 extending b = pick (eqb b 58) (to colon) (closing b)
 
-unfoldable pub charging : ℕ → Out
+unfoldable pub charging : ℕ → Move
 charging b = pick (among b signs) (to sign) (extending b)
 
-unfoldable pub hydrating : ℕ → Out
+unfoldable pub hydrating : ℕ → Move
 hydrating b = pick (eqb b 72) (to hydrogen) (charging b)
 
 -- a symbol's first byte, or else k
-unfoldable pub symbolOr : ℕ → Out → Out
+unfoldable pub symbolOr : ℕ → Move → Move
 symbolOr b k = pick (starts b symbols) (to (symbol1 b)) (pick (among b marks) (to symbolled) k)
 
-unfoldable pub next : Mode → ℕ → Out
+unfoldable pub next : Mode → ℕ → Move
 next (seq x) b =
     atomOr b (bridgeOr b
     (pick (among b bondSymbols) (to bond) (pick (eqb b 46) (to atomNext)
@@ -74,19 +74,19 @@ next (extension zero) b = closing b
 next (extension (suc n)) b = pick (among b digits) (to (extension n)) (closing b)
 
 -- the depth of open branches
-abbrev pub turn : Out → ℕ → State
+abbrev pub turn : Move → ℕ → MachineState
 turn stop d = dead
 turn (to m) d = at m d
 turn up d = at inside (suc d)
 turn down zero = dead
 turn down (suc d) = at (seq plain) d
 
-unfoldable pub step : State → ℕ → State
+unfoldable pub step : MachineState → ℕ → MachineState
 step dead b = dead
 step start b = turn (atomOr b stop) 0
 step (at m d) b = turn (next m b) d
 
-unfoldable pub run : State → List ℕ → State
+unfoldable pub run : MachineState → List ℕ → MachineState
 run σ [] = σ
 run σ (b ∷ s) = run (step σ b) s
 
@@ -111,18 +111,18 @@ resting charged d = false
 resting colon d = false
 resting (extension n) d = false
 
-unfoldable pub accepting : State → Bool
+unfoldable pub accepting : MachineState → Bool
 accepting dead = false
 accepting start = true
 accepting (at m d) = resting m d
 
-abbrev pub alive : State → Bool
+abbrev pub alive : MachineState → Bool
 alive dead = false
 alive start = true
 alive (at m d) = true
 
 -- how many bytes are read before the machine is dead
-unfoldable pub reach : State → List ℕ → ℕ
+unfoldable pub reach : MachineState → List ℕ → ℕ
 reach σ [] = 0
 reach σ (b ∷ s) = let r : ℕ = suc (reach (step σ b) s) in pick (alive (step σ b)) r 0
 

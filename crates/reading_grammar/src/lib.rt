@@ -30,7 +30,7 @@ pub enum Mode {
 }
 
 // What a byte does: no text goes on with it, a mode follows, a branch opens, a branch closes.
-pub enum Out {
+pub enum Move {
     Stop,
     To(Mode),
     Up,
@@ -38,7 +38,7 @@ pub enum Out {
 }
 
 // The machine: no text begins so, nothing read yet, or a mode with the number of open branches.
-pub enum State {
+pub enum MachineState {
     Dead,
     Start,
     At(Mode, u32),

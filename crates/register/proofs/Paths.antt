@@ -12,7 +12,7 @@ use borrow.Author.Tests.{ne-eqb, eq-eqb, le-leb, lt-leb, lt-ltb, le-ltb}
 use Rattle.loops.specs.Loop.{pick, each}
 use Rattle.register.specs.Layout.{size, maxEntries, maxBody, firstBody, count, entryAt, startOf, lengthOf, endBefore, validEntry, valid, used, bodyOf}
 use Rattle.register.specs.Adding.{fits, low, high, entryBytes, steps, stepWith, stepOf, afterWith, addedAfter}
-use Rattle.register.specs.declared.Answer.the-variants.{Done, Short, Invalid, Full}
+use Rattle.register.specs.declared.RegisterAnswer.the-variants.{Done, Short, Invalid, Full}
 use Rattle.register.specs.Answers.{refusing, out, addingOf}
 use Rattle.register.proofs.Rules.{valid-is}
 use Rattle.register.proofs.Stores.{lt-or-le, step-in, step-out, place-body, place-entry, place-last, value-body, value-entry, value-last}

@@ -10,7 +10,7 @@ use lib.Seq.{getD-set-same, getD-set-other}
 use borrow.Author.Tests.{lt-ltb, le-ltb}
 use Rattle.loops.specs.Loop.{each, upTo}
 use Rattle.loops.proofs.Loops.{length-upTo, upTo-at}
-use Rattle.register.specs.declared.Answer.the-variants.{Done, Invalid, Full}
+use Rattle.register.specs.declared.RegisterAnswer.the-variants.{Done, Invalid, Full}
 use Rattle.register.specs.declared.Found.the-variants as found
 use Rattle.register.specs.Layout.{size, firstBody, count, startOf, lengthOf, tagOf, endBefore, valid, used, invalid, listed, Entry, bodyOf, entryOf, entriesOf, listedOf}
 use Rattle.register.specs.Adding.{fits, steps, addedAfter, newEntry}

@@ -7,7 +7,7 @@ use mathlib.Core.List.{List, [], _∷_, _++_, append-assoc, append-nil}
 use lib.ListN.{length, length-append}
 use borrow.Author.Tests.{lt-ltb, le-ltb, le-leb, lt-leb}
 use Rattle.loops.specs.Loop.{pick}
-use Rattle.register.specs.declared.Answer.the-variants.{Done, Full}
+use Rattle.register.specs.declared.RegisterAnswer.the-variants.{Done, Full}
 use Rattle.register.specs.Layout.{size, maxEntries, firstBody, maxBody, Listed, listed, Entry, listedOf}
 use Rattle.register.specs.Adding.{steps}
 use Rattle.register.specs.Answers.{codeOf, emptiedOf, addedOf}

@@ -6,8 +6,8 @@ use mathlib.Core.List.{List, [], _∷_, _++_}
 use lib.ListN.{length, getD, take}
 use lib.Dec.{ltb, leb}
 use Rattle.loops.specs.Loop.{pick}
-use Rattle.register.specs.declared.Answer.{Answer}
-use Rattle.register.specs.declared.Answer.the-variants.{Done, Invalid, Full}
+use Rattle.register.specs.declared.RegisterAnswer.{RegisterAnswer}
+use Rattle.register.specs.declared.RegisterAnswer.the-variants.{Done, Invalid, Full}
 use Rattle.register.specs.declared.Found.the-variants as found
 use Rattle.register.specs.Layout.{size, maxEntries, firstBody, maxBody, Listed, invalid, listed, Entry}
 use Rattle.register.specs.Adding.{addedAfter, newEntry}
@@ -71,7 +71,7 @@ abbrev pub addTo : ℕ → List ℕ → Listed → Listed
 addTo t b invalid = invalid
 addTo t b (listed es) = pick (roomFor es (length b)) (listed (es ++ (newEntry t b ∷ []))) (listed es)
 
-abbrev pub addTold : Listed → ℕ → Answer
+abbrev pub addTold : Listed → ℕ → RegisterAnswer
 addTold invalid m = Invalid
 addTold (listed es) m = pick (roomFor es m) Done Full
 

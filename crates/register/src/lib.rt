@@ -7,7 +7,7 @@ mod contents;
 mod store;
 
 // What a call that changes the register answers; a refusal leaves the register as it was.
-pub enum Answer {
+pub enum RegisterAnswer {
     Done,
     // Under 32,768 bytes.
     Short,
@@ -32,63 +32,63 @@ pub enum Found {
 }
 
 // The code of an answer: 0, 1, 17 or 18.
-pub fn code(a: Answer) -> u32
+pub fn code(a: RegisterAnswer) -> u32
     ensures { λ c. ⌜ c ≡ codeOf a ⌝ }
 {
     match a {
-        Answer::Done => 0,
-        Answer::Short => 1,
-        Answer::Invalid => 17,
-        Answer::Full => 18,
+        RegisterAnswer::Done => 0,
+        RegisterAnswer::Short => 1,
+        RegisterAnswer::Invalid => 17,
+        RegisterAnswer::Full => 18,
     }
 }
 
 // Empties a register of full length, whatever stands in it: bytes 0 and 1 are stored, no more. Refusal 1.
-pub fn empty(register: &mut [u8]) -> Answer
+pub fn empty(register: &mut [u8]) -> RegisterAnswer
     ensures { λ a. ⌜ out a (now (register .exit)) ≡ emptiedOf (now (register .entry)) ⌝ }
 {
     if register.len() < SIZE {
-        return Answer::Short;
+        return RegisterAnswer::Short;
     }
     register[1] = 0;
     register[0] = 1;
-    Answer::Done
+    RegisterAnswer::Done
 }
 
 // Step k of adding, for k = 0, 1, .. in order: stores at most one byte, byte 1 with the last. Past the last step nothing changes. Refusals 1, 17, 18.
-pub fn step(register: &mut [u8], tag: u16, body: &[u8], k: usize) -> Answer
+pub fn step(register: &mut [u8], tag: u16, body: &[u8], k: usize) -> RegisterAnswer
     ensures { λ a. ⌜ out a (now (register .exit)) ≡ steppedOf (now (register .entry)) tag (now (body .entry)) k ⌝ }
 {
     if register.len() < SIZE {
-        return Answer::Short;
+        return RegisterAnswer::Short;
     }
     if !contents::valid(register) {
-        return Answer::Invalid;
+        return RegisterAnswer::Invalid;
     }
     if !contents::fits(register, body.len()) {
-        return Answer::Full;
+        return RegisterAnswer::Full;
     }
     let n = contents::count(register);
     let e = contents::end_before(register, n);
     store::store(register, n, e, tag, body, k);
-    Answer::Done
+    RegisterAnswer::Done
 }
 
 // Adds an entry: every step, in order. Refusals 1, 17, 18.
-pub fn add(register: &mut [u8], tag: u16, body: &[u8]) -> Answer
+pub fn add(register: &mut [u8], tag: u16, body: &[u8]) -> RegisterAnswer
     ensures { λ a. ⌜ out a (now (register .exit)) ≡ addedOf (now (register .entry)) tag (now (body .entry)) ⌝ }
 {
     if register.len() < SIZE {
-        return Answer::Short;
+        return RegisterAnswer::Short;
     }
     if !contents::valid(register) {
-        return Answer::Invalid;
+        return RegisterAnswer::Invalid;
     }
     if !contents::fits(register, body.len()) {
-        return Answer::Full;
+        return RegisterAnswer::Full;
     }
     store::store_all(register, tag, body);
-    Answer::Done
+    RegisterAnswer::Done
 }
 
 // The entry at a place counted from 0. Refusals 1, 17.

@@ -3,7 +3,7 @@ use Prim.Native.Nat.{ℕ, zero, suc, _+_}
 use mathlib.Core.List.{List, [], _∷_}
 use lib.Dec.{ltb, eqb}
 use Rattle.loops.specs.Loop.{pick}
-use Rattle.register.specs.declared.Answer.the-variants.{Done, Short, Invalid}
+use Rattle.register.specs.declared.RegisterAnswer.the-variants.{Done, Short, Invalid}
 use Rattle.register.specs.Layout.{count, startOf, lengthOf, tagOf, Entry}
 use Rattle.register.specs.Adding.{newEntry}
 use Rattle.register.specs.Answers.{codeOf, refusing, bodyAt}

@@ -2,8 +2,8 @@
 ghost use mathlib.Core.Path.{_≡_};
 ghost use Rattle.register.specs.Answers.{codeOf, bodyAt};
 ghost use Rattle.register_walk.specs.Walk.{startedOf, walkedOut, walkedOf};
-use register::Answer;
 use register::Found;
+use register::RegisterAnswer;
 
 // What a step of a walk answers.
 pub enum Walked {
@@ -21,19 +21,19 @@ pub enum Walked {
 }
 
 // Whether a walk can start: 0, 1 or 17.
-pub fn start(register: &[u8]) -> Answer
+pub fn start(register: &[u8]) -> RegisterAnswer
     ensures { λ a. ⌜ codeOf a ≡ startedOf (now (register .entry)) ⌝ }
 {
     let found = register::entry(register, 0);
     match found {
-        Found::Short => Answer::Short,
-        Found::Invalid => Answer::Invalid,
-        Found::Missing => Answer::Done,
+        Found::Short => RegisterAnswer::Short,
+        Found::Invalid => RegisterAnswer::Invalid,
+        Found::Missing => RegisterAnswer::Done,
         Found::At {
             tag: _,
             start: _,
             length: _,
-        } => Answer::Done,
+        } => RegisterAnswer::Done,
     }
 }
 

@@ -18,7 +18,7 @@ use Rattle.matching.specs.declared.Call.the-variants.{First}
 use Rattle.reading.specs.Read as read
 use Rattle.reading.proofs.Accepted.{read-valid}
 use Rattle.reader.specs.Ending as reader
-use Rattle.reader.specs.declared.ending.Answer as reply
+use Rattle.reader.specs.declared.ending.ReadAnswer as reply
 use Rattle.kekule.specs.Kekule.{KekulizeReply, CallReply, out, tables, callOn, kekulizedOf}
 use Rattle.kekule_answers.specs.declared.Found.{Found}
 use Rattle.writing.specs.Write as write
@@ -63,19 +63,19 @@ reported w = record { text = w .text; flag = w .flag }
 
 -- ---- reading
 
-module _ (s : List ℕ) (a b : List ℤ) (x : reply.Answer) (told : reader.told x a b ≡ readBlank s) where
-  pub read-refused : {r : Refusal} {p : ℕ} → x ≡ reply.Answer.Refused r p → entryOf s ≡ refusedAs (codeOf r) p
+module _ (s : List ℕ) (a b : List ℤ) (x : reply.ReadAnswer) (told : reader.told x a b ≡ readBlank s) where
+  pub read-refused : {r : Refusal} {p : ℕ} → x ≡ reply.ReadAnswer.Refused r p → entryOf s ≡ refusedAs (codeOf r) p
   unfolding entryOf
   read-refused {r} {p} e =
       ap ofRead (sym told) ∙ ap (λ y. ofRead (reader.told y a b)) e ∙ ap (λ t. pick t (ofMolecule a b 0 0) (refusedAs (codeOf r) p)) (code-not-zero r)
 
-  pub read-molecule : {n m : ℕ} → x ≡ reply.Answer.Molecule n m → entryOf s ≡ ofMolecule a b n m
+  pub read-molecule : {n m : ℕ} → x ≡ reply.ReadAnswer.Molecule n m → entryOf s ≡ ofMolecule a b n m
   unfolding entryOf
   read-molecule e = ap ofRead (sym told) ∙ ap (λ y. ofRead (reader.told y a b)) e
 
-  pub few-bonds : {n m : ℕ} → x ≡ reply.Answer.Molecule n m → m ≤ maxBonds
+  pub few-bonds : {n m : ℕ} → x ≡ reply.ReadAnswer.Molecule n m → m ≤ maxBonds
   few-bonds {n} {m} e =
-      let same : reader.told (reply.Answer.Molecule n m) a b ≡ readBlank s = ap (λ y. reader.told y a b) (sym e) ∙ told in
+      let same : reader.told (reply.ReadAnswer.Molecule n m) a b ≡ readBlank s = ap (λ y. reader.told y a b) (sym e) ∙ told in
       subst (λ (t : read.ReadResult). t .bondCount ≤ maxBonds) (sym same) (read-valid s _ _ (ap (λ (t : read.ReadResult). t .code) (sym same)) .few-bonds)
 
 -- ---- writing the molecule

@@ -6,7 +6,7 @@ ghost use Rattle.buffer.specs.Buffer.{bufferAt};
 ghost use Rattle.report_entry.specs.Entry.{refusedAs, ofMolecule};
 ghost use Rattle.report_entry.specs.Laid.{Says, Reports};
 use ids::MAX_TEXT;
-use reader::ending::Answer;
+use reader::ending::ReadAnswer;
 use refusal::Refusal;
 use report_lines::output;
 use table::ATOM_CELLS;
@@ -71,7 +71,7 @@ pub fn report_line(k: usize, s: &[u8], out: &mut [u8], at: usize) -> Reported
     let mut bonds = [0i32; BOND_CELLS * MAX_BONDS];
     let a = reader::read(s, &mut atoms, &mut bonds);
     match a {
-        Answer::Refused(r, p) => refuse(k, r, p, out, at),
-        Answer::Molecule(n, m) => report_molecule(k, &mut atoms, &mut bonds, n, m, out, at),
+        ReadAnswer::Refused(r, p) => refuse(k, r, p, out, at),
+        ReadAnswer::Molecule(n, m) => report_molecule(k, &mut atoms, &mut bonds, n, m, out, at),
     }
 }

@@ -14,8 +14,8 @@ use Rattle.loops.proofs.Loops.{and-left, and-right}
 use Rattle.element.specs.Symbols.{among, letters}
 use Rattle.element.specs.Lookup.{selectedOf, letterOf, bare}
 use Rattle.reading_grammar.specs.declared.Last.the-variants.{Plain as plain}
-use Rattle.reading_grammar.specs.declared.State.{State}
-use Rattle.reading_grammar.specs.declared.State.the-variants.{At as at}
+use Rattle.reading_grammar.specs.declared.MachineState.{MachineState}
+use Rattle.reading_grammar.specs.declared.MachineState.the-variants.{At as at}
 use Rattle.reading_grammar.specs.Machine.{atomOr}
 use Rattle.valence.specs.Valence.{implied}
 use Rattle.table_graph.specs.Graph.{bondSum}
@@ -106,7 +106,7 @@ module _ (atoms bonds : List ℤ) (m v : ℕ) where
           let w : _≡_ {A = Bool} false true = and-right i false (and-left (i && false) x (and-left (i && false && x) b (and-left (i && false && x && b) y g))) in
           absurd (let z : _≡_ {A = ℕ} 0 1 = cc in omega arith)
 
-  takes-brackets : AtomFine atoms v → (i : ℕ) (σ : State) (d : ℕ) (μ : Memory) → Begins σ d → Room μ
+  takes-brackets : AtomFine atoms v → (i : ℕ) (σ : MachineState) (d : ℕ) (μ : Memory) → Begins σ d → Room μ
       → Atomed i σ d μ (bracketBytes atoms v) (rowOf fieldsAt) 0
   unfolding bracketBytes begun atomOr among letters letterOf selectedOf
   takes-brackets f i σ d μ g r =
@@ -117,7 +117,7 @@ module _ (atoms bonds : List ℤ) (m v : ℕ) where
       record { last = plain; draft = fieldsAt; is = byte 91 _ (g .goes 91 .1) refl (g .does 91 i μ refl ∙ first 91 i μ r) (w .is (suc i) d (begun 0 μ)) }
 
   -- THE ATOM
-  pub takes-atom : AtomFine atoms v → (i : ℕ) (σ : State) (d : ℕ) (μ : Memory) → Begins σ d → Room μ → Atomed i σ d μ (atomBytes atoms bonds m v) draftRow outsideFlag
+  pub takes-atom : AtomFine atoms v → (i : ℕ) (σ : MachineState) (d : ℕ) (μ : Memory) → Begins σ d → Room μ → Atomed i σ d μ (atomBytes atoms bonds m v) draftRow outsideFlag
   unfolding spelledAtom draftRow outsideFlag
   takes-atom f i σ d μ g r = go (unbracketed atoms bonds m v) refl
     where

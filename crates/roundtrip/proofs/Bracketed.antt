@@ -11,9 +11,9 @@ use Rattle.reading_grammar.specs.Grammar.{nonzero, digits, several, signs, Digi
 use Rattle.reading_grammar.specs.declared.Last.the-variants.{Plain as plain}
 use Rattle.reading_grammar.specs.declared.Mode.{Mode}
 use Rattle.reading_grammar.specs.declared.Mode.the-variants.{Seq as seq, Symbolled as symbolled, Hydrogen as hydrogen, Hydrogens as hydrogens, Sign as sign, Charged as charged, Colon as colon, Extension as extension}
-use Rattle.reading_grammar.specs.declared.Out.{Out}
-use Rattle.reading_grammar.specs.declared.Out.the-variants.{To as to}
-use Rattle.reading_grammar.specs.declared.State.the-variants.{At as at}
+use Rattle.reading_grammar.specs.declared.Move.{Move}
+use Rattle.reading_grammar.specs.declared.Move.the-variants.{To as to}
+use Rattle.reading_grammar.specs.declared.MachineState.the-variants.{At as at}
 use Rattle.reading_grammar.specs.Machine.{turn, step, next, closing, extending, charging, hydrating}
 use Rattle.reading_grammar.specs.Fold.{keeps}
 use Rattle.reading_state.specs.declared.Fields.{Fields}
@@ -38,7 +38,7 @@ pub record Moves (m : Mode) (D : Fields) (b : ℕ) (n : Mode) (E : Fields) : Typ
 
 pub via : {m n : Mode} {D E F : Fields} {b : ℕ} {s : List ℕ} → Moves m D b n E → Ends n E s F → Ends m D (b ∷ s) F
 unfolding step act
-via {b = b} {s = s} v e = record { is = λ i d μ. byte b s (ap (λ (o : Out). turn o d) (v .goes)) refl (v .does i μ) (e .is (suc i) d μ) }
+via {b = b} {s = s} v e = record { is = λ i d μ. byte b s (ap (λ (o : Move). turn o d) (v .goes)) refl (v .does i μ) (e .is (suc i) d μ) }
 
 -- a mode in which the bracket may be shut
 pub record Shuts (m : Mode) : Type 0 where
@@ -47,7 +47,7 @@ pub record Shuts (m : Mode) : Type 0 where
 
 shut : {m : Mode} (D : Fields) → Shuts m → Ends m D (93 ∷ []) D
 unfolding step act
-shut D v = record { is = λ i d μ. byte 93 [] (ap (λ (o : Out). turn o d) (v .goes)) refl (v .does i (drafted D μ)) stays }
+shut D v = record { is = λ i d μ. byte 93 [] (ap (λ (o : Move). turn o d) (v .goes)) refl (v .does i (drafted D μ)) stays }
 
 -- one in which an extension may begin, a charge, the hydrogens
 pub record Extends (m : Mode) : Type 0 where

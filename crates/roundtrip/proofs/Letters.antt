@@ -17,10 +17,10 @@ use Rattle.reading_grammar.specs.declared.Last.{Last}
 use Rattle.reading_grammar.specs.declared.Last.the-variants.{Plain as plain, AfterC as afterC, AfterB as afterB}
 use Rattle.reading_grammar.specs.declared.Mode.{Mode}
 use Rattle.reading_grammar.specs.declared.Mode.the-variants.{Seq as seq, Bond as bond, AtomNext as atomNext, Inside as inside, LetterA as letterA, LetterT as letterT}
-use Rattle.reading_grammar.specs.declared.Out.{Out}
-use Rattle.reading_grammar.specs.declared.Out.the-variants.{Stop as stop, To as to}
-use Rattle.reading_grammar.specs.declared.State.{State}
-use Rattle.reading_grammar.specs.declared.State.the-variants.{Start as start, At as at}
+use Rattle.reading_grammar.specs.declared.Move.{Move}
+use Rattle.reading_grammar.specs.declared.Move.the-variants.{Stop as stop, To as to}
+use Rattle.reading_grammar.specs.declared.MachineState.{MachineState}
+use Rattle.reading_grammar.specs.declared.MachineState.the-variants.{Start as start, At as at}
 use Rattle.reading_grammar.specs.Machine.{turn, step, next, atomOr, bridgeOr}
 use Rattle.reading_grammar.specs.Fold.{keeps}
 use Rattle.table.specs.declared.Atom.{Atom}
@@ -49,8 +49,8 @@ or-atom Bracket a k h = refl
 or-atom Nothing a k h = absurd (let z : _≡_ {A = ℕ} 0 1 = cc in omega arith)
 
 -- a state in which an atom may begin, at a depth
-pub record Begins (σ : State) (d : ℕ) : Type 0 where
-  pub goes : (b : ℕ) → (k : Out) × (step σ b ≡ turn (atomOr b k) d)
+pub record Begins (σ : MachineState) (d : ℕ) : Type 0 where
+  pub goes : (b : ℕ) → (k : Move) × (step σ b ≡ turn (atomOr b k) d)
   pub does : (b i : ℕ) (μ : Memory) → begins? (letterOf b) ≡ true → act σ b i μ ≡ atomAct b i μ
 
 pub begins-start : Begins start 0
@@ -80,7 +80,7 @@ pub record Room (μ : Memory) : Type 0 where
   pub cells : atomCells * (μ .st .atoms) + atomCells ≤ length (μ .atoms)
 
 -- the bytes are one atom more, with the row x; w: 1 outside brackets
-pub record Atomed (i : ℕ) (σ : State) (d : ℕ) (μ : Memory) (s : List ℕ) (x : Atom) (w : ℕ) : Type 0 where
+pub record Atomed (i : ℕ) (σ : MachineState) (d : ℕ) (μ : Memory) (s : List ℕ) (x : Atom) (w : ℕ) : Type 0 where
   pub last : Last
   pub draft : Fields
   pub is : Takes i σ μ s (at (seq last) d) (described x (drafted draft (begun w μ)))
@@ -90,28 +90,28 @@ unfolding atomAct
 first b i μ r = rw (r .atoms, r .bonds)
 
 abbrev Outside : ℕ → ℕ → List ℕ → Type 0
-Outside e s l = (i : ℕ) (σ : State) (d : ℕ) (μ : Memory) → Begins σ d → Room μ → Atomed i σ d μ l (bareRow e s) 1
+Outside e s l = (i : ℕ) (σ : MachineState) (d : ℕ) (μ : Memory) → Begins σ d → Room μ → Atomed i σ d μ l (bareRow e s) 1
 
-one : (e s b : ℕ) (x : Last) → begins? (letterOf b) ≡ true → ((k : Out) → atomOr b k ≡ to (seq x)) → ((μ : Memory) → firstByte (letterOf b) μ ≡ described (bareRow e s) (begun 1 μ)) → Outside e s (b ∷ [])
+one : (e s b : ℕ) (x : Last) → begins? (letterOf b) ≡ true → ((k : Move) → atomOr b k ≡ to (seq x)) → ((μ : Memory) → firstByte (letterOf b) μ ≡ described (bareRow e s) (begun 1 μ)) → Outside e s (b ∷ [])
 unfolding begun
 one e s b x h g f i σ d μ v r = record {
   last = x;
   draft = blank;
-  is = byte b [] (v .goes b .1 ∙ ap (λ (o : Out). turn o d) (g (v .goes b .0))) refl (v .does b i μ h ∙ first b i μ r ∙ ap keeps (f μ)) stays;
+  is = byte b [] (v .goes b .1 ∙ ap (λ (o : Move). turn o d) (g (v .goes b .0))) refl (v .does b i μ h ∙ first b i μ r ∙ ap keeps (f μ)) stays;
 }
 
 again : (x y : Atom) (μ : Memory) → Room μ → described y (described x (begun 1 μ)) ≡ described y (begun 1 μ)
 unfolding begun
 again x y μ r = rw (with-atom-twice (μ .atoms) (μ .st .atoms) x y (r .cells))
 
-two : (e e0 b c : ℕ) (m : Mode) → begins? (letterOf b) ≡ true → ((k : Out) → atomOr b k ≡ to m) → ((μ : Memory) → firstByte (letterOf b) μ ≡ described (bareRow e0 0) (begun 1 μ))
+two : (e e0 b c : ℕ) (m : Mode) → begins? (letterOf b) ≡ true → ((k : Move) → atomOr b k ≡ to m) → ((μ : Memory) → firstByte (letterOf b) μ ≡ described (bareRow e0 0) (begun 1 μ))
     → next m c ≡ to (seq plain) → ((i : ℕ) (μ : Memory) → modeAct m c i μ ≡ secondLetter e μ) → Outside e 0 (b ∷ c ∷ [])
 unfolding begun step act
 two e e0 b c m h g f n a i σ d μ v r = record {
   last = plain;
   draft = blank;
-  is = byte b (c ∷ []) (v .goes b .1 ∙ ap (λ (o : Out). turn o d) (g (v .goes b .0))) refl (v .does b i μ h ∙ first b i μ r ∙ ap keeps (f μ))
-      (byte c [] (ap (λ (o : Out). turn o d) n) refl (a (suc i) (described (bareRow e0 0) (begun 1 μ)) ∙ ap keeps (again (bareRow e0 0) (bareRow e 0) μ r)) stays);
+  is = byte b (c ∷ []) (v .goes b .1 ∙ ap (λ (o : Move). turn o d) (g (v .goes b .0))) refl (v .does b i μ h ∙ first b i μ r ∙ ap keeps (f μ))
+      (byte c [] (ap (λ (o : Move). turn o d) n) refl (a (suc i) (described (bareRow e0 0) (begun 1 μ)) ∙ ap keeps (again (bareRow e0 0) (bareRow e 0) μ r)) stays);
 }
 
 plain-letters : (e : ℕ) → bare e ≡ true → Outside e 0 (bytesOf e)
@@ -157,7 +157,7 @@ selected-letters = five (λ e. Outside e 1 (selectedBytes e)) (one 6 1 99 plain 
     (one 15 1 112 plain refl (λ k. refl) (λ μ. refl)) (one 16 1 115 plain refl (λ k. refl) (λ μ. refl))
 
 -- THE LETTERS: the symbol of an element that may stand outside brackets is an atom with its row, before its hydrogens
-pub takes-letters : (e s : ℕ) → Symbolic e s → bare e ≡ true → (i : ℕ) (σ : State) (d : ℕ) (μ : Memory) → Begins σ d → Room μ → Atomed i σ d μ (symbolBytes e s) (bareRow e s) 1
+pub takes-letters : (e s : ℕ) → Symbolic e s → bare e ≡ true → (i : ℕ) (σ : MachineState) (d : ℕ) (μ : Memory) → Begins σ d → Room μ → Atomed i σ d μ (symbolBytes e s) (bareRow e s) 1
 takes-letters e s x h = ⊎-elim
     (λ q. subst (λ (s : ℕ). Outside e s (symbolBytes e s)) (sym q) (plain-letters e h))
     (λ q. subst (λ (s : ℕ). Outside e s (symbolBytes e s)) (sym (q .0)) (selected-letters e (q .1))) (x .either)

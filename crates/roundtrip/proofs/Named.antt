@@ -16,8 +16,8 @@ use Rattle.reading_grammar.specs.Grammar.{nonzero, digits, signs, Digits, none,
 use Rattle.reading_grammar.proofs.Ends as bytes
 use Rattle.reading_grammar.specs.declared.Mode.{Mode}
 use Rattle.reading_grammar.specs.declared.Mode.the-variants.{Bracket as bracket, Isotope as isotope, Symbol1 as symbol1, Symbolled as symbolled}
-use Rattle.reading_grammar.specs.declared.Out.{Out}
-use Rattle.reading_grammar.specs.declared.Out.the-variants.{Stop as stop, To as to}
+use Rattle.reading_grammar.specs.declared.Move.{Move}
+use Rattle.reading_grammar.specs.declared.Move.the-variants.{Stop as stop, To as to}
 use Rattle.reading_grammar.specs.Machine.{next, symbolOr, closing, extending, charging, hydrating}
 use Rattle.reading_grammar.specs.Fold.{keeps}
 use Rattle.reading_state.specs.declared.Fields.{Fields}
@@ -32,7 +32,7 @@ use Rattle.roundtrip.proofs.Bracketed.{fields, Ends, Moves, via, Hydrat
 
 -- a mode in which a symbol may begin
 pub record Names (m : Mode) : Type 0 where
-  pub goes : (b : ℕ) → (k : Out) × (next m b ≡ symbolOr b k)
+  pub goes : (b : ℕ) → (k : Move) × (next m b ≡ symbolOr b k)
   pub does : (b i : ℕ) (μ : Memory) → among b digits ≡ false → modeAct m b i μ ≡ keeps (drafted (spec.symbolled b (μ .draft)) μ)
 
 names-bracket : Names bracket
@@ -148,7 +148,7 @@ module _ {m : Mode} (i : ℕ) (v : Names m) {r : List ℕ} {E : Fields} where
   takes-word e (a ∷ b ∷ c ∷ s) h k = absurd (let z : _≡_ {A = ℕ} 0 1 = cc in omega arith)
 
   -- `*` and the selected letters
-  takes-mark : (e s b : ℕ) → among b digits ≡ false → ((k : Out) → symbolOr b k ≡ to symbolled) → ((D : Fields) → spec.symbolled b D ≡ spec.elemented e s D) → Rest e s i r E → Ends m (Blank i) (b ∷ r) E
+  takes-mark : (e s b : ℕ) → among b digits ≡ false → ((k : Move) → symbolOr b k ≡ to symbolled) → ((D : Fields) → spec.symbolled b D ≡ spec.elemented e s D) → Rest e s i r E → Ends m (Blank i) (b ∷ r) E
   takes-mark e s b d g x k = via {n = symbolled} {E = fields e s i 0 (pos 0) 0}
       (record { goes = v .goes b .1 ∙ g (v .goes b .0); does = λ j μ. v .does b j (drafted (Blank i) μ) d ∙ ap (λ (D : Fields). keeps (drafted D μ)) (x (Blank i)) })
       (k symbolled hydrates-symbolled)
@@ -175,9 +175,9 @@ takes-symbol {m} i v {r} {E} e s x k = ⊎-elim
     (λ q. subst (λ (s : ℕ). Rest e s i r E → Ends m (Blank i) (symbolBytes e s ++ r) E) (sym (q .0)) (takes-selected i v e (q .1)) k) (x .either)
 
 -- ---- the isotope
-no-symbol : (b : ℕ) → among b digits ≡ true → (k : Out) → symbolOr b k ≡ k
+no-symbol : (b : ℕ) → among b digits ≡ true → (k : Move) → symbolOr b k ≡ k
 unfolding symbolOr starts symbols marks among digits
-no-symbol = bytes.each (λ b. (k : Out) → symbolOr b k ≡ k) digits ((λ k. refl), ((λ k. refl), ((λ k. refl), ((λ k. refl), ((λ k. refl), ((λ k. refl), ((λ k. refl), ((λ k. refl), ((λ k. refl), ((λ k. refl), tt))))))))))
+no-symbol = bytes.each (λ b. (k : Move) → symbolOr b k ≡ k) digits ((λ k. refl), ((λ k. refl), ((λ k. refl), ((λ k. refl), ((λ k. refl), ((λ k. refl), ((λ k. refl), ((λ k. refl), ((λ k. refl), ((λ k. refl), tt))))))))))
 
 nonzero-digit : (b : ℕ) → among b nonzero ≡ true → among b digits ≡ true
 unfolding among nonzero digits

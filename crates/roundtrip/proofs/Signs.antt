@@ -16,10 +16,10 @@ use Rattle.reading_grammar.specs.declared.Last.{Last}
 use Rattle.reading_grammar.specs.declared.Last.the-variants.{Plain as plain}
 use Rattle.reading_grammar.specs.declared.Mode.{Mode}
 use Rattle.reading_grammar.specs.declared.Mode.the-variants.{Seq as seq, Bond as bond, AtomNext as atomNext, Inside as inside, Percent as percent, Percent1 as percent1}
-use Rattle.reading_grammar.specs.declared.Out.{Out}
-use Rattle.reading_grammar.specs.declared.Out.the-variants.{To as to}
-use Rattle.reading_grammar.specs.declared.State.{State}
-use Rattle.reading_grammar.specs.declared.State.the-variants.{At as at}
+use Rattle.reading_grammar.specs.declared.Move.{Move}
+use Rattle.reading_grammar.specs.declared.Move.the-variants.{To as to}
+use Rattle.reading_grammar.specs.declared.MachineState.{MachineState}
+use Rattle.reading_grammar.specs.declared.MachineState.the-variants.{At as at}
 use Rattle.reading_grammar.specs.Machine.{turn, step, next, atomOr, bridgeOr}
 use Rattle.reading_grammar.specs.Fold.{keeps}
 use Rattle.table.specs.declared.Atom.{Atom}
@@ -35,17 +35,17 @@ use Rattle.roundtrip.proofs.Letters.{Begins, begins-seq, begins-bond, b
 use Rattle.roundtrip.proofs.Simulation.{Holds, Bridged}
 
 -- where the machine stands between tokens: after an atom, or just inside a branch; d branches are open
-pub data Stance : Bool → ℕ → State → Type 0 where
+pub data Stance : Bool → ℕ → MachineState → Type 0 where
   after : {x : Last} {d : ℕ} → Stance false d (at (seq x) d)
   fresh : {d : ℕ} → Stance true d (at inside d)
 
 -- the bytes are a joint, which waits for the atom
-pub record Jointed (i : ℕ) (σ : State) (d : ℕ) (μ : Memory) (s : List ℕ) (k : Pending) : Type 0 where
-  pub state : State
+pub record Jointed (i : ℕ) (σ : MachineState) (d : ℕ) (μ : Memory) (s : List ℕ) (k : Pending) : Type 0 where
+  pub state : MachineState
   pub begins : Begins state d
   pub takes : Takes i σ μ s state (awaiting k μ)
 
-pub takes-dot : {f : Bool} {d : ℕ} {σ : State} (i : ℕ) (μ : Memory) → Stance f d σ → Jointed i σ d μ (46 ∷ []) dotted
+pub takes-dot : {f : Bool} {d : ℕ} {σ : MachineState} (i : ℕ) (μ : Memory) → Stance f d σ → Jointed i σ d μ (46 ∷ []) dotted
 unfolding step next atomOr bridgeOr among letters nonzero bondSymbols act modeAct letterOf selectedOf
 takes-dot i μ (after {x} {d}) = record { state = at atomNext d; begins = begins-dot d; takes = byte 46 [] refl refl refl stays }
 takes-dot i μ (fresh {d}) = record { state = at atomNext d; begins = begins-dot d; takes = byte 46 [] refl refl refl stays }
@@ -76,21 +76,21 @@ pub waiting-kind : (k : ℕ) → (kindOf (waiting k) ≡ k) × (afterDot (waitin
 waiting-kind zero = (refl, refl)
 waiting-kind (suc k) = (refl, refl)
 
-stance-begins : {f : Bool} {d : ℕ} {σ : State} → Stance f d σ → Begins σ d
+stance-begins : {f : Bool} {d : ℕ} {σ : MachineState} → Stance f d σ → Begins σ d
 stance-begins (after {x} {d}) = begins-seq x d
 stance-begins (fresh {d}) = begins-inside d
 
 waits-still : (μ : Memory) → μ .pending ≡ nothing → μ ≡ awaiting nothing μ
 waits-still μ e = ap (λ (k : Pending). awaiting k μ) e
 
-pub takes-kind : {f : Bool} {d : ℕ} {σ : State} (i : ℕ) (μ : Memory) (k : ℕ) → k ≤ 3 → μ .pending ≡ nothing → Stance f d σ → Jointed i σ d μ (kindBytes k) (waiting k)
+pub takes-kind : {f : Bool} {d : ℕ} {σ : MachineState} (i : ℕ) (μ : Memory) (k : ℕ) → k ≤ 3 → μ .pending ≡ nothing → Stance f d σ → Jointed i σ d μ (kindBytes k) (waiting k)
 unfolding kindBytes step act
 takes-kind {σ = σ} i μ zero l e v = record { state = σ; begins = stance-begins v; takes = subst (Takes i σ μ [] σ) (waits-still μ e) stays }
 takes-kind i μ (suc k) l e v = go v (symbol-of (suc k) (omega arith) l)
   where
-    go : {f : Bool} {d : ℕ} {σ : State} → Stance f d σ → Symbol (suc k) → Jointed i σ d μ (kindBytes (suc k)) (symbol (suc k))
-    go (after {x} {d}) y = record { state = at bond d; begins = begins-bond d; takes = rw (y .bytes) (byte (y .sign) [] (ap (λ (o : Out). turn o d) (y .after-goes x)) refl (y .after-does x i μ) stays) }
-    go (fresh {d}) y = record { state = at atomNext d; begins = begins-dot d; takes = rw (y .bytes) (byte (y .sign) [] (ap (λ (o : Out). turn o d) (y .fresh-goes)) refl (y .fresh-does i μ) stays) }
+    go : {f : Bool} {d : ℕ} {σ : MachineState} → Stance f d σ → Symbol (suc k) → Jointed i σ d μ (kindBytes (suc k)) (symbol (suc k))
+    go (after {x} {d}) y = record { state = at bond d; begins = begins-bond d; takes = rw (y .bytes) (byte (y .sign) [] (ap (λ (o : Move). turn o d) (y .after-goes x)) refl (y .after-does x i μ) stays) }
+    go (fresh {d}) y = record { state = at atomNext d; begins = begins-dot d; takes = rw (y .bytes) (byte (y .sign) [] (ap (λ (o : Move). turn o d) (y .fresh-goes)) refl (y .fresh-does i μ) stays) }
 
 -- ---- bridges
 -- a mode in which a bridge may begin
@@ -129,10 +129,10 @@ unfolding kindBytes step act
 takes-tie i x d μ zero l e = record { mode = seq x; rings = rings-seq x; takes = subst (Takes i (at (seq x) d) μ [] (at (seq x) d)) (waits-still μ e) stays }
 takes-tie i x d μ (suc k) l e =
     let y = symbol-of (suc k) (omega arith) l in
-    record { mode = bond; rings = rings-bond; takes = rw (y .bytes) (byte (y .sign) [] (ap (λ (o : Out). turn o d) (y .after-goes x)) refl (y .after-does x i μ) stays) }
+    record { mode = bond; rings = rings-bond; takes = rw (y .bytes) (byte (y .sign) [] (ap (λ (o : Move). turn o d) (y .after-goes x)) refl (y .after-does x i μ) stays) }
 
 -- the bytes are a bridge, and what is read is s
-pub record Ringed (row : ℕ → Atom) (flag : ℕ → ℕ) (p q : ℕ) (s : St) (i : ℕ) (σ : State) (d : ℕ) (μ : Memory) (l : List ℕ) : Type 0 where
+pub record Ringed (row : ℕ → Atom) (flag : ℕ → ℕ) (p q : ℕ) (s : St) (i : ℕ) (σ : MachineState) (d : ℕ) (μ : Memory) (l : List ℕ) : Type 0 where
   pub memory : Memory
   pub waits : memory .pending ≡ nothing
   pub holds : Holds row flag p q s memory
@@ -154,7 +154,7 @@ module _ (row : ℕ → Atom) (flag : ℕ → ℕ) (p q : ℕ) (s : St) (r : ℕ
             memory = w .memory;
             waits = w .waits;
             holds = w .holds;
-            takes = byte b [] (ap (λ (o : Out). turn o d) (v .short-goes b n)) refl (v .short-does b n i μ ∙ ap (λ (y : ℕ). bridgeAct y i μ) z ∙ w .is) stays;
+            takes = byte b [] (ap (λ (o : Move). turn o d) (v .short-goes b n)) refl (v .short-does b n i μ ∙ ap (λ (y : ℕ). bridgeAct y i μ) z ∙ w .is) stays;
           }
       go false e =
           let g = ltb-false r 9 e in
@@ -169,7 +169,7 @@ module _ (row : ℕ → Atom) (flag : ℕ → ℕ) (p q : ℕ) (s : St) (r : ℕ
             memory = w .memory;
             waits = w .waits;
             holds = w .holds;
-            takes = byte 37 (a ∷ b ∷ []) (ap (λ (o : Out). turn o d) (v .long-goes)) refl (v .long-does i μ)
+            takes = byte 37 (a ∷ b ∷ []) (ap (λ (o : Move). turn o d) (v .long-goes)) refl (v .long-does i μ)
                 (byte {τ = at percent1 d} {ν = counting (digit a) μ} a (b ∷ []) (rw na) refl refl
                 (byte {τ = at (seq plain) d} b [] (rw nb) refl (ap (λ (y : ℕ). bridgeAct y (suc (suc i) - 2) (counting (digit a) μ)) z ∙ w .is) stays));
           })

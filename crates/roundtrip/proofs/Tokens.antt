@@ -14,8 +14,8 @@ use Rattle.reading_grammar.specs.Grammar.{nonzero, bondSymbols}
 use Rattle.reading_grammar.specs.declared.Last.{Last}
 use Rattle.reading_grammar.specs.declared.Last.the-variants.{Plain as plain}
 use Rattle.reading_grammar.specs.declared.Mode.the-variants.{Seq as seq, Inside as inside}
-use Rattle.reading_grammar.specs.declared.State.{State}
-use Rattle.reading_grammar.specs.declared.State.the-variants.{At as at}
+use Rattle.reading_grammar.specs.declared.MachineState.{MachineState}
+use Rattle.reading_grammar.specs.declared.MachineState.the-variants.{At as at}
 use Rattle.reading_grammar.specs.Machine.{step, next, atomOr, bridgeOr}
 use Rattle.table.specs.Limits.{maxAtoms, maxBonds, atomCells, bondCells}
 use Rattle.table.proofs.Valid.{AtomFine}
@@ -74,8 +74,8 @@ module _ (atoms bonds : List ℤ) (N m p q : ℕ) (fine-atoms : (v : ℕ) → v 
   f = atomBytes atoms bonds m
 
   -- the bytes of a token lead from a memory to one that holds s, in a stance with d open branches
-  pub record Stepped (i : ℕ) (σ : State) (μ : Memory) (l : List ℕ) (s : St) (b : Bool) (d : ℕ) : Type 0 where
-    pub state : State
+  pub record Stepped (i : ℕ) (σ : MachineState) (μ : Memory) (l : List ℕ) (s : St) (b : Bool) (d : ℕ) : Type 0 where
+    pub state : MachineState
     pub memory : Memory
     pub takes : Takes i σ μ l state memory
     pub stance : Stance b d state
@@ -89,14 +89,14 @@ module _ (atoms bonds : List ℤ) (N m p q : ℕ) (fine-atoms : (v : ℕ) → v 
       let t = s .table .long in
       record { atoms = lt-leb maxAtoms (μ .st .atoms) (omega arith); bonds = e; cells = omega arith }
 
-  pub atom-apart : (i : ℕ) (τ : State) (d : ℕ) (xs : List ℕ) (bs : List Bond) (h n : ℕ) (hs : List Closure) (stk : List ℕ) (ν : Memory) (w : ℕ) → w < N → Begins τ d → Is (st xs bs h n hs stk) ν → n < maxAtoms → bonded ν ≡ false
+  pub atom-apart : (i : ℕ) (τ : MachineState) (d : ℕ) (xs : List ℕ) (bs : List Bond) (h n : ℕ) (hs : List Closure) (stk : List ℕ) (ν : Memory) (w : ℕ) → w < N → Begins τ d → Is (st xs bs h n hs stk) ν → n < maxAtoms → bonded ν ≡ false
       → Stepped i τ ν (f w) (token.stepToken (apart w) (st xs bs h n hs stk)) false d
   unfolding begun
   atom-apart i τ d xs bs h n hs stk ν w g v s l e =
       let a = takes-atom atoms bonds m w (fine-atoms w g) i τ d ν v (room-of xs bs h n hs stk ν s l (rw e)) in
       record { state = at (seq (a .last)) d; memory = _; takes = a .is; stance = after; waits = refl; holds = sim-apart (draftRow atoms bonds m) (outsideFlag atoms bonds m) p q proom qroom xs bs h n hs stk ν s w (a .draft) l e }
 
-  atom-along : (i : ℕ) (τ : State) (d : ℕ) (xs : List ℕ) (bs : List Bond) (h n : ℕ) (hs : List Closure) (stk : List ℕ) (ν : Memory) (k w : ℕ) → w < N → Begins τ d → Is (st xs bs h n hs stk) ν → n < maxAtoms → length bs < maxBonds → 0 < n → bonded ν ≡ true → kindOf (ν .pending) ≡ k
+  atom-along : (i : ℕ) (τ : MachineState) (d : ℕ) (xs : List ℕ) (bs : List Bond) (h n : ℕ) (hs : List Closure) (stk : List ℕ) (ν : Memory) (k w : ℕ) → w < N → Begins τ d → Is (st xs bs h n hs stk) ν → n < maxAtoms → length bs < maxBonds → 0 < n → bonded ν ≡ true → kindOf (ν .pending) ≡ k
       → Stepped i τ ν (f w) (token.stepToken (along k w) (st xs bs h n hs stk)) false d
   unfolding begun
   atom-along i τ d xs bs h n hs stk ν k w g v s l c z e t =
@@ -105,7 +105,7 @@ module _ (atoms bonds : List ℤ) (N m p q : ℕ) (fine-atoms : (v : ℕ) → v 
       record { state = at (seq (a .last)) d; memory = _; takes = a .is; stance = after; waits = refl; holds = sim-along (draftRow atoms bonds m) (outsideFlag atoms bonds m) p q proom qroom xs bs h n hs stk ν s k w (a .draft) l c z e t }
 
   -- ---- the five tokens
-  pub step-apart : (i : ℕ) (σ : State) (μ : Memory) (x : Bool) (d : ℕ) (xs : List ℕ) (bs : List Bond) (h n : ℕ) (hs : List Closure) (stk : List ℕ) (w : ℕ) → w < N → Stance x d σ → Is (st xs bs h n hs stk) μ → n < maxAtoms
+  pub step-apart : (i : ℕ) (σ : MachineState) (μ : Memory) (x : Bool) (d : ℕ) (xs : List ℕ) (bs : List Bond) (h n : ℕ) (hs : List Closure) (stk : List ℕ) (w : ℕ) → w < N → Stance x d σ → Is (st xs bs h n hs stk) μ → n < maxAtoms
       → Stepped i σ μ (46 ∷ f w) (token.stepToken (apart w) (st xs bs h n hs stk)) false d
   step-apart i σ μ x d xs bs h n hs stk w g v s l =
       let j = takes-dot i μ v in
@@ -113,7 +113,7 @@ module _ (atoms bonds : List ℤ) (N m p q : ℕ) (fine-atoms : (v : ℕ) → v 
       let a = atom-apart (i + 1) (j .state) d xs bs h n hs stk ν w g (j .begins) (sim-await (draftRow atoms bonds m) (outsideFlag atoms bonds m) p q proom qroom xs bs h n hs stk μ s dotted) l (and-false (not (eqb (μ .st .atoms) 0))) in
       record { state = a .state; memory = a .memory; takes = joins (46 ∷ []) (f w) (j .takes) (a .takes); stance = a .stance; waits = a .waits; holds = a .holds }
 
-  pub step-along : (i : ℕ) (σ : State) (μ : Memory) (x : Bool) (d : ℕ) (xs : List ℕ) (bs : List Bond) (h n : ℕ) (hs : List Closure) (stk : List ℕ) (k w : ℕ) → k ≤ 3 → w < N → Stance x d σ → μ .pending ≡ nothing → Is (st xs bs h n hs stk) μ → n < maxAtoms → length bs < maxBonds → 0 < n
+  pub step-along : (i : ℕ) (σ : MachineState) (μ : Memory) (x : Bool) (d : ℕ) (xs : List ℕ) (bs : List Bond) (h n : ℕ) (hs : List Closure) (stk : List ℕ) (k w : ℕ) → k ≤ 3 → w < N → Stance x d σ → μ .pending ≡ nothing → Is (st xs bs h n hs stk) μ → n < maxAtoms → length bs < maxBonds → 0 < n
       → Stepped i σ μ (kindBytes k ++ f w) (token.stepToken (along k w) (st xs bs h n hs stk)) false d
   step-along i σ μ x d xs bs h n hs stk k w kk g v e s l c z =
       let j = takes-kind i μ k kk e v in

@@ -11,8 +11,8 @@ use borrow.Author.Tests.{eqb-true, ltb-true, ltb-false}
 use Rattle.loops.proofs.Loops.{and-left, and-right}
 use Rattle.reading_grammar.specs.declared.Last.{Last}
 use Rattle.reading_grammar.specs.declared.Mode.the-variants.{Seq as seq}
-use Rattle.reading_grammar.specs.declared.State.{State}
-use Rattle.reading_grammar.specs.declared.State.the-variants.{Start as opening, At as at}
+use Rattle.reading_grammar.specs.declared.MachineState.{MachineState}
+use Rattle.reading_grammar.specs.declared.MachineState.the-variants.{Start as opening, At as at}
 use Rattle.reading_grammar.specs.Machine.{accepting, resting}
 use Rattle.table.specs.Limits.{maxAtoms, maxBonds, atomCells, bondCells}
 use Rattle.table.proofs.Valid.{AtomFine}
@@ -61,21 +61,21 @@ module _ (atoms bonds : List ℤ) (N m p q : ℕ) (fine-atoms : (v : ℕ) → v 
   Now = Is atoms bonds N m p q fine-atoms proom qroom
 
   -- the bytes lead to the end of a text
-  pub record Finished (i : ℕ) (σ : State) (μ : Memory) (l : List ℕ) (s : St) : Type 0 where
+  pub record Finished (i : ℕ) (σ : MachineState) (μ : Memory) (l : List ℕ) (s : St) : Type 0 where
     pub last : Last
     pub memory : Memory
     pub takes : Takes i σ μ l (at (seq last) 0) memory
     pub holds : Holds (draftRow atoms bonds m) (outsideFlag atoms bonds m) p q s memory
 
   abbrev Rest : List Tok → St → St → Bool → ℕ → Type 0
-  Rest ts s s′ b d = (i : ℕ) (σ : State) (μ : Memory) → Now s μ → μ .pending ≡ nothing → Stance b d σ → Finished i σ μ (restBytes f ts) s′
+  Rest ts s s′ b d = (i : ℕ) (σ : MachineState) (μ : Memory) → Now s μ → μ .pending ≡ nothing → Stance b d σ → Finished i σ μ (restBytes f ts) s′
 
-  onward : {i : ℕ} {σ : State} {μ : Memory} {s s′ : St} {b : Bool} {d : ℕ} (l : List ℕ) (ts : List Tok) → Stepped atoms bonds N m p q fine-atoms proom qroom i σ μ l s b d → Rest ts s s′ b d → Finished i σ μ (l ++ restBytes f ts) s′
+  onward : {i : ℕ} {σ : MachineState} {μ : Memory} {s s′ : St} {b : Bool} {d : ℕ} (l : List ℕ) (ts : List Tok) → Stepped atoms bonds N m p q fine-atoms proom qroom i σ μ l s b d → Rest ts s s′ b d → Finished i σ μ (l ++ restBytes f ts) s′
   onward {i} l ts a k =
       let z = k (i + length l) (a .state) (a .memory) (a .holds) (a .waits) (a .stance) in
       record { last = z .last; memory = z .memory; takes = joins l (restBytes f ts) (a .takes) (z .takes); holds = z .holds }
 
-  simulate : (ts : List Tok) (s s′ : St) (b : Bool) (d i : ℕ) (σ : State) (μ : Memory) → Now s μ → μ .pending ≡ nothing → Stance b d σ → depthOf s ≡ d → 0 < nextOf s → grammar ts d b ≡ true → reading maxAtoms maxBonds maxDepth ts s ≡ fine s′ → All (Good N) ts → Finished i σ μ (restBytes f ts) s′
+  simulate : (ts : List Tok) (s s′ : St) (b : Bool) (d i : ℕ) (σ : MachineState) (μ : Memory) → Now s μ → μ .pending ≡ nothing → Stance b d σ → depthOf s ≡ d → 0 < nextOf s → grammar ts d b ≡ true → reading maxAtoms maxBonds maxDepth ts s ≡ fine s′ → All (Good N) ts → Finished i σ μ (restBytes f ts) s′
   unfolding restBytes
   simulate [] s s′ b zero i σ μ h e (after {x}) y z g r a = record { last = x; memory = μ; takes = stays; holds = subst (λ (s : St). Now s μ) (let w : s ≡ s′ = cc in w) h }
   simulate [] s s′ b (suc d) i σ μ h e (after {x}) y z g r a = absurd (let w = eqb-true (suc d) 0 (and-left (eqb (suc d) 0) true g) in omega arith)
@@ -156,7 +156,7 @@ module _ (atoms bonds : List ℤ) (N m p q : ℕ) (fine-atoms : (v : ℕ) → v 
 
     -- THE TEXT: the bytes of accepted tokens are read to an accepted end, with what the tokens hold
     pub record Held (l : List ℕ) (s : St) : Type 0 where
-      pub state : State
+      pub state : MachineState
       pub memory : Memory
       pub takes : Takes 0 opening (beginning (zeros A) (zeros B)) l state memory
       pub ends : accepting state ≡ true

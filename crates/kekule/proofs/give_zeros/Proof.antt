@@ -1,7 +1,7 @@
 use mathlib.Core.Path.{ap, _∙_}
 use denote.Ref.{now}
 use Rattle.matching.specs.Model.{reply}
-use Rattle.matching.specs.declared.Answer.the-variants.{Given}
+use Rattle.matching.specs.declared.MatchingAnswer.the-variants.{Given}
 use Rattle.kekule.proofs.Kekule.{cleared}
 use borrow.Author.Needs.{needs}
 use Rattle.kekule.proofs.give_zeros.Statement.{statement}

@@ -1,7 +1,7 @@
 use native.Mathlib.Omega.{arith}
 use mathlib.Core.Path.{sym, ap, _∙_}
 use borrow.Author.Tests.{not-true, not-false}
-use Rattle.register.specs.declared.Answer.the-variants.{Done}
+use Rattle.register.specs.declared.RegisterAnswer.the-variants.{Done}
 use Rattle.register.specs.Answers.{out, steppedOf}
 use Rattle.register.proofs.PowerCut.{fits-is}
 use Rattle.register.proofs.Paths.{adding-short, adding-invalid, adding-full, adding-done, used-at, step-as}
