@@ -64,6 +64,14 @@ module _ (atoms bonds : List ℤ) (n m : ℕ) where
       go true = inl refl
       go false = inr refl
 
+  -- a late code is one of 20 to 23
+  pub late-range : 0 < lateCode atoms bonds n m → (20 ≤ lateCode atoms bonds n m) × (lateCode atoms bonds n m ≤ 23)
+  late-range l = go late-codes
+    where
+      go : (lateCode atoms bonds n m ≡ 0) ⊎ (lateCode atoms bonds n m ≡ 22) → (20 ≤ lateCode atoms bonds n m) × (lateCode atoms bonds n m ≤ 23)
+      go (inl e) = absurd (omega arith)
+      go (inr e) = (omega arith, omega arith)
+
   -- no atom is loose exactly if the test says so
   pub none-loose : ((a : ℕ) → a < n → loose atoms bonds m a ≡ false) → noneLoose atoms bonds n m ≡ true
   unfolding noneLoose
