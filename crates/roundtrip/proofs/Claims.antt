@@ -14,7 +14,8 @@ use Rattle.table_graph.specs.Graph.{matchable}
 use Rattle.table_graph.proofs.Localized.{localized-matchable}
 use Rattle.valence.specs.Valence.{delocalized}
 use Rattle.table.specs.Cells.{atomCell, selected}
-use Rattle.table.specs.Valid.{valid, Valid, enough}
+use Rattle.table.specs.Valid.{Valid, enough}
+use Rattle.table.specs.Sound.{sound}
 use Rattle.table.proofs.Valid.{facts, facts-back, enough-facts}
 use Rattle.ids.specs.Limits.{maxText}
 use Rattle.reading.specs.Read.{ReadResult, refused, placed, readOf}
@@ -58,7 +59,7 @@ all-pass t out ren false a b c d h = absurd (omega arith)
 pub written : (atoms bonds : List ℤ) (n m : ℕ) (out ren : List ℕ) → writeOf atoms bonds n m out ren .code ≡ 0 → Writable atoms bonds n m × (lent atoms bonds out ren ≡ true)
 unfolding writeOf writeValid
 written atoms bonds n m out ren h =
-    let r = all-pass (write.writeAccepted (textOf atoms bonds n m) (renumbering bonds n m) out ren) out ren (lent atoms bonds out ren) (valid atoms bonds n m) (fewBridges (tokens bonds n m)) (shallow (tokens bonds n m)) (leb (length (textOf atoms bonds n m)) maxText) h in
+    let r = all-pass (write.writeAccepted (textOf atoms bonds n m) (renumbering bonds n m) out ren) out ren (lent atoms bonds out ren) (sound atoms bonds n m) (fewBridges (tokens bonds n m)) (shallow (tokens bonds n m)) (leb (length (textOf atoms bonds n m)) maxText) h in
     (record { tables = r .1 .0; bridges = r .1 .1 .0; branches = r .1 .1 .1 .0; bytes = r .1 .1 .1 .1 }, r .0)
 
 -- the text stands at the front of the output, and the renumbering at the front of the numbers
@@ -79,7 +80,7 @@ unfolding renumbering
 number-place bonds n m v l = upTo-at (place (pre (forestOf n (bondList bonds m)))) n v 0 l
 
 -- THE RENUMBERING is a permutation of the atom numbers
-pub renumbering-permutes : (atoms bonds : List ℤ) (n m : ℕ) → valid atoms bonds n m ≡ true → Permutes n (renumbering bonds n m)
+pub renumbering-permutes : (atoms bonds : List ℤ) (n m : ℕ) → sound atoms bonds n m ≡ true → Permutes n (renumbering bonds n m)
 unfolding renumbering
 renumbering-permutes atoms bonds n m h =
     let walked = pre (forestOf n (bondList bonds m)) in
@@ -173,7 +174,7 @@ written-and-read atoms bonds n m out ren h A B long =
       no-matching = no-matching-read atoms bonds n m (w .0) A B long;
     }
 
-module _ (atoms bonds : List ℤ) (n m : ℕ) (out ren : List ℕ) (l : lent atoms bonds out ren ≡ true) (v : valid atoms bonds n m ≡ true) (A B : List ℤ) (long : enough A B ≡ true) where
+module _ (atoms bonds : List ℤ) (n m : ℕ) (out ren : List ℕ) (l : lent atoms bonds out ren ≡ true) (v : sound atoms bonds n m ≡ true) (A B : List ℤ) (long : enough A B ≡ true) where
   -- DEMAND 2, for all valid tables and all long enough buffers: written and read back, or 14, 15 or 16 with its reason
   pub demand-2 : Demand2 atoms bonds n m out ren A B (writeOf atoms bonds n m out ren)
   demand-2 = go refl (written-iff atoms bonds n m out ren (writeOf atoms bonds n m out ren) .0 refl)

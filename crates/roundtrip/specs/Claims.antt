@@ -10,7 +10,7 @@ use Rattle.loops.specs.Loop.{upTo}
 use Rattle.table_graph.specs.Graph.{matchable}
 use Rattle.table.specs.Limits.{atomCells, bondCells}
 use Rattle.table.specs.Cells.{atomCell}
-use Rattle.table.specs.Valid.{valid}
+use Rattle.table.specs.Sound.{sound}
 use Rattle.ids.specs.Limits.{bridges, maxText}
 use Rattle.reading.specs.Read.{ReadResult, refused, readOf}
 use Rattle.writing_walk.specs.Token.{Bond, bondBetween}
@@ -21,7 +21,7 @@ use Rattle.writing.specs.Conditions.{ManyBridges, DeepBranch, LongText, WithinL
 
 -- valid tables that writing does not refuse: neither 13, 14, 15 nor 16
 pub record Writable (atoms bonds : List ℤ) (n m : ℕ) : Type 0 where
-  pub tables : valid atoms bonds n m ≡ true
+  pub tables : sound atoms bonds n m ≡ true
   pub bridges : fewBridges (tokens bonds n m) ≡ true
   pub branches : shallow (tokens bonds n m) ≡ true
   pub bytes : leb (length (textOf atoms bonds n m)) maxText ≡ true
@@ -53,7 +53,7 @@ pub record RoundTrip (atoms bonds : List ℤ) (n m : ℕ) (A B : List ℤ) : Typ
   pub same : Same atoms bonds n m T U
   pub atoms-long : length T ≡ length A
   pub bonds-long : length U ≡ length B
-  pub still-valid : valid T U n m ≡ true
+  pub still-valid : sound T U n m ≡ true
   pub again : (out ren : List ℕ) → lent T U out ren ≡ true → writeOf T U n m out ren ≡ write.writeAccepted (textOf atoms bonds n m) (upTo (λ v. v) 0 n) out ren
 
 -- "The renumbering gives each atom's walk number": a permutation of the numbers below n

@@ -81,6 +81,10 @@ module _ (atoms bonds : List ℤ) (n m : ℕ) where
   unfolding noneLoose
   not-loose h a l = not-true (loose atoms bonds m a) (each-at (λ x. not (loose atoms bonds m x)) n a h l)
 
+  -- without a selected atom no late check fails
+  pub unselected-late : ((a : ℕ) → a < n → selected atoms a ≡ 0) → lateCode atoms bonds n m ≡ 0
+  unselected-late h = late-fine (none-loose (λ a l. rw (h a l)))
+
   loose-atom : (a : ℕ) → a < n → loose atoms bonds m a ≡ true → LooseAtom atoms bonds n m
   loose-atom a l h =
       record {
