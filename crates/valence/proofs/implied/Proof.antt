@@ -1,3 +1,4 @@
+use native.Mathlib.Omega.{arith}
 use Rattle.valence.proofs.Laws.{counted, implied-less, implied-whole}
 use borrow.Author.Needs.{needs}
 use Rattle.valence.proofs.implied.Statement.{statement}
@@ -10,7 +11,7 @@ room-requires : tie.Need-room-requires
 room-requires c κs = search needs
 
 sub-t9 : tie.Need-sub-t9
-sub-t9 c = counted (c .before .before .before .args .selected) (c .before .room .result) (c .if1 .taken)
+sub-t9 c = omega (arith, counted (c .before .before .before .args .selected) (c .before .room .result) (c .if1 .taken))
 
 returns : tie.Need-returns
 returns c = implied-less (c .before .before .before .args .e) (c .before .before .before .args .selected) (c .before .before .before .args .sum) (c .before .before .reach .ensures) (c .before .room .ensures) (c .if1 .taken)

@@ -1,3 +1,4 @@
+use native.Mathlib.Omega.{arith}
 use Rattle.valence.proofs.Laws.{reach-nothing, reach-first, reach-above, reach-later}
 use borrow.Author.Needs.{needs}
 use Rattle.valence.proofs.reach.Statement.{statement}
@@ -10,10 +11,10 @@ returns : tie.Need-returns
 returns c = reach-nothing (c .before .before .args .e) (c .before .before .args .selected) (c .before .before .args .sum) (c .before .first-target .ensures) (c .if1 .taken)
 
 returns-2 : tie.Need-returns-2
-returns-2 c = reach-first (c .before .before .before .args .e) (c .before .before .before .args .selected) (c .before .before .before .args .sum) (c .before .before .first-target .ensures) (c .before .if1 .left) (c .if2 .taken)
+returns-2 c = reach-first (c .before .before .before .args .e) (c .before .before .before .args .selected) (c .before .before .before .args .sum) (c .before .before .first-target .ensures) (c .before .if1 .left) (omega (arith, c .if2 .taken))
 
 returns-3 : tie.Need-returns-3
-returns-3 c = reach-above (c .before .before .before .before .args .e) (c .before .before .before .before .args .selected) (c .before .before .before .before .args .sum) (c .before .before .before .first-target .ensures) (c .before .before .if1 .left) (c .before .if2 .left) (c .if3 .taken)
+returns-3 c = reach-above (c .before .before .before .before .args .e) (c .before .before .before .before .args .selected) (c .before .before .before .before .args .sum) (c .before .before .before .first-target .ensures) (c .before .before .if1 .left) (omega (arith, c .before .if2 .left)) (c .if3 .taken)
 
 reach-further-requires : tie.Need-reach-further-requires
 reach-further-requires c κs = search needs
