@@ -1,6 +1,7 @@
 -- What reading hands back: 01's number and values for each case of the answer
 use Prim.Native.Nat.{ℕ, _+_}
 use mathlib.Core.Path.{_≡_}
+use mathlib.Core.Bool.{Bool}
 use mathlib.Core.List.{List}
 use lib.ListN.{getD, set}
 use lib.IntN.{ℤ, pos}
@@ -16,7 +17,7 @@ use Rattle.reading_state.specs.State.{Steering}
 use Rattle.reading_state.specs.declared.Fields.{Fields}
 use Rattle.reading.specs.Memory.{Memory, nothing, blank}
 use Rattle.reading.specs.Act.{act}
-use Rattle.reading.specs.Read.{ReadResult, beginning, hydrogenated, overfullAtoms, ended}
+use Rattle.reading.specs.Read.{ReadResult, refused, beginning, hydrogenated, overfullAtoms, ended}
 use Rattle.reading_fields.specs.Rest.{memory}
 use Rattle.reader.specs.declared.bridge.Why.{Why}
 use Rattle.reader.specs.declared.ending.ReadAnswer as reply
@@ -58,6 +59,10 @@ pub record Completed (outside : List ℕ) (atoms bonds : List ℤ) (n m : ℕ) (
   pub hydrogens : atoms′ ≡ hydrogenated outside bonds m n atoms
   pub overfull : r .overfull ≡ overfullAtoms outside bonds m n atoms
   pub matched : r .matchable ≡ matchable atoms′ bonds n m
+
+-- the molecule, or 11, by whether it has a matching
+abbrev pub placedBy : Bool → List ℤ → List ℤ → ℕ → ℕ → ℕ → ReadResult
+placedBy x atoms bonds n m k = pick x (record { code = 0; offset = 0; atomCount = n; bondCount = m; overfull = k; atoms = atoms; bonds = bonds }) (refused 11 0 atoms bonds)
 
 -- what comes after the last byte, in a state and with tables
 abbrev pub endedOf : Steering → List ℤ → List ℤ → ReadResult
