@@ -56,6 +56,14 @@ module _ (atoms bonds : List ℤ) (n m : ℕ) where
   unfolding lateCode
   late-loose e = rw e
 
+  pub late-none : lateCode atoms bonds n m ≡ 0 → noneLoose atoms bonds n m ≡ true
+  unfolding lateCode
+  late-none = go (noneLoose atoms bonds n m)
+    where
+      go : (x : Bool) → pick {A = ℕ} x 0 22 ≡ 0 → x ≡ true
+      go true e = refl
+      go false e = absurd (omega arith)
+
   pub late-codes : (lateCode atoms bonds n m ≡ 0) ⊎ (lateCode atoms bonds n m ≡ 22)
   unfolding lateCode
   late-codes = go (noneLoose atoms bonds n m)

@@ -177,8 +177,8 @@ fn kekulized_texts_are_written() {
     assert_eq!(kekulized("o1cccc1"), "O1C=CC=C1");
     assert_eq!(kekulized("c1cc[nH]c1"), "C=1C=CNC1");
     assert_eq!(kekulized("O=c1cc[nH]cc1"), "O=C1C=CNC=C1");
-    assert_eq!(kekulized("cc"), "C=C");
-    assert_eq!(kekulized("[c][c]"), "[C]=[C]");
+    assert_eq!(kekulized("CccC"), "CC=CC");
+    assert_eq!(kekulized("C[c][c]C"), "C[C]=[C]C");
 }
 
 #[test]
