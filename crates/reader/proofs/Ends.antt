@@ -48,7 +48,8 @@ use Rattle.reader.specs.declared.piece.Joint.{Joint}
 use Rattle.reader.specs.declared.bridge.Why.{Why}
 use Rattle.reader.specs.declared.ending.ReadAnswer as reply
 use Rattle.reader.specs.Outcome.{Bounded, Outcome, refusedAt, PastFine, Past, Goes, Stops, Sequenced}
-use Rattle.reader.specs.Ending.{told, hydrogensBy, hydrogenatedBy, placedBy, endedOf, answerOf, TextGoes, TextRead}
+use Rattle.reader.specs.Filled.{hydrogensBy, hydrogenatedBy, placedBy}
+use Rattle.reader.specs.Ending.{told, endedOf, answerOf, TextGoes, TextRead}
 use Rattle.reader.proofs.Branches.{close-down}
 
 -- ---- the whole text

@@ -365,7 +365,7 @@ fn the_fields_of_a_bracket_are_read() {
         charge: 1,
         extension: 10,
     };
-    assert_eq!(molecule("[10nH+:10]n").atoms[0], atom);
+    assert_eq!(molecule("[10nH+:10]1nC1").atoms[0], atom);
     assert_eq!(molecule("[*-2]").atoms[0].charge, -2);
     assert_eq!(molecule("[H]").atoms[0].hydrogens, 0);
     assert_eq!(molecule("[HH]").atoms[0].hydrogens, 1);
@@ -472,5 +472,5 @@ fn refusals_come_by_place_and_then_by_number() {
     refused("C11)", Code::SelfBridge, 2);
     refused("C1(", Code::Grammar, 3);
     refused("c1", Code::OpenBridge, 1);
-    refused("c", Code::Unmatchable, 0);
+    refused("c", Code::LooseSelected, 0);
 }
