@@ -16,7 +16,7 @@ use Rattle.matching.specs.Graph.{isMatching, eachOnce, degree, chosenInduced}
 use Rattle.table.specs.Cells.{number}
 use Rattle.table.specs.Rows.{withAtom, withBond}
 use Rattle.table.specs.Valid.{enough}
-use Rattle.table.specs.Sound.{touches, degree, noneLoose, lateCode}
+use Rattle.table.specs.Sound.{touches, bondDegree, noneLoose, lateCode}
 use Rattle.table_graph.specs.Graph.{share, bondSum, matchable}
 use Rattle.reading_state.specs.State.{started, opened, closed, joined}
 use Rattle.reading.specs.Memory.{symbolKind, begun, joins, joinedAlready, closeRefusal}
@@ -70,5 +70,5 @@ expected =
     []
 
 pub marked-texts : map said texts ≡ expected
-unfolding texts expected degree noneLoose lateCode each run upTo among listed starts sameBytes symbols letters marks indexFrom numberOf selectedOf letterOf bare bytesOf selectedBytes order targets firstTarget firstFitting reachedIn hydrogensOf shiftedTarget delocalized nonzero digits several bondSymbols signs step next accepting resting atomOr bridgeOr closing extending charging hydrating symbolOr feed read rows passing isMatching eachOnce degree chosenInduced number withAtom withBond enough touches share bondSum started opened closed joined symbolKind begun joins joinedAlready closeRefusal symbolled atomAct bridgeAct branchAct modeAct act hydrogenated overfullAtoms leftmost matchable ended readFrom readOf forestOf renumbered unused write decimal hydrogenBytes sizeBytes bracketBytes withoutBrackets spelledAtom kindBytes bridgeBytes restBytes tokensBytes tokens textOf
+unfolding texts expected bondDegree noneLoose lateCode each run upTo among listed starts sameBytes symbols letters marks indexFrom numberOf selectedOf letterOf bare bytesOf selectedBytes order targets firstTarget firstFitting reachedIn hydrogensOf shiftedTarget delocalized nonzero digits several bondSymbols signs step next accepting resting atomOr bridgeOr closing extending charging hydrating symbolOr feed read rows passing isMatching eachOnce degree chosenInduced number withAtom withBond enough touches share bondSum started opened closed joined symbolKind begun joins joinedAlready closeRefusal symbolled atomAct bridgeAct branchAct modeAct act hydrogenated overfullAtoms leftmost matchable ended readFrom readOf forestOf renumbered unused write decimal hydrogenBytes sizeBytes bracketBytes withoutBrackets spelledAtom kindBytes bridgeBytes restBytes tokensBytes tokens textOf
 marked-texts = refl

@@ -15,7 +15,7 @@ use Rattle.table_graph.specs.Graph.{bondSum, matchable}
 use Rattle.table.specs.Limits.{maxAtoms, maxBonds, atomCells, bondCells, ELEMENT, SELECTED, ISOTOPE, HYDROGENS, CHARGE, EXTENSION}
 use Rattle.table.specs.Cells.{number, atomCell, bondCell, element, selected, hydrogens}
 use Rattle.table.specs.Valid.{Valid, selectedOk}
-use Rattle.table.specs.Sound.{degree, loose, lateCode}
+use Rattle.table.specs.Sound.{bondDegree, loose, lateCode}
 use Rattle.table.proofs.Sound.{late-fine, late-none, none-loose, not-loose}
 use Rattle.table.proofs.Valid.{AtomFine, atom-row, range-pos, Enough}
 use Rattle.ids.specs.Limits.{maxText, maxDepth, bridges}
@@ -159,7 +159,7 @@ module _ (atoms bonds : List ℤ) (n m : ℕ) (v : Valid atoms bonds n m) where
       sum-total U m (place walked w) ∙ ap (sums.bondSum order (place walked w)) e ∙ sums.sum-kept n bs (inside v) order w l ∙ sym (sum-total bonds m w)
 
   -- and so are the numbers of bonds
-  degree-same : (U : List ℤ) → bondList U m ≡ completed n bs → (w : ℕ) → w < n → degree U m (place walked w) ≡ degree bonds m w
+  degree-same : (U : List ℤ) → bondList U m ≡ completed n bs → (w : ℕ) → w < n → bondDegree U m (place walked w) ≡ bondDegree bonds m w
   degree-same U e w l =
       degree-total U m (place walked w) ∙ ap (sums.bondSum (λ k. 1) (place walked w)) e ∙ sums.sum-kept n bs (inside v) (λ k. 1) w l ∙ sym (degree-total bonds m w)
 
@@ -261,7 +261,7 @@ module _ (atoms bonds : List ℤ) (n m : ℕ) (v : Valid atoms bonds n m) where
             let k : w < n = atom-below ren a l in
             let p : place walked w ≡ a = place-atom ren a l in
             let s : selected T a ≡ selected atoms w = subst (λ (x : ℕ). selected T x ≡ selected atoms w) p (ap number (M .cells w SELECTED k (omega arith))) in
-            let d : degree U m a ≡ degree bonds m w = subst (λ (x : ℕ). degree U m x ≡ degree bonds m w) p (degree-same U (M .listed) w k) in
+            let d : bondDegree U m a ≡ bondDegree bonds m w = subst (λ (x : ℕ). bondDegree U m x ≡ bondDegree bonds m w) p (degree-same U (M .listed) w k) in
             rw (s, d) (not-loose atoms bonds n m (late-none atoms bonds n m h) w k)
 
     pub matchable-same : matchable T U n m ≡ matchable atoms bonds n m

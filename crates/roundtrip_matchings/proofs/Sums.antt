@@ -12,7 +12,7 @@ use Rattle.loops.proofs.Loops.{length-upTo, upTo-at}
 use Rattle.table.specs.Limits.{CHARGE}
 use Rattle.table.specs.Cells.{atomCell, element, selected, hydrogens, end1, end2, kind}
 use Rattle.valence.specs.Valence.{order, delocalized}
-use Rattle.table.specs.Sound.{touches, countBond, degree}
+use Rattle.table.specs.Sound.{touches, countBond, bondDegree}
 use Rattle.table_graph.specs.Graph.{share, addShare, bondSum, flag, delocalizedFlag, delocalizedFlags, graphOf}
 use Rattle.writing_walk.specs.Token.{bond}
 use Rattle.writing_walk.specs.Walk.{place, renumber}
@@ -64,8 +64,8 @@ unfolding run upTo
 degree-from bonds a k zero s = sym (add-zero s)
 degree-from bonds a k (suc m) s = omega (arith, degree-from bonds a (suc k) m (s + pick (touches bonds a k) 1 0), count-weight bonds a k)
 
-pub degree-total : (bonds : List ℤ) (m a : ℕ) → degree bonds m a ≡ total (weightAt (λ k. 1) a) (bondList bonds m)
-unfolding degree
+pub degree-total : (bonds : List ℤ) (m a : ℕ) → bondDegree bonds m a ≡ total (weightAt (λ k. 1) a) (bondList bonds m)
+unfolding bondDegree
 degree-total bonds m a = degree-from bonds a 0 m 0 ∙ zero-add (total (weightAt (λ k. 1) a) (bondList bonds m))
 
 -- tables with n atoms and m bonds, and the same molecule under the walk numbers `order`

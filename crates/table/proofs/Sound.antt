@@ -14,7 +14,7 @@ use Rattle.loops.specs.Loop.{pick, each, run}
 use Rattle.loops.proofs.Loops.{and-left, and-right, each-at, each-all}
 use Rattle.table.specs.Cells.{selected}
 use Rattle.table.specs.Valid.{valid, Valid}
-use Rattle.table.specs.Sound.{touches, countBond, degree, loose, noneLoose, LooseAtom, lateCode, sound}
+use Rattle.table.specs.Sound.{touches, countBond, bondDegree, loose, noneLoose, LooseAtom, lateCode, sound}
 use Rattle.table.proofs.Valid.{facts, facts-back}
 
 -- a test that not all pass fails at one of them
@@ -98,8 +98,8 @@ module _ (atoms bonds : List ℤ) (n m : ℕ) where
       record {
         atom = a;
         used = l;
-        is-selected = eqb-true (selected atoms a) 1 (and-left (eqb (selected atoms a) 1) (ltb (degree bonds m a) 2) h);
-        few-bonds = ltb-true (degree bonds m a) 2 (and-right (eqb (selected atoms a) 1) (ltb (degree bonds m a) 2) h);
+        is-selected = eqb-true (selected atoms a) 1 (and-left (eqb (selected atoms a) 1) (ltb (bondDegree bonds m a) 2) h);
+        few-bonds = ltb-true (bondDegree bonds m a) 2 (and-right (eqb (selected atoms a) 1) (ltb (bondDegree bonds m a) 2) h);
       }
 
   -- 22 exactly if a selected atom has fewer than two bonds
@@ -117,7 +117,7 @@ module _ (atoms bonds : List ℤ) (n m : ℕ) where
           split : (x : Bool) → noneLoose atoms bonds n m ≡ x → lateCode atoms bonds n m ≡ 22
           split true e =
               let z : loose atoms bonds m (w .atom) ≡ false = not-loose e (w .atom) (w .used) in
-              let o : loose atoms bonds m (w .atom) ≡ true = simp (eq-eqb (selected atoms (w .atom)) 1 (w .is-selected), lt-ltb (degree bonds m (w .atom)) 2 (w .few-bonds)) in
+              let o : loose atoms bonds m (w .atom) ≡ true = simp (eq-eqb (selected atoms (w .atom)) 1 (w .is-selected), lt-ltb (bondDegree bonds m (w .atom)) 2 (w .few-bonds)) in
               absurd (true≢false (sym o ∙ z))
           split false e = late-loose e
 
@@ -127,18 +127,18 @@ unfolding run
 run-last step k zero s = simp add-zero
 run-last step k (suc m) s = let e : k + suc m ≡ suc k + m = omega arith in rw e (run-last step (suc k) m (step k s))
 
-degree-suc : (bonds : List ℤ) (b a : ℕ) → degree bonds (suc b) a ≡ degree bonds b a + pick (touches bonds a b) 1 0
-unfolding degree
+degree-suc : (bonds : List ℤ) (b a : ℕ) → bondDegree bonds (suc b) a ≡ bondDegree bonds b a + pick (touches bonds a b) 1 0
+unfolding bondDegree
 degree-suc bonds b a = let e : 0 + b ≡ b = omega arith in run-last (countBond bonds a) 0 b 0 ∙ simp e
 
-pub degree-more : (bonds : List ℤ) (b a : ℕ) → degree bonds (b + 1) a ≡ degree bonds b a + pick (touches bonds a b) 1 0
+pub degree-more : (bonds : List ℤ) (b a : ℕ) → bondDegree bonds (b + 1) a ≡ bondDegree bonds b a + pick (touches bonds a b) 1 0
 degree-more bonds b a = rw (add-one b) (degree-suc bonds b a)
 
-pub degree-none : (bonds : List ℤ) (a : ℕ) → degree bonds 0 a ≡ 0
-unfolding degree run
+pub degree-none : (bonds : List ℤ) (a : ℕ) → bondDegree bonds 0 a ≡ 0
+unfolding bondDegree run
 degree-none bonds a = refl
 
-pub degree-small : (bonds : List ℤ) (b a : ℕ) → degree bonds b a ≤ b
+pub degree-small : (bonds : List ℤ) (b a : ℕ) → bondDegree bonds b a ≤ b
 degree-small bonds zero a = omega (arith, degree-none bonds a)
 degree-small bonds (suc b) a = omega (arith, degree-suc bonds b a, degree-small bonds b a, at-most (touches bonds a b))
   where

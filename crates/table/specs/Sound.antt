@@ -17,12 +17,12 @@ touches bonds a b = eqb (end1 bonds b) a || eqb (end2 bonds b) a
 abbrev pub countBond : List ℤ → ℕ → ℕ → ℕ → ℕ
 countBond bonds a b k = k + pick (touches bonds a b) 1 0
 
-unfoldable pub degree : List ℤ → ℕ → ℕ → ℕ
-degree bonds m a = run (countBond bonds a) 0 m 0
+unfoldable pub bondDegree : List ℤ → ℕ → ℕ → ℕ
+bondDegree bonds m a = run (countBond bonds a) 0 m 0
 
 -- 22: "a selected atom with fewer than two bonds"
 abbrev pub loose : List ℤ → List ℤ → ℕ → ℕ → Bool
-loose atoms bonds m a = eqb (selected atoms a) 1 && ltb (degree bonds m a) 2
+loose atoms bonds m a = eqb (selected atoms a) 1 && ltb (bondDegree bonds m a) 2
 
 unfoldable pub noneLoose : List ℤ → List ℤ → ℕ → ℕ → Bool
 noneLoose atoms bonds n m = each (λ a. not (loose atoms bonds m a)) 0 n
@@ -32,7 +32,7 @@ pub record LooseAtom (atoms bonds : List ℤ) (n m : ℕ) : Type 0 where
   pub atom : ℕ
   pub used : atom < n
   pub is-selected : selected atoms atom ≡ 1
-  pub few-bonds : degree bonds m atom < 2
+  pub few-bonds : bondDegree bonds m atom < 2
 
 -- the late checks in their order: the code of the first that the molecule fails, 0 if it passes all
 unfoldable pub lateCode : List ℤ → List ℤ → ℕ → ℕ → ℕ

@@ -17,7 +17,7 @@ use Rattle.table.specs.Cells.{selected, end1, end2}
 use Rattle.table.specs.declared.Check.{Check}
 use Rattle.table.specs.declared.Check.the-variants.{Fine, Refused}
 use Rattle.table.specs.Valid.{valid, Valid, checkCode}
-use Rattle.table.specs.Sound.{touches, degree, loose, noneLoose, lateCode, sound}
+use Rattle.table.specs.Sound.{touches, bondDegree, loose, noneLoose, lateCode, sound}
 use Rattle.table.proofs.Valid.{facts, facts-back, bond-row}
 use Rattle.table.proofs.Sound.{degree-more, degree-none, degree-small, sound-valid, sound-late, sound-back}
 use Rattle.table_validity.specs.Degrees.{counted, Ends, tight}
@@ -27,12 +27,12 @@ pub ends : {atoms bonds : List ℤ} {n m len : ℕ} → Valid atoms bonds n m �
 ends v l = record { few = v .few-bonds; order = λ b k. bond-row v b k .order; second = λ b k. omega (arith, bond-row v b k .second) }
 
 abbrev pub degreesTo : List ℤ → ℕ → ℕ → List ℕ
-degreesTo bonds b len = upTo (degree bonds b) 0 len
+degreesTo bonds b len = upTo (bondDegree bonds b) 0 len
 
-none-from : (bonds : List ℤ) (k len : ℕ) → replicate len 0 ≡ upTo (degree bonds 0) k len
+none-from : (bonds : List ℤ) (k len : ℕ) → replicate len 0 ≡ upTo (bondDegree bonds 0) k len
 unfolding upTo
 none-from bonds k zero = refl
-none-from bonds k (suc len) = ap (λ (r : List ℕ). 0 ∷ r) (none-from bonds (suc k) len) ∙ ap (λ (x : ℕ). x ∷ upTo (degree bonds 0) (suc k) len) (sym (degree-none bonds k))
+none-from bonds k (suc len) = ap (λ (r : List ℕ). 0 ∷ r) (none-from bonds (suc k) len) ∙ ap (λ (x : ℕ). x ∷ upTo (bondDegree bonds 0) (suc k) len) (sym (degree-none bonds k))
 
 pub degrees-start : (bonds : List ℤ) {s : List ℕ} → s ≡ replicate (length s) 0 → s ≡ degreesTo bonds 0 (length s)
 degrees-start bonds {s} e = e ∙ none-from bonds 0 (length s)
@@ -41,9 +41,9 @@ pub degrees-bound : (bonds : List ℤ) (b len : ℕ) {s : List ℕ} → s ≡ de
 degrees-bound bonds b len {s} e a = rw e (go (ltb a len) refl)
   where
     go : (x : Bool) → ltb a len ≡ x → getD (degreesTo bonds b len) a 0 ≤ b
-    go true h = omega (arith, upTo-at (degree bonds b) len a 0 (ltb-true a len h), degree-small bonds b a)
+    go true h = omega (arith, upTo-at (bondDegree bonds b) len a 0 (ltb-true a len h), degree-small bonds b a)
     go false h =
-        let l : length (degreesTo bonds b len) ≤ a = omega (arith, length-upTo (degree bonds b) 0 len, ltb-false a len h) in
+        let l : length (degreesTo bonds b len) ≤ a = omega (arith, length-upTo (bondDegree bonds b) 0 len, ltb-false a len h) in
         omega (arith, List·getD-eq-default (degreesTo bonds b len) 0 l)
 
 counted-at : (s : List ℕ) (e i : ℕ) → i < length s → getD (counted s e) i 0 ≡ getD s i 0 + pick (eqb e i) 1 0
@@ -71,24 +71,24 @@ two-ends e f i n = go (eqb e i) (eqb f i) refl refl
 pub degrees-step : (bonds : List ℤ) (b len : ℕ) {s t u : List ℕ} {e f : ℕ} → s ≡ degreesTo bonds b len → e ≡ end1 bonds b → f ≡ end2 bonds b → e < f → t ≡ counted s e → u ≡ counted t f → u ≡ degreesTo bonds (b + 1) len
 unfolding touches
 degrees-step bonds b len {s} {t} {u} {e} {f} h pe pf l et eu =
-    let n : length s ≡ len = ap length h ∙ length-upTo (degree bonds b) 0 len in
+    let n : length s ≡ len = ap length h ∙ length-upTo (bondDegree bonds b) 0 len in
     let nt : length t ≡ len = ap length et ∙ length-set s e (getD s e 0 + 1) ∙ n in
     let nu : length u ≡ len = ap length eu ∙ length-set t f (getD t f 0 + 1) ∙ nt in
-    ext-getD 0 u (degreesTo bonds (b + 1) len) (nu ∙ sym (length-upTo (degree bonds (b + 1)) 0 len))
+    ext-getD 0 u (degreesTo bonds (b + 1) len) (nu ∙ sym (length-upTo (bondDegree bonds (b + 1)) 0 len))
     (λ i k.
     let k1 : i < len = omega arith in
     let at-u : getD u i 0 ≡ getD t i 0 + pick (eqb f i) 1 0 = ap (λ (x : List ℕ). getD x i 0) eu ∙ counted-at t f i (omega arith) in
     let at-t : getD t i 0 ≡ getD s i 0 + pick (eqb e i) 1 0 = ap (λ (x : List ℕ). getD x i 0) et ∙ counted-at s e i (omega arith) in
-    let at-s : getD s i 0 ≡ degree bonds b i = ap (λ (x : List ℕ). getD x i 0) h ∙ upTo-at (degree bonds b) len i 0 k1 in
+    let at-s : getD s i 0 ≡ bondDegree bonds b i = ap (λ (x : List ℕ). getD x i 0) h ∙ upTo-at (bondDegree bonds b) len i 0 k1 in
     let both : pick {A = ℕ} (eqb e i) 1 0 + pick {A = ℕ} (eqb f i) 1 0 ≡ pick (touches bonds i b) 1 0 = two-ends e f i (λ q. omega arith) ∙ rw (pe, pf) in
-    let to : getD u i 0 ≡ degree bonds (b + 1) i = omega (arith, at-u, at-t, at-s, both, degree-more bonds b i) in
-    to ∙ sym (upTo-at (degree bonds (b + 1)) len i 0 k1))
+    let to : getD u i 0 ≡ bondDegree bonds (b + 1) i = omega (arith, at-u, at-t, at-s, both, degree-more bonds b i) in
+    to ∙ sym (upTo-at (bondDegree bonds (b + 1)) len i 0 k1))
 
 -- the test on the counted numbers is the definition's
 pub tight-all : (atoms bonds : List ℤ) (n m len : ℕ) {s : List ℕ} → s ≡ degreesTo bonds m len → n ≤ len → each (tight atoms s) 0 n ≡ noneLoose atoms bonds n m
 unfolding noneLoose
 tight-all atoms bonds n m len {s} e l =
-    each-same (tight atoms s) (λ a. not (loose atoms bonds m a)) n (λ a k. rw (e, upTo-at (degree bonds m) len a 0 (omega arith)))
+    each-same (tight atoms s) (λ a. not (loose atoms bonds m a)) n (λ a k. rw (e, upTo-at (bondDegree bonds m) len a 0 (omega arith)))
 
 -- one atom's test
 pub tight-fails : (atoms : List ℤ) (s : List ℕ) (a : ℕ) {r : ℕ} → r ≡ selected atoms a → (eqb r 1 && ltb (getD s a 0) 2) ≡ true → tight atoms s a ≡ false

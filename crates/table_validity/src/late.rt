@@ -5,7 +5,7 @@ ghost use lib.ListN.{length, getD, replicate};
 ghost use Rattle.loops.specs.Loop.{each, upTo};
 ghost use Rattle.table.specs.Limits.{maxAtoms};
 ghost use Rattle.table.specs.Valid.{Valid, checkCode};
-ghost use Rattle.table.specs.Sound.{degree, noneLoose, lateCode};
+ghost use Rattle.table.specs.Sound.{bondDegree, noneLoose, lateCode};
 ghost use Rattle.table_validity.specs.Degrees.{counted, Ends, tight};
 use ids::AtomId;
 use ids::BondId;
@@ -32,7 +32,7 @@ fn count_end(degrees: &mut [u16], a: usize)
 fn count_bonds(bonds: &[i32], m: usize, degrees: &mut [u16])
     requires { ⌜ Ends (now bonds) m (length (now degrees)) ⌝ }
     requires { ⌜ now degrees ≡ replicate (length (now degrees)) 0 ⌝ }
-    ensures { λ _. ⌜ now (degrees .exit) ≡ upTo (degree (now (bonds .entry)) m) 0 (length (now (degrees .entry))) ⌝ }
+    ensures { λ _. ⌜ now (degrees .exit) ≡ upTo (bondDegree (now (bonds .entry)) m) 0 (length (now (degrees .entry))) ⌝ }
 {
     let mut i = 0;
     while i < m {

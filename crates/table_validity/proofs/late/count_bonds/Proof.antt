@@ -4,7 +4,7 @@ use mathlib.Core.Path.{_≡_, refl, sym, ap, _∙_}
 use denote.Ref.{now}
 use lib.ListN.{length, length-set}
 use Rattle.loops.proofs.Loops.{length-upTo}
-use Rattle.table.specs.Sound.{degree}
+use Rattle.table.specs.Sound.{bondDegree}
 use Rattle.table_validity.proofs.Degrees.{degreesTo, degrees-start, degrees-bound, second-bound, degrees-step}
 use Rattle.table_validity.proofs.late.count_bonds.Statement.{statement}
 use Rattle.table_validity.proofs.late.count_bonds.Tie as tie
@@ -29,7 +29,7 @@ count-end-requires c κs =
     let w = s .pre .0 in
     let bs = now (s .args .bonds) in
     let k = degrees-bound bs (a .i) (length (now (s .args .degrees))) (a .inv .1) (c .bond-number .result) in
-    let n = ap length (a .inv .1) ∙ length-upTo (degree bs (a .i)) 0 (length (now (s .args .degrees))) in
+    let n = ap length (a .inv .1) ∙ length-upTo (bondDegree bs (a .i)) 0 (length (now (s .args .degrees))) in
     (omega (arith, c .bond-number .ensures, w .order (a .i) l, w .second (a .i) l, n), omega (arith, k, w .few, l))
 
 bond-number-requires-2 : tie.Need-bond-number-requires-2 Inv-loop μ-loop
@@ -47,7 +47,7 @@ count-end-requires-2 c κs =
     let d = c .before .before .before .before .count-end .ensures in
     let less : e .result < f .result = omega (arith, e .ensures, f .ensures, w .order (a .i) l) in
     let k = second-bound (a .degrees) (e .result) (f .result) (a .i) less (degrees-bound bs (a .i) (length (now (s .args .degrees))) (a .inv .1)) in
-    let n = ap length d ∙ length-set (a .degrees) (e .result) _ ∙ ap length (a .inv .1) ∙ length-upTo (degree bs (a .i)) 0 (length (now (s .args .degrees))) in
+    let n = ap length d ∙ length-set (a .degrees) (e .result) _ ∙ ap length (a .inv .1) ∙ length-upTo (bondDegree bs (a .i)) 0 (length (now (s .args .degrees))) in
     (omega (arith, f .ensures, w .second (a .i) l, n), rw d (omega (arith, k, w .few, l)))
 
 add-i : tie.Need-add-i Inv-loop μ-loop
@@ -68,7 +68,7 @@ loop-again c =
     (omega arith, degrees-step bs (a .i) (length (now (s .args .degrees))) (a .inv .1) (e .ensures) (f .ensures) (omega (arith, e .ensures, f .ensures, w .order (a .i) l)) (c .before .before .before .before .before .before .before .count-end .ensures) (c .before .before .count-end2 .ensures))
 
 same-length : tie.Need-same-length Inv-loop μ-loop
-same-length c = let s = c .before .before .before in ap length (c .before .loop .inv .1) ∙ length-upTo (degree (now (s .args .bonds)) (c .before .loop .i)) 0 (length (now (s .args .degrees)))
+same-length c = let s = c .before .before .before in ap length (c .before .loop .inv .1) ∙ length-upTo (bondDegree (now (s .args .bonds)) (c .before .loop .i)) 0 (length (now (s .args .degrees)))
 
 returns : tie.Need-returns Inv-loop μ-loop
 returns c =
