@@ -12,7 +12,7 @@ use borrow.Author.Tests.{ne-eqb, eq-eqb, eqb-true, ltb-true, ltb-false}
 use Rattle.loops.specs.Loop.{pick}
 use Rattle.loops.proofs.Loops.{and-left, and-right}
 use Rattle.matching.specs.Enumeration.{Row}
-use Rattle.matching.specs.Graph.{flagged, induced, chosenInduced, countIf, bondDegree, eachOnce, isMatching}
+use Rattle.matching.specs.Graph.{flagged, induced, chosenInduced, countIf, degree, eachOnce, isMatching}
 use Rattle.matching.specs.Graph.{Bond as Edge}
 use Rattle.matching.proofs.Graph.{and-intro, once-at, at-once}
 use Rattle.writing_walk.specs.Token.{Bond, bond}
@@ -51,13 +51,13 @@ induced-sum flags (b ∷ bs) (x ∷ r) = go (eqb x 0) (induced flags (edge b)) (
     go false true s e = e ∙ ap (λ (k : ℕ). eqb k 0) (sym (zero-add s))
     go false false s e = sym (ne-eqb (1 + s) 0 (λ q. omega arith))
 
-degree-sum : (bs : List Bond) (r : Row) (v : ℕ) → bondDegree (map edge bs) r v ≡ chosenSum (atEnd v) bs r
-unfolding bondDegree chosenSum
+degree-sum : (bs : List Bond) (r : Row) (v : ℕ) → degree (map edge bs) r v ≡ chosenSum (atEnd v) bs r
+unfolding degree chosenSum
 degree-sum [] r v = refl
 degree-sum (b ∷ bs) [] v = refl
 degree-sum (b ∷ bs) (x ∷ r) v = go (eqb x 0) (eqb (b .lo) v || eqb (b .hi) v) (degree-sum bs r v)
   where
-    go : (z t : Bool) → bondDegree (map edge bs) r v ≡ chosenSum (atEnd v) bs r → countIf (not z && t) (bondDegree (map edge bs) r v) ≡ pick z 0 (cond t 1 0) + chosenSum (atEnd v) bs r
+    go : (z t : Bool) → degree (map edge bs) r v ≡ chosenSum (atEnd v) bs r → countIf (not z && t) (degree (map edge bs) r v) ≡ pick z 0 (cond t 1 0) + chosenSum (atEnd v) bs r
     go true t e = omega arith
     go false true e = omega arith
     go false false e = omega arith
@@ -69,14 +69,14 @@ matched flags bs r h =
     let o = and-right (chosenInduced flags (map edge bs) r) (eachOnce (map edge bs) r flags 0) h in
     record {
       allowed = eqb-true (chosenSum (barred flags) bs r) 0 (sym (induced-sum flags bs r) ∙ i);
-      each-once = λ v e. sym (degree-sum bs r v) ∙ ap (bondDegree (map edge bs) r) (sym (zero-add v)) ∙ once-at (map edge bs) r flags 0 o v e;
+      each-once = λ v e. sym (degree-sum bs r v) ∙ ap (degree (map edge bs) r) (sym (zero-add v)) ∙ once-at (map edge bs) r flags 0 o v e;
     }
 
 pub matching : (flags : List ℕ) (bs : List Bond) (r : Row) → Matched flags bs r → isMatching flags (map edge bs) r ≡ true
 unfolding isMatching
 matching flags bs r m =
     and-intro (chosenInduced flags (map edge bs) r) (eachOnce (map edge bs) r flags 0) (induced-sum flags bs r ∙ eq-eqb (chosenSum (barred flags) bs r) 0 (m .allowed))
-    (at-once (map edge bs) r flags 0 (λ v e. ap (bondDegree (map edge bs) r) (zero-add v) ∙ degree-sum bs r v ∙ m .each-once v e))
+    (at-once (map edge bs) r flags 0 (λ v e. ap (degree (map edge bs) r) (zero-add v) ∙ degree-sum bs r v ∙ m .each-once v e))
 
 -- the atom with a walk number
 pub record Source (n : ℕ) (order : List ℕ) (k : ℕ) : Type 0 where
