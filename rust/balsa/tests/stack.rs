@@ -44,7 +44,7 @@ fn long_chain() {
         atoms: 200,
         bonds: 199,
     };
-    assert_eq!(read("c".repeat(200)), Ok(counts));
+    assert_eq!(read(format!("C{}C", "c".repeat(198))), Ok(counts));
 }
 
 #[test]
