@@ -1,23 +1,15 @@
 -- What reading hands back: 01's number and values for each case of the answer
 use Prim.Native.Nat.{ℕ}
 use mathlib.Core.Path.{_≡_}
-use mathlib.Core.Bool.{Bool}
 use mathlib.Core.List.{List}
-use lib.ListN.{getD, set}
-use lib.IntN.{ℤ, pos}
-use lib.Dec.{eqb}
-use Rattle.loops.specs.Loop.{pick, run}
+use lib.IntN.{ℤ}
 use Rattle.refusal.specs.Code.{codeOf}
-use Rattle.valence.specs.Valence.{implied}
 use Rattle.reading_grammar.specs.Fold.{Verdict, good, bad, answer}
-use Rattle.table.specs.Limits.{HYDROGENS}
-use Rattle.table.specs.Cells.{atomPlace, element, selected}
-use Rattle.table_graph.specs.Graph.{matchable}
 use Rattle.reading_state.specs.State.{Steering}
 use Rattle.reading_state.specs.declared.Fields.{Fields}
 use Rattle.reading.specs.Memory.{Memory, nothing, blank}
 use Rattle.reading.specs.Act.{act}
-use Rattle.reading.specs.Read.{ReadResult, beginning, hydrogenated, ended}
+use Rattle.reading.specs.Read.{ReadResult, beginning, ended}
 use Rattle.reading_fields.specs.Rest.{memory}
 use Rattle.reader.specs.declared.bridge.Why.{Why}
 use Rattle.reader.specs.declared.ending.ReadAnswer as reply
@@ -25,21 +17,8 @@ use Rattle.reader.specs.Outcome.{Bounded, Outcome}
 
 -- 0 with the counts, or the refusal's code with its offset and counts of 0; and both tables
 abbrev pub told : reply.ReadAnswer → List ℤ → List ℤ → ReadResult
-told (reply.ReadAnswer.Molecule n m) a b = record { code = 0; offset = 0; atomCount = n; bondCount = m; atoms = a; bonds = b }
-told (reply.ReadAnswer.Refused r p) a b = record { code = codeOf r; offset = p; atomCount = 0; bondCount = 0; atoms = a; bonds = b }
-
--- the hydrogens of one atom, by whether it stood outside brackets and by its bond sum
-abbrev pub hydrogensBy : ℕ → ℕ → ℕ → List ℤ → List ℤ
-hydrogensBy x sum a t = pick (eqb x 1) (set t (atomPlace a HYDROGENS) (pos (implied (element t a) (selected t a) sum))) t
-
--- those of n atoms, by the bond sums
-unfoldable pub hydrogenatedBy : List ℕ → List ℕ → ℕ → List ℤ → List ℤ
-hydrogenatedBy outside sums n t = run (λ a. hydrogensBy (getD outside a 0) (getD sums a 0) a) 0 n t
-
--- the atoms have their hydrogens, and whether there is a matching is told
-pub record Completed (outside : List ℕ) (atoms bonds : List ℤ) (n m : ℕ) (r : Bool) (atoms′ : List ℤ) : Type 0 where
-  pub hydrogens : atoms′ ≡ hydrogenated outside bonds m n atoms
-  pub matched : r ≡ matchable atoms′ bonds n m
+told (reply.ReadAnswer.Molecule n m k) a b = record { code = 0; offset = 0; atomCount = n; bondCount = m; overfull = k; atoms = a; bonds = b }
+told (reply.ReadAnswer.Refused r p) a b = record { code = codeOf r; offset = p; atomCount = 0; bondCount = 0; overfull = 0; atoms = a; bonds = b }
 
 -- what comes after the last byte, in a state and with tables
 abbrev pub endedOf : Steering → List ℤ → List ℤ → ReadResult
