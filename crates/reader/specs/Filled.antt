@@ -1,6 +1,7 @@
 -- auxiliary: what filling in the hydrogens and counting the over-full atoms promise, from bond sums at hand
 use Prim.Native.Nat.{ℕ, _+_}
 use mathlib.Core.Path.{_≡_}
+use mathlib.Core.Bool.{Bool}
 use mathlib.Core.List.{List}
 use lib.ListN.{getD, set}
 use lib.IntN.{ℤ, pos}
@@ -10,7 +11,7 @@ use Rattle.valence.specs.Valence.{implied, overfull}
 use Rattle.table.specs.Limits.{HYDROGENS}
 use Rattle.table.specs.Cells.{atomPlace, element, selected}
 use Rattle.table_graph.specs.Graph.{matchable}
-use Rattle.reading.specs.Read.{hydrogenated, overfullAtoms}
+use Rattle.reading.specs.Read.{ReadResult, refused, hydrogenated, overfullAtoms}
 use Rattle.reader.specs.declared.ending.Whole.{Whole}
 
 -- the hydrogens of one atom, by whether it stood outside brackets and by its bond sum
@@ -43,3 +44,7 @@ pub record Completed (outside : List ℕ) (atoms bonds : List ℤ) (n m : ℕ) (
   pub hydrogens : atoms′ ≡ hydrogenated outside bonds m n atoms
   pub overfull : r .overfull ≡ overfullAtoms outside bonds m n atoms
   pub matched : r .matchable ≡ matchable atoms′ bonds n m
+
+-- the molecule, or 11, by whether it has a matching
+abbrev pub placedBy : Bool → List ℤ → List ℤ → ℕ → ℕ → ℕ → ReadResult
+placedBy x atoms bonds n m k = pick x (record { code = 0; offset = 0; atomCount = n; bondCount = m; overfull = k; atoms = atoms; bonds = bonds }) (refused 11 0 atoms bonds)

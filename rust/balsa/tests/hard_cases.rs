@@ -75,7 +75,7 @@ fn a_lone_ring_behind_32_benzenes() {
 
 #[test]
 fn two_bonds_far_apart() {
-    let text = format!("c%10c%11.{}c%10.c%11", "c1ccccc1.".repeat(31));
+    let text = format!("c%10c%11.{}c%10C.c%11C", "c1ccccc1.".repeat(31));
     let molecule = Molecule::read(text.as_bytes()).unwrap();
     let first = molecule.matchings().next().unwrap();
     assert_eq!(first[0], 0);
@@ -84,8 +84,8 @@ fn two_bonds_far_apart() {
 }
 
 #[test]
-fn an_odd_atom_behind_33_benzenes() {
-    let text = "c1ccccc1.".repeat(33) + "c";
+fn an_odd_atom_behind_32_benzenes() {
+    let text = "c1ccccc1.".repeat(32) + "CcC";
     let refusal = Molecule::read(text.as_bytes()).unwrap_err();
     assert_eq!(refusal.code, Code::Unmatchable);
 }
@@ -150,11 +150,16 @@ fn random_graphs_at_the_limits() {
         if case % 2 == 0 {
             (0..100).for_each(|pair| join(&mut bonds, pair, 199 - pair));
         }
-        for _ in 0..100_000 {
+        // every atom gets two bonds, then come more
+        for turn in 0..100_000 {
             if bonds.len() == 250 {
                 break;
             }
-            join(&mut bonds, random(200), random(200));
+            let loose =
+                (0..200).find(|&a| bonds.iter().filter(|&&(b, c)| b == a || c == a).count() < 2);
+            let one = loose.unwrap_or_else(|| random(200));
+            join(&mut bonds, one, random(200));
+            assert!(turn < 99_999, "case {case}");
         }
         let graph = Graph {
             atoms: 200,

@@ -10,7 +10,7 @@ const STACK: usize = 192 * 1024;
 const HEXAGONS: &str = "c1cc2cc3cc4cc5cc6cc7ccc8c9c7c7c6c6c5c5c4c4c3c3c2c(c1)cc1c3c2c4c3c5c4c6c5c7c6c9c7c(c8)cc8c9c7c7c6c6c5c5c4c4c3c3c2c(c1)cc1c3c2c4c3c5c4c6c5c7c6c9c7c(c8)cc8c9c7c7c6c6c5c5c4c4c3c3c2c(c1)cc1c3c2c4c3c5c4c6c5c7c6c9c7c(c8)cc8c9c7c7c6c6c5c5c4c4c3c3c2c(c1)ccc3cc4cc5cc6cc7cc9ccc8";
 
 /// Hexagons without two corners of one kind: no matching, and no short reason for a plain search.
-const WITHOUT_CORNERS: &str = "ccc1c2ccc3cc4cc5cc6ccc7c8c6c6c5c5c4c4c3c2c2c(c1)cc1c3c2c4c2c5c4c6c5c8c6c(c7)cc7c8c6c6c5c5c4c4c2c3c2c(c1)cc1c3c2c4c2c5c4c6c5c8c6c(c7)cc7c8c6c6c5c5c4c4c2c3c2c(c1)cc1c3c2c4c2c5c4c6c5c8c6c(c7)cc7c8c6c6c5c5c4c4c2c3c2c(c1)ccc1c2c4c2c5c3c6c4c8c(c(c7)c)c(cc4cc3cc2c1)c";
+const WITHOUT_CORNERS: &str = "Cccc1c2ccc3cc4cc5cc6ccc7c8c6c6c5c5c4c4c3c2c2c(c1)cc1c3c2c4c2c5c4c6c5c8c6c(c7)cc7c8c6c6c5c5c4c4c2c3c2c(c1)cc1c3c2c4c2c5c4c6c5c8c6c(c7)cc7c8c6c6c5c5c4c4c2c3c2c(c1)cc1c3c2c4c2c5c4c6c5c8c6c(c7)cc7c8c6c6c5c5c4c4c2c3c2c(c1)ccc1c2c4c2c5c3c6c4c8c(c(c7)cC)c(cc4cc3cc2c1)cC";
 
 /// Reads a text on a thread with little stack: the counts, or the refusal's code.
 fn read(text: String) -> Result<Counts, Code> {
@@ -44,7 +44,7 @@ fn long_chain() {
         atoms: 200,
         bonds: 199,
     };
-    assert_eq!(read("c".repeat(200)), Ok(counts));
+    assert_eq!(read(format!("C{}C", "c".repeat(198))), Ok(counts));
 }
 
 #[test]

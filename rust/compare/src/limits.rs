@@ -66,7 +66,7 @@ pub fn nested(random: &mut Random) -> Molecule {
 }
 
 /// Eight spine atoms with 24 leaves each and 51 bridges, all with the longest spellings but for
-/// some bytes: about 4,096 of them. Two atoms at a leaf are perhaps delocalized.
+/// some bytes: about 4,096 of them. Two leaves with bridges are perhaps delocalized.
 pub fn longest(random: &mut Random) -> Molecule {
     let leaf = |spine: usize, leaf: usize| 8 + 24 * spine + leaf;
     let mut ends = Vec::new();
@@ -78,9 +78,9 @@ pub fn longest(random: &mut Random) -> Molecule {
     let mut molecule = of_ends(200, ends.into_iter(), Kind::Single);
     molecule.atoms.fill(LONG);
     if random.percent(50) {
-        let (inner, outer) = (leaf(3, 22), leaf(3, 23));
+        let (inner, outer) = (leaf(7, 15), leaf(7, 16));
         for bond in &mut molecule.bonds {
-            if bond.second == outer {
+            if bond.ends() == (7, outer) {
                 *bond = Bond::between(inner, outer, Kind::Elided);
             }
         }
