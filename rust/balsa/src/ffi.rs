@@ -64,7 +64,9 @@ pub struct WalkReply {
 }
 
 mod linked {
-    use super::{EntryReply, ForcedReply, ReadReply, ReportReply, SymbolReply, WalkReply, WriteReply};
+    use super::{
+        EntryReply, ForcedReply, ReadReply, ReportReply, SymbolReply, WalkReply, WriteReply,
+    };
 
     extern "C" {
         pub fn balsa_symbol(first: u8, second: u8) -> SymbolReply;

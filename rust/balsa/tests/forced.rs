@@ -1,6 +1,6 @@
 //! The calls of the engine that forces pairs: their refusals, their list, and that they answer as the other calls do.
 
-use balsa::tables::{self, Counts, Step, ATOM_TABLE, BOND_TABLE, ROW};
+use balsa::tables::{self, Counts, Step, ATOM_TABLE, BOND_TABLE, RENUMBERING, ROW};
 use balsa::{Code, Molecule};
 
 fn read(text: &str) -> (Vec<i32>, Vec<i32>, Counts) {
@@ -10,21 +10,27 @@ fn read(text: &str) -> (Vec<i32>, Vec<i32>, Counts) {
     (atoms, bonds, counts)
 }
 
-/// Tables of selected carbons without hydrogens that no text gives: they may lack a matching.
-fn carbons(atoms: usize, ends: &[(i32, i32)]) -> (Vec<i32>, Vec<i32>, Counts) {
-    let mut atom_table = vec![0; ATOM_TABLE];
-    for row in atom_table.chunks_exact_mut(6).take(atoms) {
-        row[..2].copy_from_slice(&[6, 1]);
+/// A selected carbon with three selected neighbours, each with a methyl: no text gives these tables,
+/// since they lack a matching.
+fn star() -> (Vec<i32>, Vec<i32>, Counts) {
+    let ends = [[0, 1], [0, 2], [0, 3], [1, 4], [2, 5], [3, 6]];
+    let mut atoms = vec![0; ATOM_TABLE];
+    for (atom, row) in atoms
+        .chunks_exact_mut(ATOM_TABLE / RENUMBERING)
+        .take(7)
+        .enumerate()
+    {
+        row[..2].copy_from_slice(&[6, i32::from(atom < 4)]);
     }
-    let mut bond_table = vec![0; BOND_TABLE];
-    for (row, &(first, second)) in bond_table.chunks_exact_mut(3).zip(ends) {
-        row[..2].copy_from_slice(&[first, second]);
+    let mut bonds = vec![0; BOND_TABLE];
+    for (row, ends) in bonds.chunks_exact_mut(BOND_TABLE / ROW).zip(&ends) {
+        row[..2].copy_from_slice(ends);
     }
     let counts = Counts {
-        atoms,
+        atoms: 7,
         bonds: ends.len(),
     };
-    (atom_table, bond_table, counts)
+    (atoms, bonds, counts)
 }
 
 #[test]
@@ -52,8 +58,8 @@ fn a_refusal_zeroes_the_row_and_the_list() {
     let told = tables::first_forced(&atoms, &bonds, counts, &mut row, &mut pairs);
     assert_eq!(told, Err(Code::Invalid));
     assert!(row.iter().all(|&cell| cell == 0) && pairs.iter().all(|&cell| cell == 0));
-    // a star: one pair would be made before an atom is stuck
-    let (atoms, bonds, counts) = carbons(4, &[(0, 1), (0, 2), (0, 3)]);
+    // one pair is made before an atom is stuck
+    let (atoms, bonds, counts) = star();
     let mut row = vec![7; ROW];
     let mut pairs = vec![9; ROW];
     let told = tables::first_forced(&atoms, &bonds, counts, &mut row, &mut pairs);
@@ -79,7 +85,15 @@ fn the_list_and_the_zeros_behind_it() {
 
 #[test]
 fn forced_pairs_are_in_every_matching() {
-    for text in ["c1ccccc1", "o1cccc1", "ccc1ccccc1", "c1ccc2ccccc2c1", "c1cc2cccccc2c1", "CC", ""] {
+    for text in [
+        "c1ccccc1",
+        "o1cccc1",
+        "Cccc1ccccc1",
+        "c1ccc2ccccc2c1",
+        "c1cc2cccccc2c1",
+        "CC",
+        "",
+    ] {
         let molecule = Molecule::read(text.as_bytes()).unwrap();
         let forced = molecule.forced();
         for row in molecule.matchings() {
@@ -90,7 +104,13 @@ fn forced_pairs_are_in_every_matching() {
 
 #[test]
 fn both_engines_list_the_same() {
-    for text in ["c1ccccc1", "c1ccc2ccccc2c1", "c1cc2ccc3cccc4ccc(c1)c2c34", "ccc1ccccc1", "CC"] {
+    for text in [
+        "c1ccccc1",
+        "c1ccc2ccccc2c1",
+        "c1cc2ccc3cccc4ccc(c1)c2c34",
+        "Cccc1ccccc1",
+        "CC",
+    ] {
         let molecule = Molecule::read(text.as_bytes()).unwrap();
         let (atoms, bonds, counts) = read(text);
         let mut row = vec![0; ROW];

@@ -1,12 +1,16 @@
 //! Families of molecules whose matchings are hard or many: fused hexagons, fullerenes, random graphs.
 
-use balsa::tables::{Counts, ATOM_TABLE, BOND_TABLE, ROW};
+use balsa::tables::{Counts, ATOM_TABLE, BOND_TABLE, RENUMBERING, ROW};
 use std::collections::{BTreeMap, BTreeSet};
 
-/// The most atoms and bonds of a molecule.
-pub const MOST_ATOMS: usize = ATOM_TABLE / 6;
+/// The most atoms of a molecule.
+const MOST_ATOMS: usize = RENUMBERING;
 /// The most bonds of a molecule.
-pub const MOST_BONDS: usize = ROW;
+const MOST_BONDS: usize = ROW;
+/// The cells of an atom's row.
+const ATOM_CELLS: usize = ATOM_TABLE / MOST_ATOMS;
+/// The cells of a bond's row.
+const BOND_CELLS: usize = BOND_TABLE / MOST_BONDS;
 
 /// Selected carbons, each with the hydrogens that make it want one partner.
 pub struct Graph {
@@ -40,7 +44,7 @@ impl Graph {
     }
 
     /// Whether the molecule is within the limits.
-    pub fn fits(&self) -> bool {
+    fn fits(&self) -> bool {
         self.atoms <= MOST_ATOMS && self.bonds.len() <= MOST_BONDS
     }
 
@@ -48,13 +52,13 @@ impl Graph {
     pub fn tables(&self) -> Tables {
         let mut degrees = vec![0; self.atoms];
         let mut bonds = vec![0; BOND_TABLE];
-        for (row, &(a, b)) in bonds.chunks_exact_mut(3).zip(&self.bonds) {
+        for (row, &(a, b)) in bonds.chunks_exact_mut(BOND_CELLS).zip(&self.bonds) {
             row[..2].copy_from_slice(&[a as i32, b as i32]);
             degrees[a] += 1;
             degrees[b] += 1;
         }
         let mut atoms = vec![0; ATOM_TABLE];
-        for (row, degree) in atoms.chunks_exact_mut(6).zip(&degrees) {
+        for (row, degree) in atoms.chunks_exact_mut(ATOM_CELLS).zip(&degrees) {
             row[..4].copy_from_slice(&[6, 1, 0, (3 - degree).max(0)]);
         }
         let counts = Counts {
@@ -93,7 +97,10 @@ fn hexagons(
     }
     let corners: BTreeSet<_> = edges.iter().flat_map(|&(a, b)| [a, b]).collect();
     let numbers: BTreeMap<_, _> = corners.into_iter().zip(0..).collect();
-    let ends: Vec<_> = edges.iter().map(|(a, b)| (numbers[a], numbers[b])).collect();
+    let ends: Vec<_> = edges
+        .iter()
+        .map(|(a, b)| (numbers[a], numbers[b]))
+        .collect();
     Graph::new(name, numbers.len(), ends)
 }
 
@@ -105,7 +112,11 @@ fn fused(name: String, rings: usize, turning: bool) -> Graph {
     for _ in 0..rings {
         let ring = [one, atoms, atoms + 1, atoms + 2, atoms + 3, other];
         ends.extend(ring.windows(2).map(|pair| (pair[0], pair[1])));
-        (one, other) = if turning { (ring[1], ring[2]) } else { (ring[2], ring[3]) };
+        (one, other) = if turning {
+            (ring[1], ring[2])
+        } else {
+            (ring[2], ring[3])
+        };
         atoms += 4;
     }
     Graph::new(name, atoms, ends)
@@ -148,13 +159,18 @@ fn fullerene(name: String, faces: usize, pentagons: [usize; 12]) -> Graph {
     let mut ends = Vec::new();
     for (i, corner) in corners.iter().enumerate() {
         let later = corners.iter().enumerate().skip(i + 1);
-        ends.extend(later.filter(|(_, to)| shared(corner, to) == 2).map(|(j, _)| (i, j)));
+        ends.extend(
+            later
+                .filter(|(_, to)| shared(corner, to) == 2)
+                .map(|(j, _)| (i, j)),
+        );
     }
     Graph::new(name, corners.len(), ends)
 }
 
-/// A random graph in which no atom has more than three bonds, with a matching hidden in it or not.
-fn random(atoms: usize, bonds: usize, hidden: bool, seed: u64) -> Graph {
+/// A random graph in which each atom has two or three bonds: rings of so many atoms (the last may be
+/// longer), and further bonds between any two atoms.
+fn random(atoms: usize, bonds: usize, ring: usize, seed: u64) -> Graph {
     let mut state = seed;
     let mut below = |bound: usize| {
         state ^= state << 13;
@@ -162,26 +178,36 @@ fn random(atoms: usize, bonds: usize, hidden: bool, seed: u64) -> Graph {
         state ^= state << 17;
         (state % bound as u64) as usize
     };
-    let mut degrees = vec![0; atoms];
+    let mut order: Vec<usize> = (0..atoms).collect();
+    (1..atoms).rev().for_each(|i| order.swap(i, below(i + 1)));
     let mut ends = BTreeSet::new();
-    let mut join = |ends: &mut BTreeSet<_>, a: usize, b: usize| {
-        let is_free = a != b && degrees[a] < 3 && degrees[b] < 3;
-        if is_free && ends.insert((a.min(b), a.max(b))) {
-            degrees[a] += 1;
-            degrees[b] += 1;
+    let mut rest = &order[..];
+    while !rest.is_empty() {
+        let size = if rest.len() < 2 * ring {
+            rest.len()
+        } else {
+            ring
+        };
+        let (around, left) = rest.split_at(size);
+        for (i, &atom) in around.iter().enumerate() {
+            let to = around[(i + 1) % size];
+            ends.insert((atom.min(to), atom.max(to)));
         }
-    };
-    if hidden {
-        (0..atoms / 2).for_each(|atom| join(&mut ends, atom, atoms - 1 - atom));
+        rest = left;
     }
+    let mut third = vec![false; atoms];
     for _ in 0..1000 * bonds {
-        if ends.len() == bonds {
-            break;
+        let (a, b) = (below(atoms), below(atoms));
+        let is_free = a != b && !third[a] && !third[b];
+        if ends.len() < bonds && is_free && ends.insert((a.min(b), a.max(b))) {
+            (third[a], third[b]) = (true, true);
         }
-        join(&mut ends, below(atoms), below(atoms));
     }
-    let kind = if hidden { "with" } else { "any" };
-    Graph::new(format!("random {atoms}, {kind}, {seed}"), atoms, ends)
+    Graph::new(
+        format!("random {atoms}, rings of {ring}, {seed}"),
+        atoms,
+        ends,
+    )
 }
 
 /// The largest of a family that is within the limits, of sizes that ascend.
@@ -210,18 +236,36 @@ pub fn all() -> Vec<Graph> {
         let cells = triangle.flat_map(move |(x, y)| [(side + x, side + y), (side - x, side - y)]);
         hexagons(format!("goblet {side}"), cells, None)
     };
-    let mut all = vec![acene(1), acene(5), helicene(6), flake(4), tube(3), triangulene(3), goblet(3)];
-    all.push(fullerene("C60".into(), 32, [0, 6, 8, 10, 12, 14, 17, 19, 21, 23, 25, 31]));
-    all.push(fullerene("C70".into(), 37, [0, 6, 8, 10, 12, 14, 26, 28, 30, 32, 34, 36]));
+    let mut all = vec![
+        acene(1),
+        acene(5),
+        helicene(6),
+        flake(4),
+        tube(3),
+        triangulene(3),
+        goblet(3),
+    ];
+    all.push(fullerene(
+        "C60".into(),
+        32,
+        [0, 6, 8, 10, 12, 14, 17, 19, 21, 23, 25, 31],
+    ));
+    all.push(fullerene(
+        "C70".into(),
+        37,
+        [0, 6, 8, 10, 12, 14, 26, 28, 30, 32, 34, 36],
+    ));
     all.extend(largest(1..400, acene));
     all.extend(largest(1..400, helicene));
     all.extend(largest(1..40, flake));
     all.extend(largest(1..80, tube));
     all.extend(largest(1..40, triangulene));
     all.extend(largest(1..40, goblet));
-    for (atoms, bonds) in [(200, 250), (1000, 1100)] {
-        all.extend((1..4).map(|seed| random(atoms, bonds, true, seed)));
-        all.extend((1..4).map(|seed| random(atoms, bonds, false, seed)));
+    let cubic = MOST_BONDS / 3 * 2;
+    for (atoms, bonds) in [(200, 250), (1000, 1100), (cubic, MOST_BONDS)] {
+        for ring in [5, 6, atoms] {
+            all.extend((1..4).map(|seed| random(atoms, bonds, ring, seed)));
+        }
     }
     all.retain(Graph::fits);
     all

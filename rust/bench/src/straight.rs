@@ -5,7 +5,7 @@
 #[derive(Clone, Copy, Debug, PartialEq, Eq)]
 pub struct TooLong;
 
-/// A search over the bonds of a graph in which every atom wants a partner.
+/// A search over bonds, by their ends; an atom that wants no partner counts as paired.
 pub struct Search<'a> {
     ends: &'a [(usize, usize)],
     paired: Vec<bool>,
@@ -14,11 +14,11 @@ pub struct Search<'a> {
 }
 
 impl<'a> Search<'a> {
-    /// A search that may take so many steps.
-    pub fn new(atoms: usize, ends: &'a [(usize, usize)], steps: usize) -> Self {
+    /// A search for partners of the atoms that want one, which may take so many steps.
+    pub fn new(wants: &[bool], ends: &'a [(usize, usize)], steps: usize) -> Self {
         Search {
             ends,
-            paired: vec![false; atoms],
+            paired: wants.iter().map(|&wants| !wants).collect(),
             row: vec![0; ends.len()],
             steps,
         }

@@ -58,9 +58,8 @@ mod tests {
 
     #[test]
     fn the_lowest_is_looked_for_anew_after_each_pair() {
-        assert_eq!(forced_in("CccccccC"), [1, 3, 5]);
         // both ends force: the lower atom first, then what is left in the middle
-        assert_eq!(forced_in("cccccc"), [0, 2, 4]);
+        assert_eq!(forced_in("CccccccC"), [1, 3, 5]);
         assert_eq!(forced_in("o1cccc1"), [1, 3]);
     }
 
@@ -73,7 +72,7 @@ mod tests {
 
     #[test]
     fn a_chain_at_a_ring_is_forced() {
-        // styrene with a selected chain: the chain's bond, then nothing in the ring
-        assert_eq!(forced_in("ccc1ccccc1"), [0]);
+        // the chain's bond, then nothing in the ring
+        assert_eq!(forced_in("Cccc1ccccc1"), [1]);
     }
 }
