@@ -123,3 +123,20 @@ fn both_engines_list_the_same() {
         assert_eq!(listed, molecule.matchings().collect::<Vec<_>>(), "{text}");
     }
 }
+
+#[test]
+fn an_odd_ring_behind_30_benzenes_ends() {
+    let (mut atoms, bonds, counts) = read(&("c1ccccc1.".repeat(30) + "C1CCCC1"));
+    for row in atoms
+        .chunks_exact_mut(ATOM_TABLE / RENUMBERING)
+        .take(counts.atoms)
+        .skip(180)
+    {
+        (row[1], row[3]) = (1, 1);
+    }
+    let mut row = vec![7; ROW];
+    let mut pairs = vec![9; ROW];
+    let told = tables::first_forced(&atoms, &bonds, counts, &mut row, &mut pairs);
+    assert_eq!(told, Err(Code::Unmatchable));
+    assert!(row.iter().all(|&cell| cell == 0) && pairs.iter().all(|&cell| cell == 0));
+}
