@@ -6,7 +6,9 @@ use balsa::{Code, Molecule};
 fn read(text: &str) -> (Vec<i32>, Vec<i32>, Counts) {
     let mut atoms = vec![0; ATOM_TABLE];
     let mut bonds = vec![0; BOND_TABLE];
-    let counts = tables::read(text.as_bytes(), &mut atoms, &mut bonds).unwrap();
+    let counts = tables::read(text.as_bytes(), &mut atoms, &mut bonds)
+        .unwrap()
+        .counts;
     (atoms, bonds, counts)
 }
 

@@ -130,7 +130,7 @@ impl Implementation for Reference {
         let mut pairs = std::mem::take(&mut buffers.pairs);
         let result = tables::first_forced(tables_of(buffers), &mut row, &mut pairs);
         (buffers.row, buffers.pairs) = (row, pairs);
-        answer(result, |forced| Answer::of(forced, 0))
+        answer(result, |forced| Answer::of(forced))
     }
 
     fn next_forced(&self, buffers: &mut Buffers) -> Answer {

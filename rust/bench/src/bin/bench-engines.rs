@@ -248,11 +248,11 @@ fn induced(text: &str) -> Option<Induced> {
 fn read(text: &str) -> Option<Slot> {
     let mut atoms = vec![0; ATOM_TABLE];
     let mut bonds = vec![0; BOND_TABLE];
-    let counts = tables::read(text.as_bytes(), &mut atoms, &mut bonds).ok()?;
+    let read = tables::read(text.as_bytes(), &mut atoms, &mut bonds).ok()?;
     Some(Slot::new(Tables {
         atoms,
         bonds,
-        counts,
+        counts: read.counts,
     }))
 }
 
