@@ -243,7 +243,7 @@ module _ {atoms bonds : List ℤ} {n m : ℕ} {o w u kd ea eb ks sums : List ℕ
       subst (λ (bs : List Bond). Listed bs n l2 h2 q2 k) (wired-list (h .wired)) (listed held-fit d held-numbered l j q l2 h2 q2 k r e)
 
 -- the arrays that writing makes have room
-pub bag-zeros : BondRoom (replicate 250 0) (replicate 250 0) (replicate 250 0)
+pub bag-zeros : BondRoom (replicate maxBonds 0) (replicate maxBonds 0) (replicate maxBonds 0)
 bag-zeros = record { los = lit≤ tt; his = lit≤ tt; kinds = lit≤ tt }
 
 pub sums-at : (sums : List ℕ) (g : ℕ → ℕ) (n l : ℕ) → sums ≡ upTo g 0 l → n ≤ l → (a : ℕ) → a < n → getD sums a 0 ≡ g a
