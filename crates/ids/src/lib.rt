@@ -18,5 +18,8 @@ pub const MAX_TEXT: usize = 16384;
 // 01, When a call says no, 6 and 15: the most branches that are open inside one another.
 pub const MAX_DEPTH: usize = 64;
 
+// The size of the arrays that suffice for a small molecule: an array is cleared where it is made.
+pub const SMALL: usize = 64;
+
 // 01, The text: bridge numbers are 1 to 99; each is below this.
 pub const BRIDGES: usize = 100;

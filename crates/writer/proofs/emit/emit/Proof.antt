@@ -28,7 +28,8 @@ slice-aggregate-emit-atom c =
 emit-atom-requires : tie.Need-emit-atom-requires Inv-loop μ-loop
 emit-atom-requires c κs =
     let p = c .before .before .before .before .before .before .before .before .before .before .before .before .before .pre in
-    (p .0 _ (c .before .before .loop-test .taken), (p .1, omega (arith, c .before .before .before .loop .inv .2)))
+    let t = c .before .before .loop-test .taken in
+    (p .0 _ t, (p .1 .0, (omega (arith, c .before .before .before .loop .inv .2), omega (arith, t, p .1 .1))))
 
 same-length : tie.Need-same-length Inv-loop μ-loop
 same-length c =

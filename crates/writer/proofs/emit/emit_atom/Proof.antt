@@ -58,7 +58,7 @@ ring-ends-requires : tie.Need-ring-ends-requires
 ring-ends-requires c κs =
     let p = c .before .before .before .before .before .before .before .before .before .before .before .before .before .before .before .before .before .before .before .before .before .before .before .before .before .pre in
     let r = p .0 in
-    ((r .lower, r .higher), ((r .bridges, p .1 .1), (r .opened, (p .1 .0, r .few))))
+    ((r .lower, r .higher), ((r .bridges, p .1 .1 .0), (r .opened, (p .1 .0, p .1 .1 .1))))
 
 same-length : tie.Need-same-length
 same-length c = search needs

@@ -11,43 +11,43 @@ use Rattle.writing_bridges.proofs.unused.add_unused.Tie as tie
 mul-e : tie.Need-mul-e
 mul-e c = search needs
 
-element-copy-out-e : tie.Need-element-copy-out-e
-element-copy-out-e c = search needs
+shared-slice-read-e : tie.Need-shared-slice-read-e
+shared-slice-read-e c = search needs
 
 cast-e : tie.Need-cast-e
 cast-e c =
     let s = c .before .before .before .before .before .before in
     let fit = s .pre .0 in
-    let w = fit .ends (s .args .b .0) (s .pre .1 .1 .1 .1 .0) in
+    let w = fit .ends (s .args .b .0) (s .pre .1 .1 .1 .1 .0 .0) in
     omega (arith, w .0, w .1, fit .few-atoms)
 
 mul-f : tie.Need-mul-f
 mul-f c = search needs
 
-element-copy-out-f : tie.Need-element-copy-out-f
-element-copy-out-f c = search needs
+shared-slice-read-f : tie.Need-shared-slice-read-f
+shared-slice-read-f c = search needs
 
 cast-f : tie.Need-cast-f
 cast-f c =
     let s = c .before .before .before .before .before .before .before in
     let fit = s .pre .0 in
-    let w = fit .ends (s .args .b .0) (s .pre .1 .1 .1 .1 .0) in
+    let w = fit .ends (s .args .b .0) (s .pre .1 .1 .1 .1 .0 .0) in
     omega (arith, w .1, fit .few-atoms)
 
-element-copy-out-kind : tie.Need-element-copy-out-kind
-element-copy-out-kind c = search needs
+shared-slice-read-kind : tie.Need-shared-slice-read-kind
+shared-slice-read-kind c = search needs
 
 cast-kind : tie.Need-cast-kind
 cast-kind c =
     let s = c .before .before .before .before .before .before .before .before in
     let fit = s .pre .0 in
-    omega (arith, fit .kinds (s .args .b .0) (s .pre .1 .1 .1 .1 .0))
+    omega (arith, fit .kinds (s .args .b .0) (s .pre .1 .1 .1 .1 .0 .0))
 
 mul-p : tie.Need-mul-p
 mul-p c =
     let s = c .before .before .before .before .before .before .before .before in
     let fit = s .pre .0 in
-    let w = fit .ends (s .args .b .0) (s .pre .1 .1 .1 .1 .0) in
+    let w = fit .ends (s .args .b .0) (s .pre .1 .1 .1 .1 .0 .0) in
     omega (arith, w .0, w .1, fit .few-atoms)
 
 shared-slice-read-p : tie.Need-shared-slice-read-p
@@ -55,7 +55,7 @@ shared-slice-read-p c =
     let s = c .before .before .before .before .before .before .before .before .before in
     let fit = s .pre .0 in
     let num = s .pre .1 .0 in
-    let w = fit .ends (s .args .b .0) (s .pre .1 .1 .1 .1 .0) in
+    let w = fit .ends (s .args .b .0) (s .pre .1 .1 .1 .1 .0 .0) in
     omega (arith, w .0, w .1, fit .few-atoms, num .numbers)
 
 cast-p : tie.Need-cast-p
@@ -67,7 +67,7 @@ mul-q : tie.Need-mul-q
 mul-q c =
     let s = c .before .before .before .before .before .before .before .before .before in
     let fit = s .pre .0 in
-    let w = fit .ends (s .args .b .0) (s .pre .1 .1 .1 .1 .0) in
+    let w = fit .ends (s .args .b .0) (s .pre .1 .1 .1 .1 .0 .0) in
     omega (arith, w .1, fit .few-atoms)
 
 shared-slice-read-q : tie.Need-shared-slice-read-q
@@ -75,7 +75,7 @@ shared-slice-read-q c =
     let s = c .before .before .before .before .before .before .before .before .before .before in
     let fit = s .pre .0 in
     let num = s .pre .1 .0 in
-    let w = fit .ends (s .args .b .0) (s .pre .1 .1 .1 .1 .0) in
+    let w = fit .ends (s .args .b .0) (s .pre .1 .1 .1 .1 .0 .0) in
     omega (arith, w .1, fit .few-atoms, num .numbers)
 
 cast-q : tie.Need-cast-q
@@ -89,7 +89,7 @@ add-bond-requires c κs =
     let a = s .args in
     let fit = s .pre .0 in
     let num = s .pre .1 .0 in
-    let h = s .pre .1 .1 .1 .1 .0 in
+    let h = s .pre .1 .1 .1 .1 .0 .0 in
     let p = first-number fit num (a .b .0) h _ refl in
     let q = second-number fit num (a .b .0) h _ refl in
     let l = numbers-below fit num (a .b .0) h in
@@ -111,7 +111,7 @@ returns c =
     let a = s .args in
     let fit = s .pre .0 in
     let num = s .pre .1 .0 in
-    let h = s .pre .1 .1 .1 .1 .0 in
+    let h = s .pre .1 .1 .1 .1 .0 .0 in
     let p = first-number fit num (a .b .0) h _ refl in
     let q = second-number fit num (a .b .0) h _ refl in
     let l = numbers-below fit num (a .b .0) h in
@@ -125,7 +125,7 @@ add-bond-requires-2 c κs =
     let a = s .args in
     let fit = s .pre .0 in
     let num = s .pre .1 .0 in
-    let h = s .pre .1 .1 .1 .1 .0 in
+    let h = s .pre .1 .1 .1 .1 .0 .0 in
     let p = first-number fit num (a .b .0) h _ refl in
     let q = second-number fit num (a .b .0) h _ refl in
     let l = numbers-below fit num (a .b .0) h in
@@ -147,7 +147,7 @@ returns-2 c =
     let a = s .args in
     let fit = s .pre .0 in
     let num = s .pre .1 .0 in
-    let h = s .pre .1 .1 .1 .1 .0 in
+    let h = s .pre .1 .1 .1 .1 .0 .0 in
     let p = first-number fit num (a .b .0) h _ refl in
     let q = second-number fit num (a .b .0) h _ refl in
     let l = numbers-below fit num (a .b .0) h in
@@ -160,12 +160,12 @@ add-unused-spec =
     tie.close
     (tie.spec
     mul-e
-    element-copy-out-e
+    shared-slice-read-e
     cast-e
     mul-f
-    element-copy-out-f
+    shared-slice-read-f
     cast-f
-    element-copy-out-kind
+    shared-slice-read-kind
     cast-kind
     mul-p
     shared-slice-read-p
