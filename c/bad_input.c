@@ -44,7 +44,8 @@ static void short_buffers(void) {
     memset(bonds, 7, sizeof bonds);
     balsa_read_reply r = balsa_read((const uint8_t *)"CC", 2, atoms, BALSA_ATOM_TABLE - 1, bonds,
                                     BALSA_BOND_TABLE);
-    expect(r.code == 1 && r.place == 0 && r.atoms == 0 && r.bonds == 0, "a short atom table");
+    expect(r.code == 1 && r.place == 0 && r.atoms == 0 && r.bonds == 0 && r.overfull == 0,
+           "a short atom table");
     r = balsa_read((const uint8_t *)"CC", 2, atoms, BALSA_ATOM_TABLE, NULL, 0);
     expect(r.code == 1, "no bond table");
     expect(all(atoms, sizeof atoms, 7) && all(bonds, sizeof bonds, 7), "1 leaves the tables");
@@ -67,10 +68,16 @@ static void texts(void) {
     expect(r.code == 0 && r.atoms == 0 && r.bonds == 0, "the empty text");
     memset(atoms, 7, sizeof atoms);
     r = read_text("C11");
-    expect(r.code == 7 && r.place == 2 && r.atoms == 0, "C11 is 7 at 2");
+    expect(r.code == 7 && r.place == 2 && r.atoms == 0 && r.overfull == 0, "C11 is 7 at 2");
     expect(all(atoms, sizeof atoms, 0) && all(bonds, sizeof bonds, 0), "a refusal zeroes the tables");
     r = read_text("c1ccnc1");
     expect(r.code == 11 && r.place == 0, "c1ccnc1 is 11");
+    r = read_text("FC(F)(F)(F)F");
+    expect(r.code == 0 && r.overfull == 1, "an over-full atom");
+    r = read_text("F[C](F)(F)(F)F");
+    expect(r.code == 0 && r.overfull == 0, "brackets do not count");
+    r = read_text("c1ccnc1.FC(F)(F)(F)F");
+    expect(r.code == 11 && r.overfull == 0, "no number at a refusal");
 }
 
 /* Refusal 13: cells out of range and counts above the limits, in every call on tables. */
@@ -172,7 +179,7 @@ static void registers(void) {
 /* The report: as long as it says; one byte too few changes nothing; zeros follow it. */
 static void reports(void) {
     static const char input[] = "c1ccccc1\nC11\n\n";
-    static const char report[] = "balsa report\n1: 0 6 6 101010 C1=CC=CC=C1\n2: 7 2\n3: 0 0 0 - -\n"
+    static const char report[] = "balsa report\n1: 0 6 6 0 101010 C1=CC=CC=C1\n2: 7 2\n3: 0 0 0 0 - -\n"
                                  "accepted 2 refused 1\n";
     size_t input_len = sizeof input - 1, length = sizeof report - 1;
     const uint8_t *lines = (const uint8_t *)input;

@@ -30,12 +30,14 @@ enum {
     BALSA_END = 255
 };
 
-/* code 0 with both counts, or a refusal's code with its place and counts 0 */
+/* code 0 with both counts and the number of over-full atoms outside brackets (bond sum above every
+ * target valence), or a refusal's code with its place and counts 0 */
 typedef struct {
     uint32_t code;
     size_t place;
     size_t atoms;
     size_t bonds;
+    size_t overfull;
 } balsa_read_reply;
 
 /* code 0 with the length of the text, or a refusal's code with length 0 */

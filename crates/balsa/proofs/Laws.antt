@@ -18,8 +18,8 @@ use Rattle.balsa.specs.declared.WriteReply.{WriteReply}
 use Rattle.balsa.specs.Replies.{readReplyOf, readOut, writeReplyOf, writeOut}
 
 pub read-law : (a : ReadAnswer) {r : ReadReply} {atoms bonds : List ℤ} {t : ReadResult} → r ≡ readReplyOf a → told a atoms bonds ≡ t → readOut r atoms bonds ≡ t
-read-law (Molecule n m) {atoms = atoms} {bonds} e g = ap (λ (k : ReadReply). readOut k atoms bonds) e ∙ g
-read-law (Refused c p) {atoms = atoms} {bonds} e g = ap (λ (k : ReadReply). readOut k atoms bonds) e ∙ g
+read-law (Molecule n m k) {atoms = atoms} {bonds} e g = ap (λ (x : ReadReply). readOut x atoms bonds) e ∙ g
+read-law (Refused c p) {atoms = atoms} {bonds} e g = ap (λ (x : ReadReply). readOut x atoms bonds) e ∙ g
 
 pub write-law : (w : Written) {r : WriteReply} {out ren : List ℕ} {t : write.WriteResult} → r ≡ writeReplyOf w → writer-told w out ren ≡ t → writeOut r out ren ≡ t
 write-law (Text k) {out = out} {ren} e g = ap (λ (x : WriteReply). writeOut x out ren) e ∙ g

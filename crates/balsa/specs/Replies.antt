@@ -14,12 +14,12 @@ use Rattle.balsa.specs.declared.WriteReply.{WriteReply}
 
 -- an answer of the reader in plain numbers
 abbrev pub readReplyOf : ReadAnswer → ReadReply
-readReplyOf (Molecule n m) = record { code = 0; place = 0; atoms = n; bonds = m }
-readReplyOf (readRefused r p) = record { code = codeOf r; place = p; atoms = 0; bonds = 0 }
+readReplyOf (Molecule n m k) = record { code = 0; place = 0; atoms = n; bonds = m; overfull = k }
+readReplyOf (readRefused r p) = record { code = codeOf r; place = p; atoms = 0; bonds = 0; overfull = 0 }
 
 -- the same with both tables, as the definition of reading tells it
 abbrev pub readOut : ReadReply → List ℤ → List ℤ → ReadResult
-readOut r atoms bonds = record { code = r .code; offset = r .place; atomCount = r .atoms; bondCount = r .bonds; atoms = atoms; bonds = bonds }
+readOut r atoms bonds = record { code = r .code; offset = r .place; atomCount = r .atoms; bondCount = r .bonds; overfull = r .overfull; atoms = atoms; bonds = bonds }
 
 -- an answer of the writer in plain numbers
 abbrev pub writeReplyOf : Written → WriteReply

@@ -17,13 +17,15 @@ mod register_calls;
 pub mod reporting;
 pub mod symbol;
 
-// What reading hands back: code 0 with the counts of atoms and bonds, or the refusal's code with its offset.
+// What reading hands back: code 0 with the counts of atoms, of bonds and of over-full atoms outside brackets, or the refusal's code
+// with its offset and counts of 0.
 #[repr(C)]
 pub struct ReadReply {
     pub code: u32,
     pub place: usize,
     pub atoms: usize,
     pub bonds: usize,
+    pub overfull: usize,
 }
 
 // An answer of the reader in plain numbers.
@@ -31,17 +33,19 @@ fn read_reply(a: ReadAnswer) -> ReadReply
     ensures { λ r. ⌜ r ≡ readReplyOf a ⌝ }
 {
     match a {
-        ReadAnswer::Molecule(n, m) => ReadReply {
+        ReadAnswer::Molecule(n, m, k) => ReadReply {
             code: 0,
             place: 0,
             atoms: n,
             bonds: m,
+            overfull: k,
         },
         ReadAnswer::Refused(r, p) => ReadReply {
             code: refusal::code(r) as u32,
             place: p,
             atoms: 0,
             bonds: 0,
+            overfull: 0,
         },
     }
 }

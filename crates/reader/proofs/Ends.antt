@@ -34,7 +34,7 @@ use Rattle.reading_state.specs.State.{Steering, steering, started}
 use Rattle.reading_state.specs.declared.State.{State}
 use Rattle.reading.specs.Memory.{Memory, nothing, blank}
 use Rattle.reading.specs.Act.{act, modeAct}
-use Rattle.reading.specs.Read.{ReadResult, zeros, refused, short, beginning, hydrogenate, hydrogenated, earlier, leftmost, ended, finished, readFrom, readOf}
+use Rattle.reading.specs.Read.{ReadResult, zeros, refused, short, beginning, hydrogenate, hydrogenated, overfullAtoms, earlier, leftmost, ended, finished, readFrom, readOf}
 use Rattle.reading.proofs.Hydrogens.{implied-small}
 use Rattle.reading.proofs.Valid.{sane-valid}
 use Rattle.reading.proofs.Claims.{read-sane}
@@ -182,9 +182,9 @@ module _ (t : Steering) (a b : List ℤ) {p : ℕ} (e : p ≡ leftmost (t .opene
   ended-open h ex ey = rw (ex, ey, ← e, lt-ltb p maxText h)
 
   module _ (h : maxText ≤ p) {v : List ℤ} (ev : v ≡ hydrogenated (t .outside) b (t .bonds) (t .atoms) a) where
-    pub ended-matched : matchable v b (t .atoms) (t .bonds) ≡ true → told (reply.ReadAnswer.Molecule (t .atoms) (t .bonds)) v b ≡ endedOf t a b
+    pub ended-matched : {k : ℕ} → k ≡ overfullAtoms (t .outside) b (t .bonds) (t .atoms) a → matchable v b (t .atoms) (t .bonds) ≡ true → told (reply.ReadAnswer.Molecule (t .atoms) (t .bonds) k) v b ≡ endedOf t a b
     unfolding ended
-    ended-matched m = rw (← e, le-ltb p maxText h, ← ev, m)
+    ended-matched ek m = rw (← e, le-ltb p maxText h, ← ev, m, ek)
 
     pub ended-unmatched : {x y : List ℤ} → matchable v b (t .atoms) (t .bonds) ≡ false → x ≡ zeros v → y ≡ zeros b → told (reply.ReadAnswer.Refused Unmatchable 0) x y ≡ endedOf t a b
     unfolding ended

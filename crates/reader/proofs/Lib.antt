@@ -4,3 +4,4 @@ pub mod Bridges
 pub mod Branches
 pub mod Turns
 pub mod Ends
+pub mod Filling

@@ -6,9 +6,10 @@ ghost use Rattle.ids.specs.Limits.{bridges};
 ghost use Prim.Native.Nat.{ℕ, _≤_, _<_};
 ghost use Rattle.table.specs.Limits.{maxAtoms, maxBonds};
 ghost use Rattle.table.specs.Valid.{Valid};
+ghost use Rattle.valence.specs.Valence.{valuesOf};
 ghost use Rattle.reading_state.specs.State.{steering};
 ghost use Rattle.reading.specs.Read.{earlier, leftmost, hydrogenated};
-ghost use Rattle.reader.specs.Ending.{hydrogensBy, hydrogenatedBy, Completed, told, endedOf};
+ghost use Rattle.reader.specs.Ending.{AtomFilled, AtomsFilled, Completed, told, endedOf};
 use ids::AtomId;
 use ids::BRIDGES;
 use ids::MAX_TEXT;
@@ -21,11 +22,18 @@ use table::MAX_BONDS;
 use table::SELECTED;
 use table::cell;
 use table_edits::clear;
+use valence::Reached;
 
-// A molecule with its counts of atoms and bonds, or a refusal with its offset.
+// A molecule with its counts of atoms, bonds and over-full atoms, or a refusal with its offset.
 pub enum ReadAnswer {
-    Molecule(usize, usize),
+    Molecule(usize, usize, usize),
     Refused(Refusal, usize),
+}
+
+// Whether a molecule has a matching, and its number of over-full atoms.
+struct Whole {
+    matchable: bool,
+    overfull: usize,
 }
 
 // The lower of two offsets of openings; the second counts if its opener is not 0.
@@ -71,40 +79,61 @@ fn leftmost(openers: &[u16; BRIDGES], offsets: &[u16; BRIDGES]) -> usize
     p
 }
 
-// Writes the hydrogens of an atom that stood outside brackets (outside is 1), from its bond sum.
-fn hydrogenate_atom(atoms: &mut [i32], a: AtomId, outside: u8, sum: u16)
+// 1 for a bond sum above all targets.
+fn overfull(reached: Reached) -> usize
+    ensures { λ r. ⌜ r ≡ valuesOf reached .overfull ⌝ }
+{
+    match reached {
+        Reached::Target(_) => 0,
+        Reached::NoTarget => 0,
+        Reached::AboveAll => 1,
+    }
+}
+
+// Writes the hydrogens of an atom that stood outside brackets (outside is 1), from its bond sum; answers 1 if it is over-full.
+fn hydrogenate_atom(atoms: &mut [i32], a: AtomId, outside: u8, sum: u16) -> usize
     requires { ⌜ a .0 < maxAtoms ⌝ }
-    ensures { λ _. ⌜ now (atoms .exit) ≡ hydrogensBy outside sum (a .0) (now (atoms .entry)) ⌝ }
+    ensures { λ r. ⌜ AtomFilled outside sum (a .0) (now (atoms .entry)) (now (atoms .exit)) r ⌝ }
 {
     if outside != 1 {
-        return;
+        return 0;
     }
     let e = cell::atom_number(atoms, a, ELEMENT);
     let s = cell::atom_number(atoms, a, SELECTED);
     let h = valence::implied(e, s, sum as usize);
-    cell::put_atom_cell(atoms, a, HYDROGENS, h as i32);
+    let count = h.count;
+    cell::put_atom_cell(atoms, a, HYDROGENS, count as i32);
+    let reached = h.reached;
+    overfull(reached)
 }
 
-// Writes the hydrogens of every atom that stood outside brackets, from the bond sums.
-fn hydrogenate(n: usize, outsides: &[u8; MAX_ATOMS], sums: &[u16; MAX_ATOMS], atoms: &mut [i32])
+// Writes the hydrogens of every atom that stood outside brackets, from the bond sums; answers the number of over-full ones.
+fn hydrogenate(
+    n: usize,
+    outsides: &[u8; MAX_ATOMS],
+    sums: &[u16; MAX_ATOMS],
+    atoms: &mut [i32],
+) -> usize
     requires { ⌜ n ≤ maxAtoms ⌝ }
-    ensures { λ _. ⌜ now (atoms .exit) ≡ hydrogenatedBy (now (outsides .entry)) (now (sums .entry)) n (now (atoms .entry)) ⌝ }
+    ensures { λ r. ⌜ AtomsFilled (now (outsides .entry)) (now (sums .entry)) n (now (atoms .entry)) (now (atoms .exit)) r ⌝ }
 {
+    let mut overfull = 0;
     let mut i = 0;
     while i < n {
-        hydrogenate_atom(atoms, AtomId(i), outsides[i], sums[i]);
+        overfull += hydrogenate_atom(atoms, AtomId(i), outsides[i], sums[i]);
         i += 1;
     }
+    overfull
 }
 
-// Writes the hydrogens and tells whether a matching exists, in one pass over the bonds.
+// Writes the hydrogens, counts the over-full atoms and tells whether a matching exists, in one pass over the bonds.
 fn complete(
     n: usize,
     m: usize,
     outsides: &[u8; MAX_ATOMS],
     atoms: &mut [i32],
     bonds: &[i32],
-) -> bool
+) -> Whole
     requires { ⌜ Valid (hydrogenated (now outsides) (now bonds) m n (now atoms)) (now bonds) n m ⌝ }
     ensures { λ r. ⌜ Completed (now (outsides .entry)) (now (atoms .entry)) (now (bonds .entry)) n m r (now (atoms .exit)) ⌝ }
 {
@@ -113,8 +142,12 @@ fn complete(
     let mut el = [0u8; MAX_BONDS];
     let mut sums = [0u16; MAX_ATOMS];
     table_graph::wire(bonds, m, &mut ea, &mut eb, &mut el, &mut sums);
-    hydrogenate(n, outsides, &sums, atoms);
-    kekule::matchable(atoms, n, m, &sums, &ea, &eb, &el)
+    let overfull = hydrogenate(n, outsides, &sums, atoms);
+    let matchable = kekule::matchable(atoms, n, m, &sums, &ea, &eb, &el);
+    Whole {
+        matchable,
+        overfull,
+    }
 }
 
 // internal: what a text that was read whole answers: 10, 11 or the molecule.
@@ -138,8 +171,9 @@ pub fn end(
     }
     let n = st.atoms;
     let m = st.bonds;
-    if complete(n, m, outsides, atoms, bonds) {
-        return ReadAnswer::Molecule(n, m);
+    let w = complete(n, m, outsides, atoms, bonds);
+    if w.matchable {
+        return ReadAnswer::Molecule(n, m, w.overfull);
     }
     clear(atoms);
     clear(bonds);

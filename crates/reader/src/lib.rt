@@ -63,7 +63,7 @@ fn read_text(
     o
 }
 
-// Reads a text: the counts of atoms and bonds, the tables holding their rows and zeros after them; or the refusal with its offset,
+// Reads a text: the counts of atoms, of bonds and of over-full atoms outside brackets, the tables holding their rows and zeros after them; or the refusal with its offset,
 // 1 to 11 in 01's order. A table that is too short (1) leaves both as they were; every other refusal leaves both zeroed.
 pub fn read(text: &[u8], atoms: &mut [i32], bonds: &mut [i32]) -> ReadAnswer
     ensures { λ r. ⌜ told r (now (atoms .exit)) (now (bonds .exit)) ≡ readOf (now (text .entry)) (now (atoms .entry)) (now (bonds .entry)) ⌝ }

@@ -1,10 +1,11 @@
 -- An accepted text: valid tables, every row as it was read, and the hydrogens of 01. Assumes nothing.
-use Prim.Native.Nat.{ℕ, _+_, _≤_, _<_}
+use Prim.Native.Nat.{ℕ, zero, suc, _+_, _≤_, _<_}
 use native.Mathlib.Omega.{arith}
 use mathlib.Core.Path.{_≡_, refl, sym, ap, subst, _∙_}
 use mathlib.Core.List.{List}
 use lib.ListN.{length, getD}
 use lib.IntN.{ℤ, pos}
+use Rattle.loops.specs.Loop.{run}
 use Rattle.valence.specs.Valence.{implied}
 use Rattle.reading_grammar.specs.declared.MachineState.{MachineState}
 use Rattle.reading_grammar.specs.declared.MachineState.the-variants.{Start as start}
@@ -18,8 +19,8 @@ use Rattle.table_graph.specs.Graph.{bondSum}
 use Rattle.ids.specs.Limits.{maxText}
 use Rattle.reading.specs.Memory.{Memory}
 use Rattle.reading.specs.Act.{act}
-use Rattle.reading.specs.Read.{ReadResult, zeros, short, beginning, readOf}
-use Rattle.reading.specs.Conditions.{bytesRead, atomsOf, Fits}
+use Rattle.reading.specs.Read.{ReadResult, zeros, short, beginning, overfullAt, overfullAtoms, readOf}
+use Rattle.reading.specs.Conditions.{bytesRead, atomsOf, overfullOf, Fits}
 use Rattle.reading.specs.Claims.{withHydrogens, Given, Accepted}
 use Rattle.reading.proofs.Sane.{Sane, SaneReading}
 use Rattle.reading.proofs.Step.{sane-text}
@@ -28,6 +29,12 @@ use Rattle.reading.proofs.Valid.{sane-valid}
 use Rattle.reading.proofs.Refusals.{act-code}
 use Rattle.reading.proofs.Leftmost.{none-open}
 use Rattle.reading.proofs.Outcome.{accepted, Outcome, outcome}
+
+-- steps that agree run alike
+run-same : {S : Type 0} (f g : ℕ → S → S) (c k : ℕ) (x : S) → ((a : ℕ) (y : S) → f a y ≡ g a y) → run f k c x ≡ run g k c x
+unfolding run
+run-same f g zero k x h = refl
+run-same f g (suc c) k x h = ap (run f (suc k) c) (h k x) ∙ run-same f g c (suc k) (g k x) h
 
 module _ (s : List ℕ) (atoms bonds : List ℤ) where
   -- the memory of every reading that goes on is sane
@@ -59,19 +66,27 @@ module _ (s : List ℕ) (atoms bonds : List ℤ) where
 
   -- ---- hydrogens
 
+  -- a cell that hydrogens do not touch
+  same-cell : (μ : Memory) (a f : ℕ) → (f ≡ HYDROGENS → ⊥) → f < atomCells → getD (atomsOf μ) (atomPlace a f) (pos 0) ≡ getD (μ .atoms) (atomPlace a f) (pos 0)
+  same-cell μ a f n h = hydrogenated-other (μ .st .outside) (μ .bonds) (μ .st .bonds) (μ .st .atoms) (μ .atoms) (atomPlace a f) (λ x lx ex jx. n (omega arith))
+
+  -- the over-full atoms are counted alike before and after the hydrogens are given
+  same-overfull : (μ : Memory) → overfullOf μ ≡ overfullAtoms (μ .st .outside) (μ .bonds) (μ .st .bonds) (μ .st .atoms) (atomsOf μ)
+  unfolding overfullAtoms
+  same-overfull μ =
+      run-same (λ a k. k + overfullAt (μ .st .outside) (μ .bonds) (μ .st .bonds) (μ .atoms) a) (λ a k. k + overfullAt (μ .st .outside) (μ .bonds) (μ .st .bonds) (atomsOf μ) a) (μ .st .atoms) 0 0
+      (λ a k. rw (same-cell μ a ELEMENT (λ z. omega arith) (omega arith), same-cell μ a SELECTED (λ z. omega arith) (omega arith)))
+
   given : {σ : MachineState} {μ : Memory} → Sane (length atoms) (length bonds) σ (length s) μ → (a : ℕ) → a < μ .st .atoms → Given μ (accepted μ) a
   given {σ} {μ} w a l = record { outside = outside; bracket = row-kept (μ .st .outside) (μ .bonds) (μ .st .bonds) (μ .st .atoms) (μ .atoms) a }
     where
-      same : (f : ℕ) → (f ≡ HYDROGENS → ⊥) → f < atomCells → getD (atomsOf μ) (atomPlace a f) (pos 0) ≡ getD (μ .atoms) (atomPlace a f) (pos 0)
-      same f n h = hydrogenated-other (μ .st .outside) (μ .bonds) (μ .st .bonds) (μ .st .atoms) (μ .atoms) (atomPlace a f) (λ x lx ex jx. n (omega arith))
-
       outside : getD (μ .st .outside) a 0 ≡ 1 → atomRow (atomsOf μ) a ≡ withHydrogens (atomRow (μ .atoms) a) (pos (implied (element (atomsOf μ) a) (selected (atomsOf μ) a) (bondSum (μ .bonds) (μ .st .bonds) a)))
       outside e =
           row-given (μ .st .outside) (μ .bonds) (μ .st .bonds) (μ .st .atoms) (μ .atoms) a l (omega (arith, w .tables .atom-length, w .tables .atom-room, w .tables .few-atoms)) e
           ∙ ap (λ (h : ℕ). withHydrogens (atomRow (μ .atoms) a) (pos h)) (sym count)
         where
           count : implied (element (atomsOf μ) a) (selected (atomsOf μ) a) (bondSum (μ .bonds) (μ .st .bonds) a) ≡ implied (element (μ .atoms) a) (selected (μ .atoms) a) (bondSum (μ .bonds) (μ .st .bonds) a)
-          count = rw (same ELEMENT (λ z. omega arith) (omega arith), same SELECTED (λ z. omega arith) (omega arith))
+          count = rw (same-cell μ a ELEMENT (λ z. omega arith) (omega arith), same-cell μ a SELECTED (λ z. omega arith) (omega arith))
 
   -- every bridge that is open was opened before the text's end
   pub early : {σ : MachineState} {μ : Memory} → Fits s atoms bonds → Sane (length atoms) (length bonds) σ (length s) μ → (r : ℕ) → 0 < getD (μ .st .opener) r 0 → getD (μ .st .offset) r 0 < maxText
@@ -98,6 +113,7 @@ module _ (s : List ℕ) (atoms bonds : List ℤ) where
             ends = a;
             counts = (refl, refl, refl);
             rows = given w;
+            overfull-atoms = same-overfull μ;
             lengths = (hydrogenated-length (μ .st .outside) (μ .bonds) (μ .st .bonds) (μ .st .atoms) (μ .atoms) ∙ w .tables .atom-length, w .tables .bond-length);
             unused-bonds = w .tables .bonds-clear;
             unused-atoms = λ k h. hydrogenated-other (μ .st .outside) (μ .bonds) (μ .st .bonds) (μ .st .atoms) (μ .atoms) k (λ x lx ex jx. omega arith) ∙ w .tables .atoms-clear k h;

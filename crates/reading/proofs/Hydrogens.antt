@@ -13,7 +13,8 @@ use borrow.Author.Tests.{eq-eqb, eqb-true, leb-true}
 use Rattle.loops.specs.Loop.{pick, run}
 use Rattle.loops.proofs.Loops.{and-left, and-right}
 use Rattle.reading_grammar.proofs.Ends.{never}
-use Rattle.valence.specs.Valence.{targets, headOr0, firstTarget, firstRoom, implied}
+use Rattle.valence.specs.Valence.{implied}
+use Rattle.valence.proofs.Count.{implied-within}
 use Rattle.table.specs.declared.Atom.{Atom}
 use Rattle.table.specs.Limits.{atomCells, ELEMENT, SELECTED, ISOTOPE, HYDROGENS, CHARGE, EXTENSION}
 use Rattle.table.specs.Cells.{number, inRange, atomPlace, atomCell, element, selected}
@@ -84,45 +85,8 @@ module _ (outside : List ℕ) (bonds : List ℤ) (m : ℕ) where
     hydrogenated-given a l e r = run-given n 0 t a (omega arith) (omega arith) e r
 
 -- ---- the count fits its cell
-small : List ℕ → Bool
-small [] = true
-small (x ∷ l) = leb x 9 && small l
-
-targets-small : (e : ℕ) → small (targets e) ≡ true
-unfolding targets small
-targets-small e = split (eqb e 5) (eqb e 6) (eqb e 7) (eqb e 8) (eqb e 9) (eqb e 15) (eqb e 16) (eqb e 17) (eqb e 35) (eqb e 53) (eqb e 85) (eqb e 117)
-  where
-    split : (b1 b2 b3 b4 b5 b6 b7 b8 b9 b10 b11 b12 : Bool)
-        → small (pick b1 (3 ∷ []) (pick b2 (4 ∷ []) (pick b3 (3 ∷ 5 ∷ []) (pick b4 (2 ∷ []) (pick b5 (1 ∷ []) (pick b6 (3 ∷ 5 ∷ []) (pick b7 (2 ∷ 4 ∷ 6 ∷ []) (pick b8 (1 ∷ []) (pick b9 (1 ∷ []) (pick b10 (1 ∷ []) (pick b11 (1 ∷ []) (pick b12 (1 ∷ []) [])))))))))))) ≡ true
-    split true b2 b3 b4 b5 b6 b7 b8 b9 b10 b11 b12 = refl
-    split false true b3 b4 b5 b6 b7 b8 b9 b10 b11 b12 = refl
-    split false false true b4 b5 b6 b7 b8 b9 b10 b11 b12 = refl
-    split false false false true b5 b6 b7 b8 b9 b10 b11 b12 = refl
-    split false false false false true b6 b7 b8 b9 b10 b11 b12 = refl
-    split false false false false false true b7 b8 b9 b10 b11 b12 = refl
-    split false false false false false false true b8 b9 b10 b11 b12 = refl
-    split false false false false false false false true b9 b10 b11 b12 = refl
-    split false false false false false false false false true b10 b11 b12 = refl
-    split false false false false false false false false false true b11 b12 = refl
-    split false false false false false false false false false false true b12 = refl
-    split false false false false false false false false false false false true = refl
-    split false false false false false false false false false false false false = refl
-
-first-small : (l : List ℕ) → small l ≡ true → headOr0 l ≤ 9
-unfolding small
-first-small [] h = omega arith
-first-small (x ∷ l) h = leb-true x 9 (and-left (leb x 9) (small l) h)
-
-room-small : (l : List ℕ) (sum : ℕ) → small l ≡ true → firstRoom l sum ≤ 9
-unfolding small firstRoom
-room-small [] sum h = omega arith
-room-small (x ∷ l) sum h =
-    let rest = room-small l sum (and-right (leb x 9) (small l) h) in
-    by-test (λ n. n ≤ 9) (leb sum x) (x - sum) (firstRoom l sum) (λ e. omega (arith, leb-true x 9 (and-left (leb x 9) (small l) h))) (λ e. rest)
-
 pub implied-small : (e selected sum : ℕ) → implied e selected sum ≤ 9
-unfolding implied firstTarget
-implied-small e selected sum = by-test (λ n. n ≤ 9) (eqb selected 1) (headOr0 (targets e) - (sum + 1)) (firstRoom (targets e) sum) (λ q. omega (arith, first-small (targets e) (targets-small e))) (λ q. room-small (targets e) sum (targets-small e))
+implied-small e selected sum = omega (arith, implied-within e selected sum)
 
 -- ---- a valid row stays valid
 swap : (a b h k c d e : Bool) → (a && b && h && c && d && e) ≡ true → k ≡ true → (a && b && k && c && d && e) ≡ true

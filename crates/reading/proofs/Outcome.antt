@@ -16,11 +16,20 @@ use Rattle.table_graph.specs.Graph.{matchable}
 use Rattle.ids.specs.Limits.{maxText}
 use Rattle.reading.specs.Memory.{Memory}
 use Rattle.reading.specs.Read.{ReadResult, refused, short, leftmost, ended, finished, readFrom, readOf}
-use Rattle.reading.specs.Conditions.{bytesRead, atomsOf, Fits}
+use Rattle.reading.specs.Conditions.{bytesRead, atomsOf, overfullOf, Fits}
 
 -- what reading tells of an accepted text
 abbrev pub accepted : Memory → ReadResult
-accepted μ = record { code = 0; offset = 0; atomCount = μ .st .atoms; bondCount = μ .st .bonds; atoms = atomsOf μ; bonds = μ .bonds }
+accepted μ =
+    record {
+      code = 0;
+      offset = 0;
+      atomCount = μ .st .atoms;
+      bondCount = μ .st .bonds;
+      overfull = overfullOf μ;
+      atoms = atomsOf μ;
+      bonds = μ .bonds;
+    }
 
 pub data Outcome (s : List ℕ) (atoms bonds : List ℤ) : ReadResult → Type 0 where
   too-short : enough atoms bonds ≡ false → Outcome s atoms bonds (short atoms bonds)

@@ -18,7 +18,7 @@ use Rattle.table.specs.Cells.{element, selected}
 use Rattle.table.specs.Rows.{atomRow}
 use Rattle.table_graph.specs.Graph.{bondSum, matchable}
 use Rattle.reading.specs.Memory.{Memory}
-use Rattle.reading.specs.Read.{ReadResult}
+use Rattle.reading.specs.Read.{ReadResult, overfullAtoms}
 use Rattle.reading.specs.Conditions.{bytesRead, Fits}
 
 -- the row with another count of hydrogens
@@ -44,6 +44,7 @@ module _ (s : List ℕ) (atoms bonds : List ℤ) where
     pub ends : accepting state ≡ true
     pub counts : (t .atomCount ≡ memory .st .atoms) × (t .bondCount ≡ memory .st .bonds) × (t .bonds ≡ memory .bonds)
     pub rows : (a : ℕ) → a < t .atomCount → Given memory t a
+    pub overfull-atoms : t .overfull ≡ overfullAtoms (memory .st .outside) (t .bonds) (t .bondCount) (t .atomCount) (t .atoms)
     pub lengths : (length (t .atoms) ≡ length atoms) × (length (t .bonds) ≡ length bonds)
     pub unused-atoms : (k : ℕ) → atomCells * t .atomCount ≤ k → getD (t .atoms) k (pos 0) ≡ pos 0
     pub unused-bonds : (k : ℕ) → bondCells * t .bondCount ≤ k → getD (t .bonds) k (pos 0) ≡ pos 0

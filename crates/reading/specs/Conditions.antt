@@ -25,7 +25,7 @@ use Rattle.ids.specs.Limits.{maxDepth, maxText}
 use Rattle.reading.specs.Memory.{Memory, dotted, kindOf}
 use Rattle.reading.specs.Bracket.{digit}
 use Rattle.reading.specs.Act.{act}
-use Rattle.reading.specs.Read.{zeros, beginning, hydrogenated}
+use Rattle.reading.specs.Read.{zeros, beginning, hydrogenated, overfullAtoms}
 
 -- ---- what was read
 
@@ -36,6 +36,10 @@ bytesRead s atoms bonds = read act 0 (going start (beginning (zeros atoms) (zero
 -- the atoms that were read, with the hydrogens of those outside brackets
 abbrev pub atomsOf : Memory → List ℤ
 atomsOf μ = hydrogenated (μ .st .outside) (μ .bonds) (μ .st .bonds) (μ .st .atoms) (μ .atoms)
+
+-- how many of those outside brackets are over-full (02, P10)
+abbrev pub overfullOf : Memory → ℕ
+overfullOf μ = overfullAtoms (μ .st .outside) (μ .bonds) (μ .st .bonds) (μ .st .atoms) (μ .atoms)
 
 -- where an atom may begin: at the start, in a sequence, after a bond symbol, after a dot (or a symbol in a branch), in a branch
 pub data AtomMayBegin : MachineState → Type 0 where

@@ -6,7 +6,7 @@ use lib.ListN.{length, getD, set, replicate}
 use lib.IntN.{ℤ, pos}
 use lib.Dec.{eqb, leb, ltb}
 use Rattle.loops.specs.Loop.{pick, run}
-use Rattle.valence.specs.Valence.{implied}
+use Rattle.valence.specs.Valence.{implied, overfull}
 use Rattle.table.specs.Limits.{HYDROGENS}
 use Rattle.table.specs.Cells.{atomPlace, element, selected}
 use Rattle.table.specs.Valid.{enough}
@@ -19,12 +19,13 @@ use Rattle.reading_grammar.specs.declared.MachineState.the-variants.{Start as s
 use Rattle.reading.specs.Memory.{Memory, nothing, blank}
 use Rattle.reading.specs.Act.{act}
 
--- what reading hands back: 0 with the counts of atoms and bonds, or a code with its offset, the counts being 0; and both tables
+-- what reading hands back: 0 with the counts of atoms and bonds and, by 02's P10, of over-full atoms, or a code with its offset, the counts being 0; and both tables
 pub record ReadResult : Type 0 where
   pub code : ℕ
   pub offset : ℕ
   pub atomCount : ℕ
   pub bondCount : ℕ
+  pub overfull : ℕ
   pub atoms : List ℤ
   pub bonds : List ℤ
 
@@ -33,11 +34,11 @@ zeros t = replicate (length t) (pos 0)
 
 -- "any other zeroes every cell and byte lent for output, and counts and lengths handed back are 0"
 abbrev pub refused : ℕ → ℕ → List ℤ → List ℤ → ReadResult
-refused c p atoms bonds = record { code = c; offset = p; atomCount = 0; bondCount = 0; atoms = zeros atoms; bonds = zeros bonds }
+refused c p atoms bonds = record { code = c; offset = p; atomCount = 0; bondCount = 0; overfull = 0; atoms = zeros atoms; bonds = zeros bonds }
 
 -- "Refusal 1 changes nothing"
 abbrev pub short : List ℤ → List ℤ → ReadResult
-short atoms bonds = record { code = 1; offset = 0; atomCount = 0; bondCount = 0; atoms = atoms; bonds = bonds }
+short atoms bonds = record { code = 1; offset = 0; atomCount = 0; bondCount = 0; overfull = 0; atoms = atoms; bonds = bonds }
 
 -- the memory before the first byte, over zeroed tables
 abbrev pub beginning : List ℤ → List ℤ → Memory
@@ -53,6 +54,13 @@ hydrogenate outside bonds m a t =
 unfoldable pub hydrogenated : List ℕ → List ℤ → ℕ → ℕ → List ℤ → List ℤ
 hydrogenated outside bonds m n t = run (hydrogenate outside bonds m) 0 n t
 
+-- 02, P10: "the number of such over-full atoms outside brackets"; "Brackets don't take part"
+abbrev pub overfullAt : List ℕ → List ℤ → ℕ → List ℤ → ℕ → ℕ
+overfullAt outside bonds m t a = pick (eqb (getD outside a 0) 1) (overfull (element t a) (selected t a) (bondSum bonds m a)) 0
+
+unfoldable pub overfullAtoms : List ℕ → List ℤ → ℕ → ℕ → List ℤ → ℕ
+overfullAtoms outside bonds m n t = run (λ a k. k + overfullAt outside bonds m t a) 0 n 0
+
 -- the lower of two offsets of openings, of which the second is told by its opener (0: not open)
 abbrev pub earlier : ℕ → ℕ → ℕ → ℕ
 earlier p u q = pick (eqb u 0) p (pick (ltb q p) q p)
@@ -61,17 +69,18 @@ earlier p u q = pick (eqb u 0) p (pick (ltb q p) q p)
 unfoldable pub leftmost : List ℕ → List ℕ → ℕ
 leftmost opener offset = run (λ r p. earlier p (getD opener r 0) (getD offset r 0)) 0 bridges maxText
 
--- "11 exactly when the book of the molecule read has no entry", or the molecule
-abbrev pub placed : List ℤ → List ℤ → ℕ → ℕ → ReadResult
-placed atoms bonds n m =
-    pick (matchable atoms bonds n m) (record { code = 0; offset = 0; atomCount = n; bondCount = m; atoms = atoms; bonds = bonds }) (refused 11 0 atoms bonds)
+-- "11 exactly when the book of the molecule read has no entry", or the molecule with k over-full atoms
+abbrev pub placed : List ℤ → List ℤ → ℕ → ℕ → ℕ → ReadResult
+placed atoms bonds n m k =
+    pick (matchable atoms bonds n m) (record { code = 0; offset = 0; atomCount = n; bondCount = m; overfull = k; atoms = atoms; bonds = bonds }) (refused 11 0 atoms bonds)
 
 -- 10: "a bridge is open at the end"; then 11
 unfoldable pub ended : Memory → ReadResult
 ended μ =
     let p : ℕ = leftmost (μ .st .opener) (μ .st .offset) in
     pick (ltb p maxText) (refused 10 p (μ .atoms) (μ .bonds))
-    (placed (hydrogenated (μ .st .outside) (μ .bonds) (μ .st .bonds) (μ .st .atoms) (μ .atoms)) (μ .bonds) (μ .st .atoms) (μ .st .bonds))
+    (placed (hydrogenated (μ .st .outside) (μ .bonds) (μ .st .bonds) (μ .st .atoms) (μ .atoms)) (μ .bonds) (μ .st .atoms) (μ .st .bonds)
+    (overfullAtoms (μ .st .outside) (μ .bonds) (μ .st .bonds) (μ .st .atoms) (μ .atoms)))
 
 -- 3 to 9 at their byte, 3 at the length, then what comes at the end; n: the length of the text
 abbrev pub finished : ℕ → List ℤ → List ℤ → Reading Memory → ReadResult

@@ -1,11 +1,11 @@
--- 01's sample of the report, by computation from the definitions. Assumes nothing.
+-- 01's sample of the report, with 02's P10, by computation from the definitions. Assumes nothing.
 use mathlib.Core.Path.{_≡_, refl}
 use mathlib.Core.List.{List, [], _∷_}
 use Prim.Native.Nat.{ℕ}
 use Rattle.loops.specs.Loop.{each, run, upTo}
 use Rattle.element.specs.Symbols.{among, listed, starts, sameBytes, symbols, letters, marks}
 use Rattle.element.specs.Lookup.{indexFrom, numberOf, selectedOf, letterOf, bare, bytesOf, selectedBytes}
-use Rattle.valence.specs.Valence.{order, targets, firstTarget, firstRoom, implied, shiftedTarget, delocalized}
+use Rattle.valence.specs.Valence.{order, targets, firstTarget, firstFitting, reachedIn, hydrogensOf, shiftedTarget, delocalized}
 use Rattle.reading_grammar.specs.Grammar.{nonzero, digits, several, bondSymbols, signs}
 use Rattle.reading_grammar.specs.Machine.{step, next, accepting, resting, atomOr, bridgeOr, closing, extending, charging, hydrating, symbolOr}
 use Rattle.reading_grammar.specs.Fold.{feed, read}
@@ -20,7 +20,7 @@ use Rattle.reading_state.specs.State.{started, opened, closed, joined}
 use Rattle.reading.specs.Memory.{symbolKind, begun, joins, joinedAlready, closeRefusal}
 use Rattle.reading.specs.Bracket.{symbolled}
 use Rattle.reading.specs.Act.{atomAct, bridgeAct, branchAct, modeAct, act}
-use Rattle.reading.specs.Read.{hydrogenated, leftmost, ended, readFrom, readOf}
+use Rattle.reading.specs.Read.{hydrogenated, overfullAtoms, leftmost, ended, readFrom, readOf}
 use Rattle.kekule.specs.Kekule.{callOn, kekulizedOf}
 use Rattle.writing_walk.specs.Walk.{forestOf, renumbered, unused, write}
 use Rattle.writing.specs.Spell.{decimal, hydrogenBytes, sizeBytes, bracketBytes, withoutBrackets, spelledAtom, kindBytes, bridgeBytes, restBytes, tokensBytes}
@@ -40,12 +40,12 @@ input =
 pub output : List ℕ
 output =
     98 ∷ 97 ∷ 108 ∷ 115 ∷ 97 ∷ 32 ∷ 114 ∷ 101 ∷ 112 ∷ 111 ∷ 114 ∷ 116 ∷ 10 ∷  -- balsa report
-    49 ∷ 58 ∷ 32 ∷ 48 ∷ 32 ∷ 54 ∷ 32 ∷ 54 ∷ 32 ∷ 49 ∷ 48 ∷ 49 ∷ 48 ∷ 49 ∷ 48 ∷ 32 ∷ 67 ∷ 49 ∷ 61 ∷ 67 ∷ 67 ∷ 61 ∷ 67 ∷ 67 ∷ 61 ∷ 67 ∷ 49 ∷ 10 ∷  -- 1: 0 6 6 101010 C1=CC=CC=C1
+    49 ∷ 58 ∷ 32 ∷ 48 ∷ 32 ∷ 54 ∷ 32 ∷ 54 ∷ 32 ∷ 48 ∷ 32 ∷ 49 ∷ 48 ∷ 49 ∷ 48 ∷ 49 ∷ 48 ∷ 32 ∷ 67 ∷ 49 ∷ 61 ∷ 67 ∷ 67 ∷ 61 ∷ 67 ∷ 67 ∷ 61 ∷ 67 ∷ 49 ∷ 10 ∷  -- 1: 0 6 6 0 101010 C1=CC=CC=C1
     50 ∷ 58 ∷ 32 ∷ 55 ∷ 32 ∷ 50 ∷ 10 ∷  -- 2: 7 2
-    51 ∷ 58 ∷ 32 ∷ 48 ∷ 32 ∷ 48 ∷ 32 ∷ 48 ∷ 32 ∷ 45 ∷ 32 ∷ 45 ∷ 10 ∷  -- 3: 0 0 0 - -
+    51 ∷ 58 ∷ 32 ∷ 48 ∷ 32 ∷ 48 ∷ 32 ∷ 48 ∷ 32 ∷ 48 ∷ 32 ∷ 45 ∷ 32 ∷ 45 ∷ 10 ∷  -- 3: 0 0 0 0 - -
     97 ∷ 99 ∷ 99 ∷ 101 ∷ 112 ∷ 116 ∷ 101 ∷ 100 ∷ 32 ∷ 50 ∷ 32 ∷ 114 ∷ 101 ∷ 102 ∷ 117 ∷ 115 ∷ 101 ∷ 100 ∷ 32 ∷ 49 ∷ 10 ∷  -- accepted 2 refused 1
     []
 
 pub sample : reportOf input ≡ output
-unfolding input output each run upTo among listed starts sameBytes symbols letters marks indexFrom numberOf selectedOf letterOf bare bytesOf selectedBytes order targets firstTarget firstRoom implied shiftedTarget delocalized nonzero digits several bondSymbols signs step next accepting resting atomOr bridgeOr closing extending charging hydrating symbolOr feed read rows passing isRow rowCall isMatching eachOnce degree chosenInduced number inRange withAtom withBond doubled doubledBonds unselectedAtoms selectedOk sameEnds fresh distinct atomOk bondOk valid enough touches share bondSum started opened closed joined symbolKind begun joins joinedAlready closeRefusal symbolled atomAct bridgeAct branchAct modeAct act hydrogenated leftmost matchable ended readFrom readOf callOn kekulizedOf forestOf renumbered unused write decimal hydrogenBytes sizeBytes bracketBytes withoutBrackets spelledAtom kindBytes bridgeBytes restBytes tokensBytes tokens textOf renumbering fewBridges writeValid writeOf firstRow kekuleOf writtenOf ofMolecule entryOf linesAfter decBy decOf acceptedLine refusedLine totalsLine lineOf acceptedOf reportFrom reportOf
+unfolding input output each run upTo among listed starts sameBytes symbols letters marks indexFrom numberOf selectedOf letterOf bare bytesOf selectedBytes order targets firstTarget firstFitting reachedIn hydrogensOf shiftedTarget delocalized nonzero digits several bondSymbols signs step next accepting resting atomOr bridgeOr closing extending charging hydrating symbolOr feed read rows passing isRow rowCall isMatching eachOnce degree chosenInduced number inRange withAtom withBond doubled doubledBonds unselectedAtoms selectedOk sameEnds fresh distinct atomOk bondOk valid enough touches share bondSum started opened closed joined symbolKind begun joins joinedAlready closeRefusal symbolled atomAct bridgeAct branchAct modeAct act hydrogenated overfullAtoms leftmost matchable ended readFrom readOf callOn kekulizedOf forestOf renumbered unused write decimal hydrogenBytes sizeBytes bracketBytes withoutBrackets spelledAtom kindBytes bridgeBytes restBytes tokensBytes tokens textOf renumbering fewBridges writeValid writeOf firstRow kekuleOf writtenOf ofMolecule entryOf linesAfter decBy decOf acceptedLine refusedLine totalsLine lineOf acceptedOf reportFrom reportOf
 sample = refl

@@ -67,15 +67,15 @@ module _ (s : List ℕ) (a b : List ℤ) (x : reply.ReadAnswer) (told : reader.t
   pub read-refused : {r : Refusal} {p : ℕ} → x ≡ reply.ReadAnswer.Refused r p → entryOf s ≡ refusedAs (codeOf r) p
   unfolding entryOf
   read-refused {r} {p} e =
-      ap ofRead (sym told) ∙ ap (λ y. ofRead (reader.told y a b)) e ∙ ap (λ t. pick t (ofMolecule a b 0 0) (refusedAs (codeOf r) p)) (code-not-zero r)
+      ap ofRead (sym told) ∙ ap (λ y. ofRead (reader.told y a b)) e ∙ ap (λ t. pick t (ofMolecule a b 0 0 0) (refusedAs (codeOf r) p)) (code-not-zero r)
 
-  pub read-molecule : {n m : ℕ} → x ≡ reply.ReadAnswer.Molecule n m → entryOf s ≡ ofMolecule a b n m
+  pub read-molecule : {n m k : ℕ} → x ≡ reply.ReadAnswer.Molecule n m k → entryOf s ≡ ofMolecule a b n m k
   unfolding entryOf
   read-molecule e = ap ofRead (sym told) ∙ ap (λ y. ofRead (reader.told y a b)) e
 
-  pub few-bonds : {n m : ℕ} → x ≡ reply.ReadAnswer.Molecule n m → m ≤ maxBonds
-  few-bonds {n} {m} e =
-      let same : reader.told (reply.ReadAnswer.Molecule n m) a b ≡ readBlank s = ap (λ y. reader.told y a b) (sym e) ∙ told in
+  pub few-bonds : {n m k : ℕ} → x ≡ reply.ReadAnswer.Molecule n m k → m ≤ maxBonds
+  few-bonds {n} {m} {k} e =
+      let same : reader.told (reply.ReadAnswer.Molecule n m k) a b ≡ readBlank s = ap (λ y. reader.told y a b) (sym e) ∙ told in
       subst (λ (t : read.ReadResult). t .bondCount ≤ maxBonds) (sym same) (read-valid s _ _ (ap (λ (t : read.ReadResult). t .code) (sym same)) .few-bonds)
 
 -- ---- writing the molecule
@@ -83,7 +83,7 @@ module _ (s : List ℕ) (a b : List ℤ) (x : reply.ReadAnswer) (told : reader.t
 abbrev writeBlank : List ℤ → List ℤ → ℕ → ℕ → write.WriteResult
 writeBlank a b n m = write.writeOf a b n m (replicate maxText 0) (replicate maxAtoms 0)
 
-module _ (atoms bonds : List ℤ) (n m : ℕ) (row : List ℕ) (a b : List ℤ) (text numbers : List ℕ) (f : Found) (c : Check) (w : Written) (first : out f row ≡ callOn First atoms bonds n m (replicate maxBonds 0)) (kekule : tables c a b ≡ kekulizedOf atoms bonds n m row) (write : told w text numbers ≡ writeBlank a b n m) where
+module _ (atoms bonds : List ℤ) (n m k : ℕ) (row : List ℕ) (a b : List ℤ) (text numbers : List ℕ) (f : Found) (c : Check) (w : Written) (first : out f row ≡ callOn First atoms bonds n m (replicate maxBonds 0)) (kekule : tables c a b ≡ kekulizedOf atoms bonds n m row) (write : told w text numbers ≡ writeBlank a b n m) where
   the-row : row ≡ firstRow atoms bonds n m
   unfolding firstRow
   the-row = ap (λ (o : CallReply). o .row) first
@@ -94,19 +94,19 @@ module _ (atoms bonds : List ℤ) (n m : ℕ) (row : List ℕ) (a b : List ℤ) 
 
   the-text : told w text numbers ≡ writtenOf atoms bonds n m
   unfolding writtenOf
-  the-text = write ∙ ap (λ (k : KekulizeReply). writeBlank (k .atoms) (k .bonds) n m) the-tables
+  the-text = write ∙ ap (λ (t : KekulizeReply). writeBlank (t .atoms) (t .bonds) n m) the-tables
 
-  the-entry : ofMolecule atoms bonds n m ≡ ofWritten n m row (told w text numbers)
+  the-entry : ofMolecule atoms bonds n m k ≡ ofWritten n m k row (told w text numbers)
   unfolding ofMolecule
-  the-entry = ap (λ r. ofWritten n m r (writtenOf atoms bonds n m)) (sym the-row) ∙ ap (ofWritten n m row) (sym the-text)
+  the-entry = ap (λ r. ofWritten n m k r (writtenOf atoms bonds n m)) (sym the-row) ∙ ap (ofWritten n m k row) (sym the-text)
 
-  pub molecule-accepted : {size : ℕ} → w ≡ Text size → ofMolecule atoms bonds n m ≡ acceptedAs n m (take m row) (take size text)
-  molecule-accepted e = the-entry ∙ ap (λ y. ofWritten n m row (told y text numbers)) e
+  pub molecule-accepted : {size : ℕ} → w ≡ Text size → ofMolecule atoms bonds n m k ≡ acceptedAs n m k (take m row) (take size text)
+  molecule-accepted e = the-entry ∙ ap (λ y. ofWritten n m k row (told y text numbers)) e
 
-  pub molecule-refused : {r : Refusal} → w ≡ Refused r → ofMolecule atoms bonds n m ≡ refusedAs (codeOf r) 0
+  pub molecule-refused : {r : Refusal} → w ≡ Refused r → ofMolecule atoms bonds n m k ≡ refusedAs (codeOf r) 0
   molecule-refused {r} e =
-      the-entry ∙ ap (λ y. ofWritten n m row (told y text numbers)) e
-      ∙ ap (λ t. pick t (acceptedAs n m (take m row) (take 0 text)) (refusedAs (codeOf r) 0)) (code-not-zero r)
+      the-entry ∙ ap (λ y. ofWritten n m k row (told y text numbers)) e
+      ∙ ap (λ t. pick t (acceptedAs n m k (take m row) (take 0 text)) (refusedAs (codeOf r) 0)) (code-not-zero r)
 
 -- the text is within its buffer
 pub text-within : (a b : List ℤ) (n m : ℕ) (text numbers : List ℕ) (w : Written) {size : ℕ} → told w text numbers ≡ writeBlank a b n m → w ≡ Text size → size ≤ maxText

@@ -78,17 +78,17 @@ size-within atoms bonds n m out ren =
 take-short : (n : ℕ) (l : List ℕ) → length (take n l) ≤ n
 take-short n l = simp length-take (omega arith)
 
-written-within : (k n m : ℕ) (row : List ℕ) (w : write.WriteResult) (t : Bool) → m ≤ maxBonds → w .size ≤ maxText → length (lineFor k (pick t (acceptedAs n m (take m row) (take (w .size) (w .output))) (refusedAs (w .code) 0))) ≤ lineRoom
-written-within k n m row w true h g =
-    omega (arith, accepted-within k n m (take m row) (take (w .size) (w .output)), take-short m row, take-short (w .size) (w .output))
-written-within k n m row w false h g = omega (arith, refused-within k (w .code) 0)
+written-within : (k n m o : ℕ) (row : List ℕ) (w : write.WriteResult) (t : Bool) → m ≤ maxBonds → w .size ≤ maxText → length (lineFor k (pick t (acceptedAs n m o (take m row) (take (w .size) (w .output))) (refusedAs (w .code) 0))) ≤ lineRoom
+written-within k n m o row w true h g =
+    omega (arith, accepted-within k n m o (take m row) (take (w .size) (w .output)), take-short m row, take-short (w .size) (w .output))
+written-within k n m o row w false h g = omega (arith, refused-within k (w .code) 0)
 
-molecule-within : (k : ℕ) (atoms bonds : List ℤ) (n m : ℕ) → m ≤ maxBonds → length (lineFor k (ofMolecule atoms bonds n m)) ≤ lineRoom
+molecule-within : (k : ℕ) (atoms bonds : List ℤ) (n m o : ℕ) → m ≤ maxBonds → length (lineFor k (ofMolecule atoms bonds n m o)) ≤ lineRoom
 unfolding ofMolecule writtenOf
-molecule-within k atoms bonds n m h = written-within k n m (firstRow atoms bonds n m) (writtenOf atoms bonds n m) (eqb (writtenOf atoms bonds n m .code) 0) h (size-within _ _ n m _ _)
+molecule-within k atoms bonds n m o h = written-within k n m o (firstRow atoms bonds n m) (writtenOf atoms bonds n m) (eqb (writtenOf atoms bonds n m .code) 0) h (size-within _ _ n m _ _)
 
-read-within : (k : ℕ) (t : read.ReadResult) (b : Bool) → (b ≡ true → t .bondCount ≤ maxBonds) → length (lineFor k (pick b (ofMolecule (t .atoms) (t .bonds) (t .atomCount) (t .bondCount)) (refusedAs (t .code) (t .offset)))) ≤ lineRoom
-read-within k t true h = molecule-within k (t .atoms) (t .bonds) (t .atomCount) (t .bondCount) (h refl)
+read-within : (k : ℕ) (t : read.ReadResult) (b : Bool) → (b ≡ true → t .bondCount ≤ maxBonds) → length (lineFor k (pick b (ofMolecule (t .atoms) (t .bonds) (t .atomCount) (t .bondCount) (t .overfull)) (refusedAs (t .code) (t .offset)))) ≤ lineRoom
+read-within k t true h = molecule-within k (t .atoms) (t .bonds) (t .atomCount) (t .bondCount) (t .overfull) (h refl)
 read-within k t false h = omega (arith, refused-within k (t .code) (t .offset))
 
 -- room that is enough for a line

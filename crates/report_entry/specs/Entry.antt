@@ -14,12 +14,12 @@ use Rattle.kekule.specs.Kekule.{KekulizeReply, callOn, kekulizedOf}
 use Rattle.writing.specs.Write as write
 use Rattle.report_lines.specs.Format.{acceptedLine, refusedLine}
 
--- a refusal's code and offset; or the counts of atoms and bonds, the first matching ("placement") and the kekulized ("settled") text
+-- a refusal's code and offset; or the counts of atoms, bonds and over-full atoms, the first matching ("placement") and the kekulized ("settled") text
 pub data Entry : Type 0 where
   refusedAs : ℕ → ℕ → Entry
-  acceptedAs : ℕ → ℕ → List ℕ → List ℕ → Entry
+  acceptedAs : ℕ → ℕ → ℕ → List ℕ → List ℕ → Entry
 
--- ---- a molecule that was read: n atoms and m bonds
+-- ---- a molecule that was read: n atoms and m bonds, k atoms being over-full
 
 -- the row of the first matching
 unfoldable pub firstRow : List ℤ → List ℤ → ℕ → ℕ → List ℕ
@@ -35,16 +35,16 @@ writtenOf atoms bonds n m =
     write.writeOf (kekuleOf atoms bonds n m .atoms) (kekuleOf atoms bonds n m .bonds) n m (replicate maxText 0) (replicate maxAtoms 0)
 
 -- "A writing refusal is reported with place 0 and counted as refused"
-abbrev pub ofWritten : ℕ → ℕ → List ℕ → write.WriteResult → Entry
-ofWritten n m row w = pick (eqb (w .code) 0) (acceptedAs n m (take m row) (take (w .size) (w .output))) (refusedAs (w .code) 0)
+abbrev pub ofWritten : ℕ → ℕ → ℕ → List ℕ → write.WriteResult → Entry
+ofWritten n m k row w = pick (eqb (w .code) 0) (acceptedAs n m k (take m row) (take (w .size) (w .output))) (refusedAs (w .code) 0)
 
-unfoldable pub ofMolecule : List ℤ → List ℤ → ℕ → ℕ → Entry
-ofMolecule atoms bonds n m = ofWritten n m (firstRow atoms bonds n m) (writtenOf atoms bonds n m)
+unfoldable pub ofMolecule : List ℤ → List ℤ → ℕ → ℕ → ℕ → Entry
+ofMolecule atoms bonds n m k = ofWritten n m k (firstRow atoms bonds n m) (writtenOf atoms bonds n m)
 
 -- ---- a line
 
 abbrev pub ofRead : read.ReadResult → Entry
-ofRead t = pick (eqb (t .code) 0) (ofMolecule (t .atoms) (t .bonds) (t .atomCount) (t .bondCount)) (refusedAs (t .code) (t .offset))
+ofRead t = pick (eqb (t .code) 0) (ofMolecule (t .atoms) (t .bonds) (t .atomCount) (t .bondCount) (t .overfull)) (refusedAs (t .code) (t .offset))
 
 unfoldable pub entryOf : List ℕ → Entry
 entryOf s = ofRead (read.readOf s (replicate (atomCells * maxAtoms) (pos 0)) (replicate (bondCells * maxBonds) (pos 0)))
@@ -52,11 +52,11 @@ entryOf s = ofRead (read.readOf s (replicate (atomCells * maxAtoms) (pos 0)) (re
 -- the line of the report, with its number
 abbrev pub lineFor : ℕ → Entry → List ℕ
 lineFor k (refusedAs code offset) = refusedLine k code offset
-lineFor k (acceptedAs atoms bonds row text) = acceptedLine k atoms bonds row text
+lineFor k (acceptedAs atoms bonds overfull row text) = acceptedLine k atoms bonds overfull row text
 
 abbrev pub isAccepted : Entry → Bool
 isAccepted (refusedAs code offset) = false
-isAccepted (acceptedAs atoms bonds row text) = true
+isAccepted (acceptedAs atoms bonds overfull row text) = true
 
 -- "reports the first placement and the settled text": line number k of the report is a function of that line alone
 unfoldable pub lineOf : ℕ → List ℕ → List ℕ

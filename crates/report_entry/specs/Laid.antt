@@ -10,7 +10,7 @@ use Rattle.report_entry.specs.declared.Reported.{Reported}
 
 -- room that is enough for a line
 abbrev pub lineRoom : ℕ
-lineRoom = 70 + (maxBonds + maxText)
+lineRoom = 91 + (maxBonds + maxText)
 
 -- the line of an entry is laid, and whether it is an accepted one is told
 pub record Says (k : ℕ) (o : Entry) (r : Reported) (p : BufferAt) (out : List ℕ) : Type 0 where

@@ -15,8 +15,8 @@ use table::MAX_ATOMS;
 use table::MAX_BONDS;
 use writer::Written;
 
-// Room that is enough for a line: numbers and marks take 70 bytes at most, beside the row and the text.
-pub const LINE_ROOM: usize = 70 + (MAX_BONDS + MAX_TEXT);
+// Room that is enough for a line: numbers and marks take 91 bytes at most, beside the row and the text.
+pub const LINE_ROOM: usize = 91 + (MAX_BONDS + MAX_TEXT);
 
 // Whether the text was accepted, and the place after its line.
 pub struct Reported {
@@ -42,11 +42,12 @@ fn report_molecule(
     bonds: &mut [i32],
     n: usize,
     m: usize,
+    overfull: usize,
     out: &mut [u8],
     at: usize,
 ) -> Reported
     requires { ⌜ m ≤ maxBonds ⌝ }
-    ensures { λ r. ⌜ Says k (ofMolecule (now (atoms .entry)) (now (bonds .entry)) n m) r (bufferAt (now (out .entry)) at) (now (out .exit)) ⌝ }
+    ensures { λ r. ⌜ Says k (ofMolecule (now (atoms .entry)) (now (bonds .entry)) n m overfull) r (bufferAt (now (out .entry)) at) (now (out .exit)) ⌝ }
 {
     let mut row = [0u8; MAX_BONDS];
     let mut text = [0u8; MAX_TEXT];
@@ -56,7 +57,7 @@ fn report_molecule(
     let w = writer::write(atoms, bonds, n, m, &mut text, &mut numbers);
     match w {
         Written::Text(size) => {
-            let at = output::accepted(out, at, k, n, m, &row[..m], &text[..size]);
+            let at = output::accepted(out, at, k, n, m, overfull, &row[..m], &text[..size]);
             Reported { accepted: true, at }
         }
         Written::Refused(r) => refuse(k, r, 0, out, at),
@@ -72,6 +73,8 @@ pub fn report_line(k: usize, s: &[u8], out: &mut [u8], at: usize) -> Reported
     let a = reader::read(s, &mut atoms, &mut bonds);
     match a {
         ReadAnswer::Refused(r, p) => refuse(k, r, p, out, at),
-        ReadAnswer::Molecule(n, m) => report_molecule(k, &mut atoms, &mut bonds, n, m, out, at),
+        ReadAnswer::Molecule(n, m, overfull) => {
+            report_molecule(k, &mut atoms, &mut bonds, n, m, overfull, out, at)
+        }
     }
 }

@@ -26,11 +26,11 @@ word-within [] = omega arith
 word-within (b ∷ l) = omega arith
 
 -- room that is enough for a line
-pub accepted-within : (k atoms bonds : ℕ) (row text : List ℕ) → length (acceptedLine k atoms bonds row text) ≤ 70 + (length row + length text)
+pub accepted-within : (k atoms bonds overfull : ℕ) (row text : List ℕ) → length (acceptedLine k atoms bonds overfull row text) ≤ 91 + (length row + length text)
 unfolding acceptedLine
-accepted-within k atoms bonds row text =
+accepted-within k atoms bonds overfull row text =
     simp length-append
-    (omega (arith, dec-within k, dec-within atoms, dec-within bonds, word-within (rowText row), word-within text, length-map row bitByte))
+    (omega (arith, dec-within k, dec-within atoms, dec-within bonds, dec-within overfull, word-within (rowText row), word-within text, length-map row bitByte))
 
 pub refused-within : (k code place : ℕ) → length (refusedLine k code place) ≤ 64
 unfolding refusedLine

@@ -35,10 +35,10 @@ rowText row = map bitByte row
 abbrev pub header : List ℕ
 header = 98 ∷ 97 ∷ 108 ∷ 115 ∷ 97 ∷ 32 ∷ 114 ∷ 101 ∷ 112 ∷ 111 ∷ 114 ∷ 116 ∷ 10 ∷ []
 
--- `k: 0 atoms bonds row text`
-unfoldable pub acceptedLine : ℕ → ℕ → ℕ → List ℕ → List ℕ → List ℕ
-acceptedLine k atoms bonds row text =
-    decOf k ++ ((58 ∷ 32 ∷ 48 ∷ []) ++ (field atoms ++ (field bonds ++ (word (rowText row) ++ (word text ++ (10 ∷ []))))))
+-- `k: 0 atoms bonds overfull row text` (02, P10: "as a fourth number after the bond count")
+unfoldable pub acceptedLine : ℕ → ℕ → ℕ → ℕ → List ℕ → List ℕ → List ℕ
+acceptedLine k atoms bonds overfull row text =
+    decOf k ++ ((58 ∷ 32 ∷ 48 ∷ []) ++ (field atoms ++ (field bonds ++ (field overfull ++ (word (rowText row) ++ (word text ++ (10 ∷ [])))))))
 
 -- `k: code place`
 unfoldable pub refusedLine : ℕ → ℕ → ℕ → List ℕ

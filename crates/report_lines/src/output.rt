@@ -82,22 +82,24 @@ pub fn header(out: &mut [u8], at: usize) -> usize
     buffer::put_all(out, at, b"balsa report\n")
 }
 
-// internal: the line of an accepted text: its number, 0, its atoms and bonds, the first matching, and the kekulized text.
+// internal: the line of an accepted text: its number, 0, its atoms, bonds and over-full atoms, the first matching, and the kekulized text.
 pub fn accepted(
     out: &mut [u8],
     at: usize,
     k: usize,
     atoms: usize,
     bonds: usize,
+    overfull: usize,
     row: &[u8],
     text: &[u8],
 ) -> usize
-    ensures { λ r. ⌜ Wrote (acceptedLine k atoms bonds (now (row .entry)) (now (text .entry))) (bufferAt (now (out .entry)) at) (bufferAt (now (out .exit)) r) ⌝ }
+    ensures { λ r. ⌜ Wrote (acceptedLine k atoms bonds overfull (now (row .entry)) (now (text .entry))) (bufferAt (now (out .entry)) at) (bufferAt (now (out .exit)) r) ⌝ }
 {
     let at = number(out, at, k);
     let at = buffer::put_all(out, at, b": 0");
     let at = field(out, at, atoms);
     let at = field(out, at, bonds);
+    let at = field(out, at, overfull);
     let at = row_field(out, at, row);
     let at = text_field(out, at, text);
     buffer::put(out, at, b'\n')

@@ -18,7 +18,7 @@ use Rattle.table.specs.Valid.{Valid, selectedOk}
 use Rattle.table.proofs.Valid.{AtomFine, atom-row, range-pos, Enough}
 use Rattle.ids.specs.Limits.{maxText, maxDepth, bridges}
 use Rattle.reading.specs.Memory.{Memory}
-use Rattle.reading.specs.Read.{hydrogenated, leftmost, refused, placed, ended, finished, readFrom}
+use Rattle.reading.specs.Read.{hydrogenated, overfullAtoms, leftmost, refused, placed, ended, finished, readFrom}
 use Rattle.writing_walk.specs.Token.{Bond, Tok, apart, along, ring, branch, back}
 use Rattle.writing_walk.specs.Reading.{St, st, startTokens}
 use Rattle.writing_walk.specs.Emit.{pre}
@@ -113,7 +113,7 @@ module _ (atoms bonds : List ℤ) (m v : ℕ) (fine-row : AtomFine atoms v) wher
       go false y c = c ∙ sym hydrogens-as
 
 -- ---- the end of a reading with no open bridge
-ended-law : (μ : Memory) (n m : ℕ) → leftmost (μ .st .opener) (μ .st .offset) ≡ maxText → μ .st .atoms ≡ n → μ .st .bonds ≡ m → ended μ ≡ placed (hydrogenated (μ .st .outside) (μ .bonds) m n (μ .atoms)) (μ .bonds) n m
+ended-law : (μ : Memory) (n m : ℕ) → leftmost (μ .st .opener) (μ .st .offset) ≡ maxText → μ .st .atoms ≡ n → μ .st .bonds ≡ m → ended μ ≡ placed (hydrogenated (μ .st .outside) (μ .bonds) m n (μ .atoms)) (μ .bonds) n m (overfullAtoms (μ .st .outside) (μ .bonds) m n (μ .atoms))
 unfolding ended
 ended-law μ n m e a b = rw (e, a, b)
 
@@ -131,7 +131,8 @@ pub record Molecule (atoms bonds : List ℤ) (n m : ℕ) (T U : List ℤ) (p q :
 pub record ReadBack (atoms₀ bonds₀ : List ℤ) (n m : ℕ) (A B : List ℤ) : Type 0 where
   pub atoms : List ℤ
   pub bonds : List ℤ
-  pub reads : readFrom (textOf atoms₀ bonds₀ n m) A B ≡ placed atoms bonds n m
+  pub overfull : ℕ
+  pub reads : readFrom (textOf atoms₀ bonds₀ n m) A B ≡ placed atoms bonds n m overfull
   pub molecule : Molecule atoms₀ bonds₀ n m atoms bonds (length A) (length B)
 
 module _ (atoms bonds : List ℤ) (n m : ℕ) (v : Valid atoms bonds n m) where
@@ -226,7 +227,7 @@ module _ (atoms bonds : List ℤ) (n m : ℕ) (v : Valid atoms bonds n m) where
       bonds-long = sim .bonding .long;
     }
 
-    reads : readFrom (textOf atoms bonds n m) A B ≡ placed readAtoms readBonds n m
+    reads : readFrom (textOf atoms bonds n m) A B ≡ placed readAtoms readBonds n m (overfullAtoms (μ .st .outside) readBonds m n (μ .atoms))
     unfolding readFrom
     reads =
         ap (finished (length (textOf atoms bonds n m)) A B) (held .takes .is)
@@ -235,7 +236,7 @@ module _ (atoms bonds : List ℤ) (n m : ℕ) (v : Valid atoms bonds n m) where
 
     -- THE READING of what was written
     pub read-back : ReadBack atoms bonds n m A B
-    read-back = record { atoms = readAtoms; bonds = readBonds; reads = reads; molecule = molecule }
+    read-back = record { atoms = readAtoms; bonds = readBonds; overfull = overfullAtoms (μ .st .outside) readBonds m n (μ .atoms); reads = reads; molecule = molecule }
 
   -- ---- what is read is the molecule under its renumbering, so a matching exists in both or in none
   module _ {T U : List ℤ} {p q : ℕ} (M : Molecule atoms bonds n m T U p q) where

@@ -119,7 +119,7 @@ module _ (atoms bonds : List ℤ) (n m : ℕ) (w : Writable atoms bonds n m) (A 
   back : ReadBack atoms bonds n m A B
   back = read-back atoms bonds n m v A B (enough-facts A B long) (w .bridges) (w .branches)
 
-  reads : readOf (textOf atoms bonds n m) A B ≡ placed (back .atoms) (back .bonds) n m
+  reads : readOf (textOf atoms bonds n m) A B ≡ placed (back .atoms) (back .bonds) n m (back .overfull)
   unfolding readOf
   reads = rw (long, w .bytes) (back .reads)
 
@@ -139,7 +139,8 @@ module _ (atoms bonds : List ℤ) (n m : ℕ) (w : Writable atoms bonds n m) (A 
       record {
         T = back .atoms;
         U = back .bonds;
-        told = reads ∙ ap (λ (x : Bool). pick x (accepted n m (back .atoms) (back .bonds)) (refused 11 0 (back .atoms) (back .bonds))) e;
+        overfull = back .overfull;
+        told = reads ∙ ap (λ (x : Bool). pick x (accepted n m (back .overfull) (back .atoms) (back .bonds)) (refused 11 0 (back .atoms) (back .bonds))) e;
         same = same-of atoms bonds n m (back .atoms) (back .bonds) (length A) (length B) v M;
         atoms-long = M .atoms-long;
         bonds-long = M .bonds-long;
@@ -152,8 +153,8 @@ module _ (atoms bonds : List ℤ) (n m : ℕ) (w : Writable atoms bonds n m) (A 
   no-matching-read h =
       let M = back .molecule in
       let e : matchable (back .atoms) (back .bonds) n m ≡ false = matchable-same atoms bonds n m v M ∙ h in
-      reads ∙ ap (λ (x : Bool). pick x (accepted n m (back .atoms) (back .bonds)) (refused 11 0 (back .atoms) (back .bonds))) e
-      ∙ (λ i. record { code = 11; offset = 0; atomCount = 0; bondCount = 0; atoms = replicate (M .atoms-long i) (pos 0); bonds = replicate (M .bonds-long i) (pos 0) })
+      reads ∙ ap (λ (x : Bool). pick x (accepted n m (back .overfull) (back .atoms) (back .bonds)) (refused 11 0 (back .atoms) (back .bonds))) e
+      ∙ (λ i. record { code = 11; offset = 0; atomCount = 0; bondCount = 0; overfull = 0; atoms = replicate (M .atoms-long i) (pos 0); bonds = replicate (M .bonds-long i) (pos 0) })
 
   -- a molecule in which no atom is selected, as a kekulized one, needs no more
   pub unselected-round-trip : ((a : ℕ) → a < n → selected atoms a ≡ 0) → RoundTrip atoms bonds n m A B

@@ -33,9 +33,9 @@ numbered r v = getD r v 0
 abbrev pub renamed : List ℕ → Bond → Bond
 renamed r b = bondBetween (numbered r (b .lo)) (numbered r (b .hi)) (b .kind)
 
--- what an accepted reading hands back
-abbrev pub accepted : ℕ → ℕ → List ℤ → List ℤ → ReadResult
-accepted n m atoms bonds = record { code = 0; offset = 0; atomCount = n; bondCount = m; atoms = atoms; bonds = bonds }
+-- what an accepted reading hands back, k atoms being over-full
+abbrev pub accepted : ℕ → ℕ → ℕ → List ℤ → List ℤ → ReadResult
+accepted n m k atoms bonds = record { code = 0; offset = 0; atomCount = n; bondCount = m; overfull = k; atoms = atoms; bonds = bonds }
 
 -- 01, Writing: "reading back keeps every atom cell, every bond and its kind under" the renumbering: the tables T and U hold the molecule of atoms and bonds so, with 0 in the cells after
 pub record Same (atoms bonds : List ℤ) (n m : ℕ) (T U : List ℤ) : Type 0 where
@@ -44,11 +44,12 @@ pub record Same (atoms bonds : List ℤ) (n m : ℕ) (T U : List ℤ) : Type 0 w
   pub atoms-after : (j : ℕ) → atomCells * n ≤ j → getD T j (pos 0) ≡ pos 0
   pub bonds-after : (j : ℕ) → bondCells * m ≤ j → getD U j (pos 0) ≡ pos 0
 
--- the text is read into tables T and U that hold the molecule; they are valid, and writing them is accepted with the same bytes, every atom keeping its number
+-- the text is read into tables T and U that hold the molecule (the number of over-full atoms, which brackets hide, is as its definition says); they are valid, and writing them is accepted with the same bytes, every atom keeping its number
 pub record RoundTrip (atoms bonds : List ℤ) (n m : ℕ) (A B : List ℤ) : Type 0 where
   pub T : List ℤ
   pub U : List ℤ
-  pub told : readOf (textOf atoms bonds n m) A B ≡ accepted n m T U
+  pub overfull : ℕ
+  pub told : readOf (textOf atoms bonds n m) A B ≡ accepted n m overfull T U
   pub same : Same atoms bonds n m T U
   pub atoms-long : length T ≡ length A
   pub bonds-long : length U ≡ length B

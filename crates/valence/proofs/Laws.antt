@@ -5,12 +5,15 @@ use mathlib.Core.List.{List, [], _∷_}
 use Prim.Native.Nat.{ℕ, _+_, _-_, _≤_, _<_}
 use native.Mathlib.Omega.{arith}
 use lib.Dec.{eqb, leb, ltb}
-use lib.ListN.{length, getD}
-use borrow.Author.Tests.{ne-eqb, le-leb, lt-leb, leb-true, ltb-true, ltb-false}
+use lib.ListN.{length, take, getD}
+use borrow.Author.Tests.{eq-eqb, ne-eqb, le-leb, lt-leb, leb-true, ltb-true, ltb-false}
 use Rattle.loops.specs.Loop.{pick}
 use Rattle.loops.proofs.Loops.{and-left, and-right}
-use Rattle.valence.specs.Valence.{order, targets, targetRow, headOr0, firstTarget, firstRoom, implied, delocalized}
+use Rattle.valence.specs.Valence.{order, targets, targetRow, headOr0, firstTarget, targetsFor, firstFitting, reachedIn, valuesOf, hydrogensOf, implied}
 use Rattle.valence.specs.declared.Targets.{Targets}
+use Rattle.valence.specs.declared.Reached.{Reached}
+use Rattle.valence.specs.declared.Reached.the-variants.{Target, NoTarget, AboveAll}
+use Rattle.valence.specs.declared.Hydrogens.{Hydrogens}
 
 order-step : (t u : Bool) (k : ℕ) → leb k 3 ≡ u → pick t 1 (pick u k 0) ≤ 3
 order-step true u k e = omega arith
@@ -25,25 +28,27 @@ order-within k = order-step (eqb k 0) (leb k 3) k refl
 abbrev few : List ℕ → Bool
 few l = leb (length l) 3 && (leb (getD l 0 0) 4 && (leb (getD l 1 0) 6 && leb (getD l 2 0) 6))
 
-few-pick : (t : Bool) (a b : List ℕ) → few a ≡ true → few b ≡ true → few (pick t a b) ≡ true
-few-pick true a b e f = e
-few-pick false a b e f = f
+-- what holds of each row of the table holds of the targets of every element
+module _ (test : List ℕ → Bool) where
+  test-pick : (t : Bool) (a b : List ℕ) → test a ≡ true → test b ≡ true → test (pick t a b) ≡ true
+  test-pick true a b e f = e
+  test-pick false a b e f = f
 
-targets-few : (e : ℕ) → few (targets e) ≡ true
-unfolding targets
-targets-few e =
-    few-pick (eqb e 5) (3 ∷ []) _ refl
-    (few-pick (eqb e 6) (4 ∷ []) _ refl
-    (few-pick (eqb e 7) (3 ∷ 5 ∷ []) _ refl
-    (few-pick (eqb e 8) (2 ∷ []) _ refl
-    (few-pick (eqb e 9) (1 ∷ []) _ refl
-    (few-pick (eqb e 15) (3 ∷ 5 ∷ []) _ refl
-    (few-pick (eqb e 16) (2 ∷ 4 ∷ 6 ∷ []) _ refl
-    (few-pick (eqb e 17) (1 ∷ []) _ refl
-    (few-pick (eqb e 35) (1 ∷ []) _ refl
-    (few-pick (eqb e 53) (1 ∷ []) _ refl
-    (few-pick (eqb e 85) (1 ∷ []) _ refl
-    (few-pick (eqb e 117) (1 ∷ []) [] refl refl)))))))))))
+  pub each-targets : test [] ≡ true → test (1 ∷ []) ≡ true → test (2 ∷ []) ≡ true → test (3 ∷ []) ≡ true → test (4 ∷ []) ≡ true → test (3 ∷ 5 ∷ []) ≡ true → test (2 ∷ 4 ∷ 6 ∷ []) ≡ true → (e : ℕ) → test (targets e) ≡ true
+  unfolding targets
+  each-targets none one two three four five six e =
+      test-pick (eqb e 5) (3 ∷ []) _ three
+      (test-pick (eqb e 6) (4 ∷ []) _ four
+      (test-pick (eqb e 7) (3 ∷ 5 ∷ []) _ five
+      (test-pick (eqb e 8) (2 ∷ []) _ two
+      (test-pick (eqb e 9) (1 ∷ []) _ one
+      (test-pick (eqb e 15) (3 ∷ 5 ∷ []) _ five
+      (test-pick (eqb e 16) (2 ∷ 4 ∷ 6 ∷ []) _ six
+      (test-pick (eqb e 17) (1 ∷ []) _ one
+      (test-pick (eqb e 35) (1 ∷ []) _ one
+      (test-pick (eqb e 53) (1 ∷ []) _ one
+      (test-pick (eqb e 85) (1 ∷ []) _ one
+      (test-pick (eqb e 117) (1 ∷ []) [] one none)))))))))))
 
 pub record Few (l : List ℕ) : Type 0 where
   pub short : length l ≤ 3
@@ -63,7 +68,7 @@ few-is l e =
     }
 
 pub few-targets : (e : ℕ) → Few (targets e)
-few-targets e = few-is (targets e) (targets-few e)
+few-targets e = few-is (targets e) (each-targets few refl refl refl refl refl refl refl e)
 
 head-is : (l : List ℕ) → headOr0 l ≡ getD l 0 0
 head-is [] = refl
@@ -76,72 +81,118 @@ first-is e = head-is (targets e)
 pub first-within : (e : ℕ) → firstTarget e ≤ 4
 first-within e = omega (arith, first-is e, few-targets e .first)
 
--- the room in a row of three targets
-abbrev pub roomIn : ℕ → ℕ → ℕ → ℕ → ℕ
-roomIn x y z s = pick (leb s x) (x - s) (pick (leb s y) (y - s) (pick (leb s z) (z - s) 0))
+-- ---- the target reached, by the row of three targets
+-- in a list of at most three, of which none is 0
+abbrev fittingIn : ℕ → ℕ → ℕ → ℕ → Reached
+fittingIn x y z s = pick (leb s x) (Target x) (pick (leb s y) (Target y) (pick (leb s z) (Target z) AboveAll))
 
-nothing-left : (t : Bool) (s n : ℕ) → n ≡ 0 → pick t (0 - s) n ≡ 0
-nothing-left true s n e = omega arith
-nothing-left false s n e = e
+-- a target that is not there is not reached by a sum above 0
+missing : (s : ℕ) → 0 < s → leb s 0 ≡ false
+missing s h = lt-leb s 0 h
 
--- a target that is not there leaves no room
-pub in-three : (l : List ℕ) (s : ℕ) → length l ≤ 3 → firstRoom l s ≡ roomIn (getD l 0 0) (getD l 1 0) (getD l 2 0) s
-unfolding firstRoom
-in-three [] s h = sym (nothing-left (leb s 0) s _ (nothing-left (leb s 0) s _ (nothing-left (leb s 0) s 0 refl)))
-in-three (x ∷ []) s h = ap (pick (leb s x) (x - s)) (sym (nothing-left (leb s 0) s _ (nothing-left (leb s 0) s 0 refl)))
-in-three (x ∷ y ∷ []) s h = ap (λ n. pick (leb s x) (x - s) (pick (leb s y) (y - s) n)) (sym (nothing-left (leb s 0) s 0 refl))
-in-three (x ∷ y ∷ z ∷ []) s h = refl
-in-three (x ∷ y ∷ z ∷ w ∷ l) s h = absurd (omega arith)
+fitting-three : (l : List ℕ) (s : ℕ) → length l ≤ 3 → 0 < s → firstFitting l s ≡ fittingIn (getD l 0 0) (getD l 1 0) (getD l 2 0) s
+unfolding firstFitting
+fitting-three [] s h k = simp (missing s k)
+fitting-three (x ∷ []) s h k = simp (missing s k)
+fitting-three (x ∷ y ∷ []) s h k = simp (missing s k)
+fitting-three (x ∷ y ∷ z ∷ []) s h k = refl
+fitting-three (x ∷ y ∷ z ∷ w ∷ l) s h k = absurd (omega arith)
 
-room-step : (t u v : Bool) (x y z s : ℕ) → x ≤ 6 → y ≤ 6 → z ≤ 6 → pick t (x - s) (pick u (y - s) (pick v (z - s) 0)) ≤ 6
-room-step true u v x y z s h i j = omega arith
-room-step false true v x y z s h i j = omega arith
-room-step false false true x y z s h i j = omega arith
-room-step false false false x y z s h i j = omega arith
-
-pub room-within : (e s : ℕ) → firstRoom (targets e) s ≤ 6
-room-within e s =
-    let f : Few (targets e) = few-targets e in
-    rw (in-three (targets e) s (f .short))
-    (room-step (leb s (getD (targets e) 0 0)) (leb s (getD (targets e) 1 0)) (leb s (getD (targets e) 2 0)) (getD (targets e) 0 0) (getD (targets e) 1 0) (getD (targets e) 2 0) s (omega (arith, f .first)) (f .second) (f .third))
-
-implied-step : (t : Bool) (x y : ℕ) → x ≤ 6 → y ≤ 6 → pick t x y ≤ 6
-implied-step true x y h i = h
-implied-step false x y h i = i
-
-pub implied-within : (e selected sum : ℕ) → implied e selected sum ≤ 6
-unfolding implied
-implied-within e selected sum =
-    implied-step (eqb selected 1) (firstTarget e - (sum + 1)) (firstRoom (targets e) sum) (omega (arith, first-within e)) (room-within e sum)
-
--- where the sum meets the first target, the room is what the target leaves
-pub room-first : (e s f : ℕ) → f ≡ firstTarget e → s ≤ f → f - s ≡ firstRoom (targets e) s
-room-first e s f i h =
-    let g : getD (targets e) 0 0 ≡ f = sym (i ∙ first-is e) in
-    sym (in-three (targets e) s (few-targets e .short) ∙ simp (g, le-leb s f h))
-
--- one law for each return of `further_room`
+-- one law for each return of `reach_further`
 module _ (e s : ℕ) (r : Targets) (i : r ≡ targetRow e) (f : firstTarget e < s) where
-  further : firstRoom (targets e) s ≡ pick (leb s (r .1)) (r .1 - s) (pick (leb s (r .2)) (r .2 - s) 0)
+  further : firstFitting (targets e) s ≡ pick (leb s (r .1)) (Target (r .1)) (pick (leb s (r .2)) (Target (r .2)) AboveAll)
   further =
       let g : leb s (getD (targets e) 0 0) ≡ false = lt-leb s (getD (targets e) 0 0) (omega (arith, first-is e)) in
-      in-three (targets e) s (few-targets e .short) ∙ simp g (sym (ap (λ t. pick (leb s (t .1)) (t .1 - s) (pick (leb s (t .2)) (t .2 - s) 0)) i))
+      fitting-three (targets e) s (few-targets e .short) (omega arith) ∙ simp g (sym (ap (λ t. pick (leb s (t .1)) (Target (t .1)) (pick (leb s (t .2)) (Target (t .2)) AboveAll)) i))
 
-  pub room-second : s ≤ r .1 → r .1 - s ≡ firstRoom (targets e) s
-  room-second h = sym (further ∙ simp (le-leb s (r .1) h))
+  pub reached-second : s ≤ r .1 → Target (r .1) ≡ firstFitting (targets e) s
+  reached-second h = sym (further ∙ simp (le-leb s (r .1) h))
 
-  pub room-third : r .1 < s → s ≤ r .2 → r .2 - s ≡ firstRoom (targets e) s
-  room-third h g = sym (further ∙ simp (lt-leb s (r .1) h, le-leb s (r .2) g))
+  pub reached-third : r .1 < s → s ≤ r .2 → Target (r .2) ≡ firstFitting (targets e) s
+  reached-third h g = sym (further ∙ simp (lt-leb s (r .1) h, le-leb s (r .2) g))
 
-  pub room-none : r .1 < s → r .2 < s → 0 ≡ firstRoom (targets e) s
-  room-none h g = sym (further ∙ simp (lt-leb s (r .1) h, lt-leb s (r .2) g))
+  pub reached-none : r .1 < s → r .2 < s → AboveAll ≡ firstFitting (targets e) s
+  reached-none h g = sym (further ∙ simp (lt-leb s (r .1) h, lt-leb s (r .2) g))
+
+-- no target is 0
+abbrev positive : List ℕ → Bool
+positive [] = true
+positive (t ∷ ts) = ltb 0 t
+
+-- the targets of a selected atom (t) or of another, over any list
+abbrev taken : Bool → List ℕ → List ℕ
+taken t l = pick t (take 1 l) l
+
+over-none : (t : Bool) (l : List ℕ) (s : ℕ) → positive l ≡ true → headOr0 l ≡ 0 → NoTarget ≡ reachedIn (taken t l) s
+unfolding reachedIn
+over-none true [] s p h = refl
+over-none false [] s p h = refl
+over-none t (x ∷ l) s p h = absurd (omega (arith, ltb-true 0 x p))
+
+over-first : (t : Bool) (l : List ℕ) (s : ℕ) → (headOr0 l ≡ 0 → ⊥) → s ≤ headOr0 l → Target (headOr0 l) ≡ reachedIn (taken t l) s
+unfolding reachedIn firstFitting
+over-first t [] s n h = absurd (n refl)
+over-first true (x ∷ l) s n h = simp (le-leb s x h)
+over-first false (x ∷ l) s n h = simp (le-leb s x h)
+
+over-selected : (l : List ℕ) (s : ℕ) → (headOr0 l ≡ 0 → ⊥) → headOr0 l < s → AboveAll ≡ reachedIn (take 1 l) s
+unfolding reachedIn firstFitting
+over-selected [] s n h = absurd (n refl)
+over-selected (x ∷ l) s n h = simp (lt-leb s x h)
+
+over-further : (l : List ℕ) (s : ℕ) → (headOr0 l ≡ 0 → ⊥) → firstFitting l s ≡ reachedIn l s
+unfolding reachedIn
+over-further [] s n = absurd (n refl)
+over-further (x ∷ l) s n = refl
+
+-- one law for each return of `reach`
+module _ (e selected s : ℕ) {f : ℕ} (i : f ≡ firstTarget e) where
+  pub reach-nothing : f ≡ 0 → NoTarget ≡ reachedIn (targetsFor e selected) s
+  unfolding firstTarget
+  reach-nothing h = over-none (eqb selected 1) (targets e) s (each-targets positive refl refl refl refl refl refl refl e) (sym i ∙ h)
+
+  module _ (n : f ≡ 0 → ⊥) where
+    some : firstTarget e ≡ 0 → ⊥
+    some h = n (i ∙ h)
+
+    pub reach-first : s ≤ f → Target f ≡ reachedIn (targetsFor e selected) s
+    unfolding firstTarget
+    reach-first h = ap Target i ∙ over-first (eqb selected 1) (targets e) s some (omega arith)
+
+    pub reach-above : f < s → selected ≡ 1 → AboveAll ≡ reachedIn (targetsFor e selected) s
+    unfolding firstTarget
+    reach-above h g = rw (eq-eqb selected 1 g) (over-selected (targets e) s some (omega arith))
+
+    pub reach-later : {r : Reached} → (selected ≡ 1 → ⊥) → r ≡ firstFitting (targets e) s → r ≡ reachedIn (targetsFor e selected) s
+    unfolding firstTarget
+    reach-later g h = h ∙ over-further (targets e) s some ∙ simp (ne-eqb selected 1 g)
+
+-- one law for the returns of `room`
+pub room-by : {r x : Reached} (s n : ℕ) → r ≡ x → n ≡ valuesOf x .target - s → n ≡ valuesOf r .target - s
+room-by s n e h = h ∙ ap (λ y. valuesOf y .target - s) (sym e)
 
 -- one law for each return of `implied`
-module _ (e selected s : ℕ) where
-  pub implied-selected : (n : ℕ) → selected ≡ 1 → n ≡ firstTarget e - (s + 1) → n ≡ implied e selected s
-  unfolding implied
-  implied-selected n h g = simp h g
+abbrev start : Bool → ℕ
+start t = pick t 1 0
 
-  pub implied-plain : (n : ℕ) → (selected ≡ 1 → ⊥) → n ≡ firstRoom (targets e) s → n ≡ implied e selected s
-  unfolding implied
-  implied-plain n h g = simp (ne-eqb selected 1 h) g
+less-start : (t : Bool) (v s n : ℕ) → n ≡ v - s → (t && ltb 0 n) ≡ true → n - 1 ≡ v - (s + start t)
+less-start true v s n h g = omega arith
+less-start false v s n h g = absurd (let q : _≡_ {A = ℕ} 0 1 = cc in omega arith)
+
+no-start : (t : Bool) (v s n : ℕ) → n ≡ v - s → (t && ltb 0 n) ≡ false → n ≡ v - (s + start t)
+no-start true v s n h g = omega (arith, ltb-false 0 n g)
+no-start false v s n h g = omega arith
+
+pub counted : (selected n : ℕ) → (eqb selected 1 && ltb 0 n) ≡ true → 1 ≤ n
+counted selected n g = omega (arith, ltb-true 0 n (and-right (eqb selected 1) (ltb 0 n) g))
+
+module _ (e selected s : ℕ) {r : Reached} {n : ℕ} (i : r ≡ reachedIn (targetsFor e selected) s) (h : n ≡ valuesOf r .target - s) where
+  answered : {k : ℕ} → k ≡ valuesOf r .target - (s + start (eqb selected 1)) → _≡_ {A = Hydrogens} (record { count = k; reached = r }) (hydrogensOf e selected s)
+  unfolding hydrogensOf
+  answered p = (λ j. record { count = p j; reached = r }) ∙ ap (λ (y : Reached). record { count = valuesOf y .target - (s + start (eqb selected 1)); reached = y }) i
+
+  pub implied-less : (eqb selected 1 && ltb 0 n) ≡ true → _≡_ {A = Hydrogens} (record { count = n - 1; reached = r }) (hydrogensOf e selected s)
+  implied-less g = answered (less-start (eqb selected 1) (valuesOf r .target) s n h g)
+
+  pub implied-whole : (eqb selected 1 && ltb 0 n) ≡ false → _≡_ {A = Hydrogens} (record { count = n; reached = r }) (hydrogensOf e selected s)
+  implied-whole g = answered (no-start (eqb selected 1) (valuesOf r .target) s n h g)

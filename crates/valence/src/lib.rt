@@ -1,13 +1,26 @@
 // Valence: what a bond adds to a bond sum, target valences, implied hydrogens, and the delocalization rule.
 ghost use mathlib.Core.Path.{_≡_};
-ghost use Prim.Native.Nat.{_<_};
+ghost use Prim.Native.Nat.{_-_, _<_};
 ghost use lib.IntN.{pos, natAbs};
 ghost use mir.Syntax.{w64};
 ghost use mir.Val.{SFits};
-ghost use Rattle.valence.specs.Valence.{order, targets, targetRow, firstTarget, firstRoom, implied, shiftedTarget, delocalized};
+ghost use Rattle.valence.specs.Valence.{order, targets, targetRow, firstTarget, targetsFor, firstFitting, reachedIn, valuesOf, hydrogensOf, shiftedTarget, delocalized};
 
 // The target valences of an element in their order; 0 for each that it lacks.
 struct Targets(usize, usize, usize);
+
+// What a bond sum meets: the target valence reached, no target (as `*`), or above all targets (an over-full atom).
+pub enum Reached {
+    Target(usize),
+    NoTarget,
+    AboveAll,
+}
+
+// The hydrogens of an atom outside brackets, and the target that they reach.
+pub struct Hydrogens {
+    pub count: usize,
+    pub reached: Reached,
+}
 
 // What a bond of a kind adds to a bond sum; 0 where there is no such kind.
 pub fn order(kind: usize) -> usize
@@ -70,44 +83,67 @@ pub fn first_target(e: usize) -> usize
     }
 }
 
-// The same as `room` where the sum is above the first target.
-fn further_room(e: usize, sum: usize) -> usize
+// The target reached where the sum is above the first one.
+fn reach_further(e: usize, sum: usize) -> Reached
     requires { ⌜ firstTarget e < sum ⌝ }
-    ensures { λ r. ⌜ r ≡ firstRoom (targets e) sum ⌝ }
+    ensures { λ r. ⌜ r ≡ firstFitting (targets e) sum ⌝ }
 {
     let t = target_row(e);
     if sum <= t.1 {
-        return t.1 - sum;
+        return Reached::Target(t.1);
     }
     if sum <= t.2 {
-        return t.2 - sum;
+        return Reached::Target(t.2);
     }
-    0
+    Reached::AboveAll
 }
 
-// The first target less the sum that is not negative; 0 where there is none. A target of 0 never counts: a sum of 0 meets the first one.
-fn room(e: usize, sum: usize) -> usize
-    ensures { λ r. ⌜ r ≡ firstRoom (targets e) sum ⌝ }
+// The target that the bond sum of an atom outside brackets reaches.
+fn reach(e: usize, selected: usize, sum: usize) -> Reached
+    ensures { λ r. ⌜ r ≡ reachedIn (targetsFor e selected) sum ⌝ }
 {
-    let t = first_target(e);
-    if sum <= t {
-        return t - sum;
+    let first = first_target(e);
+    if first == 0 {
+        return Reached::NoTarget;
     }
-    further_room(e, sum)
-}
-
-// The hydrogens of an atom outside brackets, from its element, its selected cell and its bond sum.
-pub fn implied(e: usize, selected: usize, sum: usize) -> usize
-    ensures { λ r. ⌜ r ≡ implied e selected sum ⌝ }
-{
+    if sum <= first {
+        return Reached::Target(first);
+    }
     if selected == 1 {
-        let first = first_target(e);
-        if sum < first {
-            return first - sum - 1;
-        }
-        return 0;
+        return Reached::AboveAll;
     }
-    room(e, sum)
+    reach_further(e, sum)
+}
+
+// What the target reached leaves beside the sum.
+fn room(reached: Reached, sum: usize) -> usize
+    ensures { λ r. ⌜ r ≡ valuesOf reached .target - sum ⌝ }
+{
+    match reached {
+        Reached::Target(t) => {
+            if sum <= t {
+                return t - sum;
+            }
+            0
+        }
+        Reached::NoTarget => 0,
+        Reached::AboveAll => 0,
+    }
+}
+
+// The hydrogens of an atom outside brackets with the target they reach, from its element, its selected cell and its bond sum.
+pub fn implied(e: usize, selected: usize, sum: usize) -> Hydrogens
+    ensures { λ r. ⌜ r ≡ hydrogensOf e selected sum ⌝ }
+{
+    let reached = reach(e, selected, sum);
+    let count = room(reached, sum);
+    if (selected == 1) & (0 < count) {
+        return Hydrogens {
+            count: count - 1,
+            reached,
+        };
+    }
+    Hydrogens { count, reached }
 }
 
 // The size of a charge.

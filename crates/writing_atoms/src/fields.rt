@@ -128,7 +128,7 @@ fn is_outside(atoms: &[i32], a: AtomId, sum: usize) -> bool
         & table::cell::atom_within(atoms, a, CHARGE, 0, 0)
         & (table::cell::atom_number(atoms, a, EXTENSION) == 0)
         & element::is_bare(e as u8)
-        & (implied == table::cell::atom_number(atoms, a, HYDROGENS))
+        & (implied.count == table::cell::atom_number(atoms, a, HYDROGENS))
 }
 
 // internal: an atom with its bond sum.

@@ -10,6 +10,7 @@ pub struct ReadReply {
     pub place: usize,
     pub atoms: usize,
     pub bonds: usize,
+    pub overfull: usize,
 }
 
 /// What `balsa_write` hands back.

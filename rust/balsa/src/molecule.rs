@@ -1,7 +1,7 @@
 //! A molecule that owns its tables.
 
 use crate::refusal::{Code, Refusal};
-use crate::tables::{self, Counts, Step, ATOM_TABLE, BOND_TABLE, RENUMBERING, ROW, TEXT};
+use crate::tables::{self, Counts, Read, Step, ATOM_TABLE, BOND_TABLE, RENUMBERING, ROW, TEXT};
 
 /// A molecule that was read.
 ///
@@ -20,6 +20,7 @@ pub struct Molecule {
     atoms: Vec<i32>,
     bonds: Vec<i32>,
     counts: Counts,
+    overfull: usize,
 }
 
 /// A written molecule.
@@ -46,11 +47,12 @@ impl Molecule {
     pub fn read(text: &[u8]) -> Result<Self, Refusal> {
         let mut atoms = vec![0; ATOM_TABLE];
         let mut bonds = vec![0; BOND_TABLE];
-        let counts = tables::read(text, &mut atoms, &mut bonds)?;
+        let Read { counts, overfull } = tables::read(text, &mut atoms, &mut bonds)?;
         Ok(Molecule {
             atoms,
             bonds,
             counts,
+            overfull,
         })
     }
 
@@ -67,6 +69,19 @@ impl Molecule {
     /// How many atoms and bonds there are.
     pub fn counts(&self) -> Counts {
         self.counts
+    }
+
+    /// How many atoms outside brackets were over-full in the text: their bond sum is above every
+    /// target valence.
+    ///
+    /// ```
+    /// # use balsa::Molecule;
+    /// assert_eq!(Molecule::read(b"FC(F)(F)(F)F")?.overfull(), 1);
+    /// assert_eq!(Molecule::read(b"F[C](F)(F)(F)F")?.overfull(), 0);
+    /// # Ok::<(), balsa::Refusal>(())
+    /// ```
+    pub fn overfull(&self) -> usize {
+        self.overfull
     }
 
     /// All matchings in order, each a row of 0 and 1 over the bonds.
@@ -137,6 +152,7 @@ impl Iterator for Matchings<'_> {
             atoms,
             bonds,
             counts,
+            ..
         } = self.molecule;
         let given = if self.begun {
             tables::next(atoms, bonds, *counts, &mut self.row) == Ok(Step::Given)

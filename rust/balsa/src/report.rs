@@ -8,7 +8,7 @@ use crate::refusal::Code;
 /// ```
 /// let report = balsa::report(b"c1ccccc1\nC11\n\n");
 /// let lines: Vec<_> = report.split(|&byte| byte == b'\n').collect();
-/// assert_eq!(lines[1], b"1: 0 6 6 101010 C1=CC=CC=C1");
+/// assert_eq!(lines[1], b"1: 0 6 6 0 101010 C1=CC=CC=C1");
 /// assert_eq!(lines[2], b"2: 7 2");
 /// assert_eq!(lines[4], b"accepted 2 refused 1");
 /// ```

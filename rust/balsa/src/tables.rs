@@ -23,6 +23,15 @@ pub struct Counts {
     pub bonds: usize,
 }
 
+/// What reading answers.
+#[derive(Clone, Copy, Debug, Default, PartialEq, Eq)]
+pub struct Read {
+    /// How many atoms and bonds the tables hold.
+    pub counts: Counts,
+    /// How many atoms outside brackets are over-full: their bond sum is above every target valence.
+    pub overfull: usize,
+}
+
 /// What asking for the next matching answers.
 #[derive(Clone, Copy, Debug, PartialEq, Eq)]
 pub enum Step {
@@ -43,12 +52,15 @@ fn accepted(code: u32) -> Result<(), Code> {
 ///
 /// # Errors
 /// 1 leaves the tables as they were; 2 to 11 zero them.
-pub fn read(text: &[u8], atoms: &mut [i32], bonds: &mut [i32]) -> Result<Counts, Refusal> {
+pub fn read(text: &[u8], atoms: &mut [i32], bonds: &mut [i32]) -> Result<Read, Refusal> {
     let reply = ffi::read(text, atoms, bonds);
     match reply.code {
-        0 => Ok(Counts {
-            atoms: reply.atoms,
-            bonds: reply.bonds,
+        0 => Ok(Read {
+            counts: Counts {
+                atoms: reply.atoms,
+                bonds: reply.bonds,
+            },
+            overfull: reply.overfull,
         }),
         number => Err(Refusal {
             code: Code::of(number),

@@ -1,6 +1,6 @@
 //! Short buffers, invalid tables and rubbish rows give the numbers of the rules.
 
-use balsa::tables::{self, Counts, Step, ATOM_TABLE, BOND_TABLE, RENUMBERING, ROW, TEXT};
+use balsa::tables::{self, Counts, Read, Step, ATOM_TABLE, BOND_TABLE, RENUMBERING, ROW, TEXT};
 use balsa::{Code, Molecule};
 
 const BENZENE: &[u8] = b"c1ccccc1";
@@ -8,7 +8,7 @@ const BENZENE: &[u8] = b"c1ccccc1";
 fn benzene() -> (Vec<i32>, Vec<i32>, Counts) {
     let mut atoms = vec![7; ATOM_TABLE];
     let mut bonds = vec![9; BOND_TABLE];
-    let counts = tables::read(BENZENE, &mut atoms, &mut bonds).unwrap();
+    let Read { counts, .. } = tables::read(BENZENE, &mut atoms, &mut bonds).unwrap();
     (atoms, bonds, counts)
 }
 

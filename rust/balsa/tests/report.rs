@@ -4,9 +4,9 @@ use balsa::{report, report_into, Code};
 
 const INPUT: &[u8] = b"c1ccccc1\nC11\n\n";
 const REPORT: &[u8] = b"balsa report\n\
-    1: 0 6 6 101010 C1=CC=CC=C1\n\
+    1: 0 6 6 0 101010 C1=CC=CC=C1\n\
     2: 7 2\n\
-    3: 0 0 0 - -\n\
+    3: 0 0 0 0 - -\n\
     accepted 2 refused 1\n";
 
 #[test]
@@ -19,7 +19,7 @@ fn lines_end_with_byte_10_alone() {
     let empty = report(b"");
     assert_eq!(empty, b"balsa report\naccepted 0 refused 0\n");
     let unfinished = report(b"C\nC");
-    assert!(unfinished.ends_with(b"2: 0 1 0 - C\naccepted 2 refused 0\n"));
+    assert!(unfinished.ends_with(b"2: 0 1 0 0 - C\naccepted 2 refused 0\n"));
     let carriage_return = report(b"C\r\n\r");
     assert_eq!(
         carriage_return,

@@ -22,6 +22,7 @@ fn read(text: String) -> Result<Counts, Code> {
         .expect("a thread starts")
         .join()
         .expect("reading ends")
+        .map(|read| read.counts)
         .map_err(|refusal| refusal.code)
 }
 

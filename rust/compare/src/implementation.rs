@@ -1,7 +1,7 @@
 //! What is compared: implementations of the calls on tables.
 
 use crate::buffers::Buffers;
-use balsa_reference::tables::{self, Step, Tables};
+use balsa_reference::tables::{self, Read, Step, Tables};
 use balsa_reference::{Code, Refusal};
 
 /// The answer of a call: the paper's number of a refusal or 0, its place, and what is handed back.
@@ -11,15 +11,21 @@ pub struct Answer {
     pub code: u8,
     /// The place of the refusal.
     pub place: usize,
-    /// Atoms and bonds read; 1 for the end of a list; 1 for a matching; the length written.
-    pub numbers: [usize; 2],
+    /// Atoms, bonds and over-full atoms read; 1 for the end of a list; 1 for a matching; the length
+    /// written.
+    pub numbers: [usize; 3],
 }
 
 impl Answer {
     /// An acceptance.
-    pub fn of(first: usize, second: usize) -> Self {
+    pub fn of(number: usize) -> Self {
+        Answer::of_read(number, 0, 0)
+    }
+
+    /// The acceptance of a text.
+    pub fn of_read(atoms: usize, bonds: usize, overfull: usize) -> Self {
         Answer {
-            numbers: [first, second],
+            numbers: [atoms, bonds, overfull],
             ..Answer::default()
         }
     }
@@ -90,9 +96,11 @@ impl Implementation for Reference {
     }
 
     fn read(&self, text: &[u8], buffers: &mut Buffers) -> Answer {
-        let counts = tables::read(text, &mut buffers.atoms, &mut buffers.bonds);
-        buffers.counts = counts.unwrap_or_default();
-        answer(counts, |counts| Answer::of(counts.atoms, counts.bonds))
+        let read = tables::read(text, &mut buffers.atoms, &mut buffers.bonds);
+        buffers.counts = read.unwrap_or_default().counts;
+        answer(read, |Read { counts, overfull }| {
+            Answer::of_read(counts.atoms, counts.bonds, overfull)
+        })
     }
 
     fn check(&self, buffers: &mut Buffers) -> Answer {
@@ -110,7 +118,7 @@ impl Implementation for Reference {
         let mut row = std::mem::take(&mut buffers.row);
         let result = tables::next(tables_of(buffers), &mut row);
         buffers.row = row;
-        answer(result, |step| Answer::of(usize::from(step == Step::End), 0))
+        answer(result, |step| Answer::of(usize::from(step == Step::End)))
     }
 
     fn replay(&self, buffers: &mut Buffers) -> Answer {
@@ -123,9 +131,7 @@ impl Implementation for Reference {
 
     fn is_matching(&self, buffers: &mut Buffers) -> Answer {
         let result = tables::is_matching(tables_of(buffers), &buffers.row);
-        answer(result, |is_matching| {
-            Answer::of(usize::from(is_matching), 0)
-        })
+        answer(result, |is_matching| Answer::of(usize::from(is_matching)))
     }
 
     fn kekulize(&self, buffers: &mut Buffers) -> Answer {
@@ -139,6 +145,6 @@ impl Implementation for Reference {
         let mut renumbering = std::mem::take(&mut buffers.renumbering);
         let result = tables::write(tables_of(buffers), &mut text, &mut renumbering);
         (buffers.text, buffers.renumbering) = (text, renumbering);
-        answer(result, |length| Answer::of(length, 0))
+        answer(result, |length| Answer::of(length))
     }
 }

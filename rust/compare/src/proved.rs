@@ -2,7 +2,7 @@
 
 use crate::buffers::Buffers;
 use crate::implementation::{Answer, Implementation};
-use balsa::tables::{self, Counts, Step};
+use balsa::tables::{self, Counts, Read, Step};
 use balsa::{Code, Refusal};
 
 /// The proved library, through its Rust crate.
@@ -42,9 +42,11 @@ impl Implementation for Proved {
 
     fn read(&self, text: &[u8], buffers: &mut Buffers) -> Answer {
         let read = tables::read(text, &mut buffers.atoms, &mut buffers.bonds);
-        let Counts { atoms, bonds } = read.unwrap_or_default();
+        let Counts { atoms, bonds } = read.unwrap_or_default().counts;
         buffers.counts = balsa_reference::tables::Counts { atoms, bonds };
-        answer(read, |counts| Answer::of(counts.atoms, counts.bonds))
+        answer(read, |Read { counts, overfull }| {
+            Answer::of_read(counts.atoms, counts.bonds, overfull)
+        })
     }
 
     fn check(&self, buffers: &mut Buffers) -> Answer {
@@ -61,7 +63,7 @@ impl Implementation for Proved {
     fn next(&self, buffers: &mut Buffers) -> Answer {
         let counts = counts(buffers);
         let found = tables::next(&buffers.atoms, &buffers.bonds, counts, &mut buffers.row);
-        answer(found, |step| Answer::of(usize::from(step == Step::End), 0))
+        answer(found, |step| Answer::of(usize::from(step == Step::End)))
     }
 
     fn replay(&self, buffers: &mut Buffers) -> Answer {
@@ -80,7 +82,7 @@ impl Implementation for Proved {
     fn is_matching(&self, buffers: &mut Buffers) -> Answer {
         let counts = counts(buffers);
         let asked = tables::is_matching(&buffers.atoms, &buffers.bonds, counts, &buffers.row);
-        answer(asked, |is_matching| Answer::of(usize::from(is_matching), 0))
+        answer(asked, |is_matching| Answer::of(usize::from(is_matching)))
     }
 
     fn kekulize(&self, buffers: &mut Buffers) -> Answer {
@@ -98,6 +100,6 @@ impl Implementation for Proved {
             &mut buffers.text,
             &mut buffers.renumbering,
         );
-        answer(written, |length| Answer::of(length, 0))
+        answer(written, |length| Answer::of(length))
     }
 }

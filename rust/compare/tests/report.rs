@@ -66,9 +66,9 @@ fn generated(count: usize, seed: u64) -> Vec<u8> {
 #[test]
 fn the_sample() {
     let report = b"balsa report\n\
-        1: 0 6 6 101010 C1=CC=CC=C1\n\
+        1: 0 6 6 0 101010 C1=CC=CC=C1\n\
         2: 7 2\n\
-        3: 0 0 0 - -\n\
+        3: 0 0 0 0 - -\n\
         accepted 2 refused 1\n";
     assert_eq!(program(b"c1ccccc1\nC11\n\n", &[usize::MAX]), report);
 }

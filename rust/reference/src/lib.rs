@@ -21,10 +21,10 @@ mod write;
 pub use element::{number_of, symbol_of};
 pub use matching::{first, has_matching, is_matching, kekulize, next};
 pub use molecule::{Atom, Bond, Kind, Molecule, Neighbour, Neighbours};
-pub use read::read;
+pub use read::{read, reading, Reading};
 pub use refusal::{Code, Refusal};
 pub use report::{report, report_line, Accepted};
-pub use valence::{delocalized, implied_hydrogens, is_shorthand};
+pub use valence::{delocalized, implied_hydrogens, is_shorthand, reached, Reached};
 pub use write::{write, Written};
 
 /// The longest text that is read or written, in bytes.

@@ -4,22 +4,36 @@ use crate::element::{begins_symbol, number_of};
 use crate::matching::has_matching;
 use crate::molecule::{Atom, Bond, Kind, Molecule};
 use crate::refusal::{Code, Refusal};
-use crate::valence::implied_hydrogens;
+use crate::valence::{implied_hydrogens, reached, Reached};
 use crate::{MAX_ATOMS, MAX_BONDS, MAX_BRANCHES, MAX_BRIDGES, MAX_TEXT};
 
+/// A molecule that was read, and how many of its atoms outside brackets are over-full.
+#[derive(Clone, Debug, Default, PartialEq, Eq)]
+pub struct Reading {
+    /// The molecule.
+    pub molecule: Molecule,
+    /// The number of over-full atoms.
+    pub overfull: usize,
+}
+
 /// Reads a text, or tells the first refusal in the paper's order.
-pub fn read(text: &[u8]) -> Result<Molecule, Refusal> {
+pub fn reading(text: &[u8]) -> Result<Reading, Refusal> {
     if text.len() > MAX_TEXT {
         return Err(Refusal::at(Code::TextTooLong, MAX_TEXT));
     }
     let mut reader = Reader::new(text);
     reader.text()?;
-    let molecule = reader.finish()?;
-    if has_matching(&molecule) {
-        Ok(molecule)
+    let reading = reader.finish()?;
+    if has_matching(&reading.molecule) {
+        Ok(reading)
     } else {
         Err(Code::Unmatchable.into())
     }
+}
+
+/// The molecule of a text, or the first refusal in the paper's order.
+pub fn read(text: &[u8]) -> Result<Molecule, Refusal> {
+    reading(text).map(|reading| reading.molecule)
 }
 
 /// How an atom hangs on the one before it.
@@ -345,7 +359,7 @@ impl<'t> Reader<'t> {
     }
 
     /// The molecule at the end of the text, with the hydrogens of the atoms outside brackets.
-    fn finish(self) -> Result<Molecule, Refusal> {
+    fn finish(self) -> Result<Reading, Refusal> {
         let openings = self.bridges.iter().flatten();
         if let Some(place) = openings.map(|opening| opening.place).min() {
             return Err(Refusal::at(Code::OpenBridge, place));
@@ -355,11 +369,14 @@ impl<'t> Reader<'t> {
             bonds: self.bonds,
         };
         let sums = molecule.bond_sums();
+        let mut overfull = 0;
         for number in self.shorthands {
-            let atom = &mut molecule.atoms[number];
-            atom.hydrogens = implied_hydrogens(atom.element, atom.selected, sums[number]);
+            let (atom, sum) = (&mut molecule.atoms[number], sums[number]);
+            atom.hydrogens = implied_hydrogens(atom.element, atom.selected, sum);
+            let reached = reached(atom.element, atom.selected, sum);
+            overfull += usize::from(reached == Reached::AboveAll);
         }
-        Ok(molecule)
+        Ok(Reading { molecule, overfull })
     }
 }
 

@@ -1,7 +1,7 @@
 //! The report: a line for each text.
 
 use crate::matching::{first, kekulize};
-use crate::read::read;
+use crate::read::{reading, Reading};
 use crate::refusal::{Code, Refusal};
 use crate::write::write;
 use crate::MAX_TEXT;
@@ -14,6 +14,8 @@ pub struct Accepted {
     pub atoms: usize,
     /// The number of bonds.
     pub bonds: usize,
+    /// The number of over-full atoms outside brackets.
+    pub overfull: usize,
     /// The first matching.
     pub row: Vec<u8>,
     /// The text of the kekulized molecule.
@@ -22,13 +24,17 @@ pub struct Accepted {
 
 /// Reads, kekulizes by the first matching and writes one text.
 pub fn report_line(text: &[u8]) -> Result<Accepted, Refusal> {
-    let mut molecule = read(text)?;
+    let Reading {
+        mut molecule,
+        overfull,
+    } = reading(text)?;
     let row = first(&molecule).ok_or(Code::Unmatchable)?;
     kekulize(&mut molecule, &row);
     let written = write(&molecule)?;
     Ok(Accepted {
         atoms: molecule.atoms.len(),
         bonds: molecule.bonds.len(),
+        overfull,
         row,
         text: written.text,
     })
@@ -57,7 +63,13 @@ pub fn report(mut input: impl BufRead, mut output: impl Write) -> io::Result<()>
 }
 
 fn write_accepted(output: &mut impl Write, number: u64, answer: &Accepted) -> io::Result<()> {
-    write!(output, "{number}: 0 {} {} ", answer.atoms, answer.bonds)?;
+    let Accepted {
+        atoms,
+        bonds,
+        overfull,
+        ..
+    } = answer;
+    write!(output, "{number}: 0 {atoms} {bonds} {overfull} ")?;
     let digits: Vec<u8> = answer.row.iter().map(|cell| b'0' + cell).collect();
     output.write_all(or_dash(&digits))?;
     output.write_all(b" ")?;

@@ -6,6 +6,7 @@
 use crate::element::MAX_ELEMENT;
 use crate::matching;
 use crate::molecule::{Atom, Bond, Kind, Molecule};
+use crate::read::Reading;
 use crate::refusal::{Code, Refusal};
 use crate::valence::is_selectable;
 use crate::{ATOM_CELLS, BOND_CELLS, MAX_ATOMS, MAX_BONDS, MAX_TEXT};
@@ -28,6 +29,15 @@ pub struct Counts {
     pub atoms: usize,
     /// The number of bonds.
     pub bonds: usize,
+}
+
+/// The answer to [`read`].
+#[derive(Clone, Copy, Debug, Default, PartialEq, Eq)]
+pub struct Read {
+    /// The used rows of the two tables.
+    pub counts: Counts,
+    /// The number of over-full atoms outside brackets.
+    pub overfull: usize,
 }
 
 /// The two tables of a molecule.
@@ -57,14 +67,18 @@ pub enum Step {
 }
 
 /// Reads a text into tables.
-pub fn read(text: &[u8], atoms: &mut [i32], bonds: &mut [i32]) -> Result<Counts, Refusal> {
+pub fn read(text: &[u8], atoms: &mut [i32], bonds: &mut [i32]) -> Result<Read, Refusal> {
     if atoms.len() < ATOM_TABLE || bonds.len() < BOND_TABLE {
         return Err(Code::ShortBuffer.into());
     }
-    let answer = crate::read(text);
-    let no_molecule = Molecule::default();
-    fill(answer.as_ref().unwrap_or(&no_molecule), atoms, bonds);
-    answer.map(|molecule| counts(&molecule))
+    let answer = crate::reading(text);
+    let nothing = Reading::default();
+    let Reading { molecule, .. } = answer.as_ref().unwrap_or(&nothing);
+    fill(molecule, atoms, bonds);
+    answer.map(|reading| Read {
+        counts: counts(&reading.molecule),
+        overfull: reading.overfull,
+    })
 }
 
 /// Whether the tables are long enough and valid.

@@ -25,16 +25,34 @@ pub fn is_shorthand(element: u8) -> bool {
     element == 0 || !targets(element).is_empty()
 }
 
-/// The hydrogens that an atom outside brackets gets.
-pub fn implied_hydrogens(element: u8, selected: bool, bond_sum: u32) -> u8 {
-    let targets = targets(element);
-    let room = if selected {
-        targets[0].saturating_sub(bond_sum + 1)
-    } else {
-        let target = targets.iter().find(|&&target| target >= bond_sum);
-        target.map_or(0, |target| target - bond_sum)
+/// What the bond sum of an atom outside brackets meets.
+#[derive(Clone, Copy, Debug, PartialEq, Eq)]
+pub enum Reached {
+    /// The first target that is not below the bond sum.
+    Target(u32),
+    /// Nothing: the element has no target.
+    NoTarget,
+    /// Nothing: the bond sum is above every target. The atom is over-full.
+    AboveAll,
+}
+
+/// The target that an atom outside brackets reaches; a selected one has its first target only.
+pub fn reached(element: u8, selected: bool, bond_sum: u32) -> Reached {
+    let targets = match targets(element) {
+        [] => return Reached::NoTarget,
+        [first, ..] if selected => std::slice::from_ref(first),
+        targets => targets,
     };
-    room as u8
+    let target = targets.iter().find(|&&target| target >= bond_sum);
+    target.map_or(Reached::AboveAll, |&target| Reached::Target(target))
+}
+
+/// The hydrogens that an atom outside brackets gets; a selected one starts its sum at 1.
+pub fn implied_hydrogens(element: u8, selected: bool, bond_sum: u32) -> u8 {
+    match reached(element, selected, bond_sum) {
+        Reached::Target(target) => target.saturating_sub(bond_sum + u32::from(selected)) as u8,
+        Reached::NoTarget | Reached::AboveAll => 0,
+    }
 }
 
 /// The first target of a selected atom, shifted by its charge. It can be below zero.

@@ -13,9 +13,9 @@ fn reported(input: impl AsRef<[u8]>) -> String {
 #[test]
 fn the_sample_is_reported() {
     let expected = "balsa report\n\
-        1: 0 6 6 101010 C1=CC=CC=C1\n\
+        1: 0 6 6 0 101010 C1=CC=CC=C1\n\
         2: 7 2\n\
-        3: 0 0 0 - -\n\
+        3: 0 0 0 0 - -\n\
         accepted 2 refused 1\n";
     assert_eq!(reported("c1ccccc1\nC11\n\n"), expected);
 }
@@ -23,10 +23,10 @@ fn the_sample_is_reported() {
 #[test]
 fn an_unfinished_last_line_counts_if_it_has_a_byte() {
     assert_eq!(reported(""), "balsa report\naccepted 0 refused 0\n");
-    let one = "balsa report\n1: 0 1 0 - C\naccepted 1 refused 0\n";
+    let one = "balsa report\n1: 0 1 0 0 - C\naccepted 1 refused 0\n";
     assert_eq!(reported("C"), one);
     assert_eq!(reported("C\n"), one);
-    let two = "balsa report\n1: 0 1 0 - C\n2: 0 0 0 - -\naccepted 2 refused 0\n";
+    let two = "balsa report\n1: 0 1 0 0 - C\n2: 0 0 0 0 - -\naccepted 2 refused 0\n";
     assert_eq!(reported("C\n\n"), two);
 }
 
@@ -45,7 +45,7 @@ fn long_lines_are_refused() {
         "CO".to_string(),
         "x".repeat(20_000),
     ];
-    let expected = "balsa report\n1: 3 0\n2: 2 16384\n3: 2 16384\n4: 0 2 1 0 CO\n5: 2 16384\n\
+    let expected = "balsa report\n1: 3 0\n2: 2 16384\n3: 2 16384\n4: 0 2 1 0 0 CO\n5: 2 16384\n\
         accepted 1 refused 4\n";
     assert_eq!(reported(input.join("\n")), expected);
 }
@@ -71,9 +71,9 @@ fn spine(depth: usize) -> String {
 fn a_writing_refusal_is_reported_with_place_0() {
     let output = reported([fan(100), fan(101), spine(64), spine(65)].join("\n"));
     let lines: Vec<&str> = output.lines().collect();
-    assert!(lines[1].starts_with("1: 0 101 199 000"), "{output}");
+    assert!(lines[1].starts_with("1: 0 101 199 0 000"), "{output}");
     assert_eq!(lines[2], "2: 14 0");
-    assert!(lines[3].starts_with("3: 0 129 128 000"), "{output}");
+    assert!(lines[3].starts_with("3: 0 129 128 0 000"), "{output}");
     assert_eq!(lines[4], "4: 15 0");
     assert_eq!(lines[5], "accepted 2 refused 2");
 }

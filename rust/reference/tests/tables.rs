@@ -66,8 +66,9 @@ fn padded(digits: &str) -> Vec<u8> {
 #[test]
 fn reading_fills_the_tables() {
     let (mut atoms, mut bonds) = ([7; ATOM_TABLE + 1], [7; BOND_TABLE + 1]);
-    let counts = tables::read(b"[13nH-:5]=C", &mut atoms, &mut bonds);
-    assert_eq!(counts, Ok(Counts { atoms: 2, bonds: 1 }));
+    let read = tables::read(b"[13nH-:5]=C", &mut atoms, &mut bonds).unwrap();
+    assert_eq!(read.counts, Counts { atoms: 2, bonds: 1 });
+    assert_eq!(read.overfull, 0);
     assert_eq!(atoms[..12], [7, 1, 13, 1, -1, 5, 6, 0, 0, 2, 0, 0]);
     assert_eq!(bonds[..3], [0, 1, 2]);
     assert!(atoms[12..].iter().chain(&bonds[3..]).all(|&cell| cell == 0));

@@ -1,6 +1,8 @@
 //! The texts of the paper, read, matched and refused.
 
-use balsa_reference::{first, next, read, Atom, Bond, Code, Kind, Molecule, Refusal};
+use balsa_reference::{
+    first, next, reached, read, reading, Atom, Bond, Code, Kind, Molecule, Reached, Refusal,
+};
 
 fn molecule(text: &str) -> Molecule {
     read(text.as_bytes()).unwrap_or_else(|refusal| panic!("{text}: {refusal:?}"))
@@ -64,6 +66,33 @@ fn hydrogens_are_counted() {
     assert_eq!(hydrogens("Cn1cccc1")[1], 0);
     assert_eq!(hydrogens("[nH]1cccc1")[0], 1);
     assert_eq!(hydrogens("C=s(=C)(C)C")[1], 0);
+}
+
+/// Request P10.
+#[test]
+fn over_full_atoms_are_counted() {
+    let overfull = |text: &str| reading(text.as_bytes()).unwrap().overfull;
+    assert_eq!(overfull(""), 0);
+    assert_eq!(overfull("CN(C)(C)C"), 0);
+    assert_eq!(overfull("FC(F)(F)(F)F"), 1);
+    assert_eq!(overfull("F[C](F)(F)(F)F"), 0);
+    assert_eq!(overfull("*(C)(C)(C)C"), 0);
+    assert_eq!(overfull("c1(C)(C)(C)cccc1"), 1);
+    assert_eq!(overfull("c1(C)(C)cccc1"), 0);
+    assert_eq!(overfull("F(F)F.O(C)(C)C.N(C)(C)(C)(C)(C)C"), 3);
+    assert_eq!(overfull("CS(C)(C)(C)(C)C"), 0);
+    assert_eq!(overfull("C=C=C.C#C=C"), 1);
+}
+
+#[test]
+fn targets_are_reached() {
+    assert_eq!(reached(6, false, 4), Reached::Target(4));
+    assert_eq!(reached(7, false, 4), Reached::Target(5));
+    assert_eq!(reached(16, false, 0), Reached::Target(2));
+    assert_eq!(reached(16, false, 7), Reached::AboveAll);
+    assert_eq!(reached(6, true, 4), Reached::Target(4));
+    assert_eq!(reached(7, true, 4), Reached::AboveAll);
+    assert_eq!(reached(0, false, 9), Reached::NoTarget);
 }
 
 #[test]

@@ -11,8 +11,8 @@ enum-known-a-2 c = search needs
 code-requires : tie.Need-code-requires
 code-requires c κs = search needs
 
-cast-t8 : tie.Need-cast-t8
-cast-t8 c = search needs
+cast-t9 : tie.Need-cast-t9
+cast-t9 c = search needs
 
 returns : tie.Need-returns
 returns c = simp (c .before .a .given .1)
@@ -22,4 +22,4 @@ returns-2 c = simp (c .before .before .a2 .given .1, c .code .ensures)
 
 pub read-reply-spec : {M : Type 1} → statement M
 read-reply-spec =
-    tie.close (tie.spec enum-known-a enum-known-a-2 code-requires cast-t8 returns returns-2)
+    tie.close (tie.spec enum-known-a enum-known-a-2 code-requires cast-t9 returns returns-2)

@@ -63,7 +63,7 @@ same-length-3 c = search needs
 
 returns : tie.Need-returns
 returns c =
-    said-as (molecule-accepted _ _ _ _ _ _ _ _ _ (c .before .before .before .before .before .before .before .before .before .before .before .before .before .before .before .before .before .before .before .before .before .before .before .first .result) (c .before .before .before .before .before .before .before .before .before .before .before .before .before .before .before .before .before .before .kekulize .result) _ (c .before .before .before .before .before .before .before .before .before .before .before .before .before .before .before .before .before .before .before .before .before .before .before .first .ensures) (c .before .before .before .before .before .before .before .before .before .before .before .before .before .before .before .before .before .before .kekulize .ensures) (c .before .before .before .before .before .before .before .before .before .before .before .write .ensures) (c .before .before .before .before .before .before .before .w .given .1)) (record { text = c .before .before .accepted .ensures; flag = refl })
+    said-as (molecule-accepted _ _ _ _ _ _ _ _ _ _ (c .before .before .before .before .before .before .before .before .before .before .before .before .before .before .before .before .before .before .before .before .before .before .before .first .result) (c .before .before .before .before .before .before .before .before .before .before .before .before .before .before .before .before .before .before .kekulize .result) _ (c .before .before .before .before .before .before .before .before .before .before .before .before .before .before .before .before .before .before .before .before .before .before .before .first .ensures) (c .before .before .before .before .before .before .before .before .before .before .before .before .before .before .before .before .before .before .kekulize .ensures) (c .before .before .before .before .before .before .before .before .before .before .before .write .ensures) (c .before .before .before .before .before .before .before .w .given .1)) (record { text = c .before .before .accepted .ensures; flag = refl })
 
 same-length-4 : tie.Need-same-length-4
 same-length-4 c = search needs
@@ -75,7 +75,7 @@ same-length-6 : tie.Need-same-length-6
 same-length-6 c = search needs
 
 returns-2 : tie.Need-returns-2
-returns-2 c = said-as (molecule-refused _ _ _ _ _ _ _ _ _ (c .before .before .before .before .before .before .before .before .before .before .before .before .before .before .before .before .before .before .before .before .before .first .result) (c .before .before .before .before .before .before .before .before .before .before .before .before .before .before .before .before .kekulize .result) _ (c .before .before .before .before .before .before .before .before .before .before .before .before .before .before .before .before .before .before .before .before .before .first .ensures) (c .before .before .before .before .before .before .before .before .before .before .before .before .before .before .before .before .kekulize .ensures) (c .before .before .before .before .before .before .before .before .before .write .ensures) (c .before .before .before .before .before .w2 .given .1)) (c .before .before .refuse .ensures)
+returns-2 c = said-as (molecule-refused _ _ _ _ _ _ _ _ _ _ (c .before .before .before .before .before .before .before .before .before .before .before .before .before .before .before .before .before .before .before .before .before .first .result) (c .before .before .before .before .before .before .before .before .before .before .before .before .before .before .before .before .kekulize .result) _ (c .before .before .before .before .before .before .before .before .before .before .before .before .before .before .before .before .before .before .before .before .before .first .ensures) (c .before .before .before .before .before .before .before .before .before .before .before .before .before .before .before .before .kekulize .ensures) (c .before .before .before .before .before .before .before .before .before .write .ensures) (c .before .before .before .before .before .w2 .given .1)) (c .before .before .refuse .ensures)
 
 pub report-molecule-spec : {M : Type 1} → statement M
 report-molecule-spec =

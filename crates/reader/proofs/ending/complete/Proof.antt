@@ -1,10 +1,11 @@
 use native.Mathlib.Omega.{arith}
-use mathlib.Core.Path.{refl, sym}
+use mathlib.Core.Path.{refl, sym, _∙_}
 use denote.Ref.{now}
 use Rattle.table.specs.Limits.{maxAtoms}
 use Rattle.table_graph.proofs.Sums.{sums-length}
 use Rattle.table_graph.proofs.Graph.{wide}
 use Rattle.reader.proofs.Ends.{completed-atoms, completed-tables}
+use Rattle.reader.proofs.Filling.{overfulls-by}
 use borrow.Author.Needs.{needs}
 use Rattle.reader.proofs.ending.complete.Statement.{statement}
 use Rattle.reader.proofs.ending.complete.Tie as tie
@@ -46,7 +47,7 @@ matchable-requires c κs =
     let a = s .args in
     let w = c .before .before .before .before .before .before .before .before .before .before .before .before .wire .ensures in
     let h = c .before .before .before .before .before .before .hydrogenate .ensures in
-    (now (a .bonds), completed-tables (now (a .outsides)) (now (a .atoms)) (now (a .bonds)) (a .n) (a .m) (w .1) (s .pre) h (w .0))
+    (now (a .bonds), completed-tables (now (a .outsides)) (now (a .atoms)) (now (a .bonds)) (a .n) (a .m) (w .1) (s .pre) (h .hydrogens) (w .0))
 
 same-length : tie.Need-same-length
 same-length c = search needs
@@ -57,7 +58,7 @@ returns c =
     let a = s .args in
     let w = c .before .before .before .before .before .before .before .before .before .before .before .before .before .wire .ensures in
     let h = c .before .before .before .before .before .before .before .hydrogenate .ensures in
-    record { hydrogens = completed-atoms (now (a .outsides)) (now (a .atoms)) (now (a .bonds)) (a .n) (a .m) (w .1) (s .pre) h; matched = c .matchable .ensures (now (a .bonds)) (completed-tables (now (a .outsides)) (now (a .atoms)) (now (a .bonds)) (a .n) (a .m) (w .1) (s .pre) h (w .0)) }
+    record { hydrogens = completed-atoms (now (a .outsides)) (now (a .atoms)) (now (a .bonds)) (a .n) (a .m) (w .1) (s .pre) (h .hydrogens); overfull = h .overfull ∙ overfulls-by (now (a .outsides)) (now (a .bonds)) (a .n) (a .m) (now (a .atoms)) (w .1) (s .pre .few-atoms); matched = c .matchable .ensures (now (a .bonds)) (completed-tables (now (a .outsides)) (now (a .atoms)) (now (a .bonds)) (a .n) (a .m) (w .1) (s .pre) (h .hydrogens) (w .0)) }
 
 pub complete-spec : {M : Type 1} → statement M
 complete-spec =

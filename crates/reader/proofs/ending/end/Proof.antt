@@ -34,7 +34,7 @@ same-length-4 c = search needs
 returns-2 : tie.Need-returns-2
 returns-2 c =
     let e = c .before .before .complete .ensures in
-    ended-matched _ _ _ (c .before .before .before .before .before .before .leftmost .ensures) (c .before .before .before .before .before .if1 .left) (e .hydrogens) (sym (e .matched) ∙ c .if2 .taken)
+    ended-matched _ _ _ (c .before .before .before .before .before .before .leftmost .ensures) (c .before .before .before .before .before .if1 .left) (e .hydrogens) (e .overfull) (sym (e .matched) ∙ c .if2 .taken)
 
 clear-requires-3 : tie.Need-clear-requires-3
 clear-requires-3 c κs = search needs

@@ -1,20 +1,18 @@
 use Prim.Native.Nat.{_-_}
 use native.Mathlib.Omega.{arith}
 use borrow.Author.Needs.{needs}
-use lib.ListN.{getD}
-use Rattle.loops.proofs.Loops.{Edited, edited-start, edited-step, edited-end}
-use Rattle.reader.specs.Ending.{hydrogensBy, hydrogenatedBy}
+use Rattle.reader.proofs.Filling.{Filling, filling-start, filling-step, filling-adds, filling-end}
 use Rattle.reader.proofs.ending.hydrogenate.Statement.{statement}
 use Rattle.reader.proofs.ending.hydrogenate.Tie as tie
 
 abbrev Inv-loop : tie.InvT-loop
-Inv-loop n outsides sums atoms₀ i₀ atoms i = Edited (λ a. hydrogensBy (getD outsides a 0) (getD sums a 0) a) atoms₀ n i atoms
+Inv-loop n outsides sums atoms₀ overfull₀ i₀ atoms overfull i = Filling outsides sums atoms₀ n i atoms overfull
 
 abbrev μ-loop : tie.MeasureT-loop
-μ-loop n outsides sums atoms₀ i₀ atoms i = n - i
+μ-loop n outsides sums atoms₀ overfull₀ i₀ atoms overfull i = n - i
 
 loop-holds : tie.Need-loop-holds Inv-loop μ-loop
-loop-holds c = edited-start
+loop-holds c = filling-start
 
 element-copy-out-hydrogenate-atom : tie.Need-element-copy-out-hydrogenate-atom Inv-loop μ-loop
 element-copy-out-hydrogenate-atom c = omega arith
@@ -28,6 +26,9 @@ element-copy-out-hydrogenate-atom-2 c = omega arith
 hydrogenate-atom-requires : tie.Need-hydrogenate-atom-requires Inv-loop μ-loop
 hydrogenate-atom-requires c κs = omega arith
 
+add-overfull : tie.Need-add-overfull Inv-loop μ-loop
+add-overfull c = record { fits = omega (arith, filling-adds (c .before .before .before .before .before .before .loop .inv) (c .before .hydrogenate-atom .ensures), c .before .before .before .before .before .loop-test .taken, c .before .before .before .before .before .before .before .pre) }
+
 add-i : tie.Need-add-i Inv-loop μ-loop
 add-i c = omega arith
 
@@ -35,14 +36,13 @@ loop-less : tie.Need-loop-less Inv-loop μ-loop
 loop-less c = omega arith
 
 loop-again : tie.Need-loop-again Inv-loop μ-loop
-loop-again c = edited-step (c .before .before .before .before .before .before .loop .inv) _ (c .before .before .before .before .before .loop-test .taken) (c .before .hydrogenate-atom .ensures) (c .before .hydrogenate-atom .kept .0)
+loop-again c = filling-step (c .before .before .before .before .before .before .loop .inv) (c .before .before .before .before .before .loop-test .taken) (c .before .hydrogenate-atom .ensures) (c .before .hydrogenate-atom .kept .0)
 
 same-length : tie.Need-same-length Inv-loop μ-loop
-same-length c = c .before .loop .inv .room
+same-length c = c .before .loop .inv .hydrogens .room
 
 returns : tie.Need-returns Inv-loop μ-loop
-unfolding hydrogenatedBy
-returns c = edited-end (c .before .loop .inv) (c .loop-test .left)
+returns c = filling-end (c .before .loop .inv) (c .loop-test .left)
 
 pub hydrogenate-spec : {M : Type 1} → statement M
 hydrogenate-spec =
@@ -55,6 +55,7 @@ hydrogenate-spec =
     mul-hydrogenate-atom
     element-copy-out-hydrogenate-atom-2
     hydrogenate-atom-requires
+    add-overfull
     add-i
     loop-less
     loop-again

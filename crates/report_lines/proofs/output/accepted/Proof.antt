@@ -19,6 +19,9 @@ field-requires c κs = search needs
 field-requires-2 : tie.Need-field-requires-2
 field-requires-2 c κs = search needs
 
+field-requires-3 : tie.Need-field-requires-3
+field-requires-3 c κs = search needs
+
 row-field-requires : tie.Need-row-field-requires
 row-field-requires c κs = search needs
 
@@ -34,13 +37,14 @@ same-length c = search needs
 returns : tie.Need-returns
 unfolding acceptedLine
 returns c =
-    also (c .before .before .before .before .before .before .before .before .before .before .before .before .before .before .before .before .before .before .before .before .before .before .before .before .before .before .before .number .ensures)
-    (also (c .before .before .before .before .before .before .before .before .before .before .before .before .before .before .before .before .before .before .before .before .before .before .put-all .ensures)
-    (also (c .before .before .before .before .before .before .before .before .before .before .before .before .before .before .before .before .before .before .field .ensures)
-    (also (c .before .before .before .before .before .before .before .before .before .before .before .before .before .before .field2 .ensures)
+    also (c .before .before .before .before .before .before .before .before .before .before .before .before .before .before .before .before .before .before .before .before .before .before .before .before .before .before .before .before .before .before .before .number .ensures)
+    (also (c .before .before .before .before .before .before .before .before .before .before .before .before .before .before .before .before .before .before .before .before .before .before .before .before .before .before .put-all .ensures)
+    (also (c .before .before .before .before .before .before .before .before .before .before .before .before .before .before .before .before .before .before .before .before .before .before .field .ensures)
+    (also (c .before .before .before .before .before .before .before .before .before .before .before .before .before .before .before .before .before .before .field2 .ensures)
+    (also (c .before .before .before .before .before .before .before .before .before .before .before .before .before .before .field3 .ensures)
     (also (c .before .before .before .before .before .before .before .before .before .before .row-field .ensures)
     (also (c .before .before .before .before .before .before .text-field .ensures)
-    (c .before .before .put .ensures))))))
+    (c .before .before .put .ensures)))))))
 
 pub accepted-spec : {M : Type 1} → statement M
 accepted-spec =
@@ -51,6 +55,7 @@ accepted-spec =
     put-all-requires
     field-requires
     field-requires-2
+    field-requires-3
     row-field-requires
     text-field-requires
     put-requires

@@ -33,7 +33,7 @@ atom-number-requires-5 c κs = search needs
 
 returns : tie.Need-returns
 unfolding withoutBrackets
-returns c = simp (c .atom-number5 .ensures, c .before .is-bare .ensures, c .before .before .atom-number4 .ensures, c .before .before .before .atom-within .ensures, neutral-is, c .before .before .before .before .atom-number3 .ensures, c .before .before .before .before .before .implied .ensures, c .before .before .before .before .before .before .atom-number2 .ensures, c .before .before .before .before .before .before .before .atom-number .ensures)
+returns c = simp (c .before .atom-number5 .ensures, c .before .before .is-bare .ensures, c .before .before .before .atom-number4 .ensures, c .before .before .before .before .atom-within .ensures, neutral-is, c .before .before .before .before .before .atom-number3 .ensures, c .before .before .before .before .before .before .implied .ensures, c .before .before .before .before .before .before .before .atom-number2 .ensures, c .before .before .before .before .before .before .before .before .atom-number .ensures)
 
 pub is-outside-spec : {M : Type 1} → statement M
 is-outside-spec =
