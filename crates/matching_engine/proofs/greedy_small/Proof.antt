@@ -11,19 +11,19 @@ array-borrow-prefix-flags : tie.Need-array-borrow-prefix-flags
 array-borrow-prefix-flags c = search needs
 
 slice-aggregate-used : tie.Need-slice-aggregate-used
-slice-aggregate-used c = sym (length-take-le _ _ (c .before .before .pre .1))
+slice-aggregate-used c = sym (length-take-le _ _ (c .before .before .before .before .before .before .pre .1))
 
 copy-requires : tie.Need-copy-requires
-copy-requires c κs = length-take-le _ _ (c .before .before .before .pre .1)
+copy-requires c κs = length-take-le _ _ (c .before .before .before .before .before .before .before .pre .1)
 
 greedy-requires : tie.Need-greedy-requires
-greedy-requires c κs = shape-at (c .before .before .before .copy .ensures) (c .pre .0)
+greedy-requires c κs = shape-at (c .before .before .before .copy .ensures) (c .before .before .before .before .before .before .before .before .before .before .before .pre .0)
 
 same-length : tie.Need-same-length
 same-length c = search needs
 
 returns : tie.Need-returns
-returns c = found-by-copy (c .pre .0) (c .before .before .before .before .before .before .before .copy .ensures) (c .before .before .before .greedy .ensures)
+returns c = found-by-copy (c .before .before .before .before .before .before .before .before .before .before .before .before .before .before .before .pre .0) (c .before .before .before .before .before .before .before .copy .ensures) (c .before .before .before .greedy .ensures)
 
 pub greedy-small-spec : {M : Type 1} → statement M
 greedy-small-spec =

@@ -3,8 +3,8 @@ use denote.Ref.{now}
 use Rattle.table_graph.proofs.Graph.{built-shape, length-first, length-second, length-elided, length-flags}
 use Rattle.kekule.proofs.Kekule.{first-built, next-built}
 use borrow.Author.Needs.{needs}
-use Rattle.kekule.proofs.search_graph.Statement.{statement}
-use Rattle.kekule.proofs.search_graph.Tie as tie
+use Rattle.kekule.proofs.search_in.Statement.{statement}
+use Rattle.kekule.proofs.search_in.Tie as tie
 
 slice-aggregate-build : tie.Need-slice-aggregate-build
 slice-aggregate-build c = search needs
@@ -101,8 +101,8 @@ returns-2 c =
     let s = c .before .before .before .before .before .before .before .before .before .before .before .before .before .before .before .before .before .before .before .before .before in
     next-built (c .before .before .before .before .before .before .before .before .before .before .before .before .before .before .before .build .ensures) (s .args .c) (now (s .args .row)) (c .before .before .before .before .before .before .before .before .before .enum-told2 .given .1) (c .before .before .before .next .ensures .1)
 
-pub search-graph-spec : {M : Type 1} → statement M
-search-graph-spec =
+pub search-in-spec : {M : Type 1} → statement M
+search-in-spec =
     tie.close
     (tie.spec
     slice-aggregate-build
