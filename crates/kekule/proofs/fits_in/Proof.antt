@@ -6,69 +6,73 @@ use borrow.Author.Needs.{needs}
 use Rattle.kekule.proofs.fits_in.Statement.{statement}
 use Rattle.kekule.proofs.fits_in.Tie as tie
 
-slice-aggregate-build : tie.Need-slice-aggregate-build
-slice-aggregate-build c = search needs
-
-slice-aggregate-build-2 : tie.Need-slice-aggregate-build-2
-slice-aggregate-build-2 c = search needs
-
-slice-aggregate-build-3 : tie.Need-slice-aggregate-build-3
-slice-aggregate-build-3 c = search needs
-
-slice-aggregate-build-4 : tie.Need-slice-aggregate-build-4
-slice-aggregate-build-4 c = search needs
-
 build-requires : tie.Need-build-requires
 build-requires c κs = search needs
 
-array-share-prefix-ea : tie.Need-array-share-prefix-ea
-array-share-prefix-ea c = search needs
+slice-reshare-prefix-fits : tie.Need-slice-reshare-prefix-fits
+slice-reshare-prefix-fits c = search needs
 
 slice-aggregate-fits : tie.Need-slice-aggregate-fits
-slice-aggregate-fits c = sym (length-first (c .before .before .before .before .before .build .ensures))
+slice-aggregate-fits c = sym (length-first (c .before .before .before .before .before .before .before .before .before .before .before .build .ensures))
 
-array-share-prefix-eb : tie.Need-array-share-prefix-eb
-array-share-prefix-eb c = search needs
+slice-reshare-prefix-fits-2 : tie.Need-slice-reshare-prefix-fits-2
+slice-reshare-prefix-fits-2 c = search needs
 
 slice-aggregate-fits-2 : tie.Need-slice-aggregate-fits-2
-slice-aggregate-fits-2 c = sym (length-second (c .before .before .before .before .before .before .build .ensures))
+slice-aggregate-fits-2 c = sym (length-second (c .before .before .before .before .before .before .before .before .before .before .before .before .build .ensures))
 
-array-share-prefix-el : tie.Need-array-share-prefix-el
-array-share-prefix-el c = search needs
+slice-reshare-prefix-fits-3 : tie.Need-slice-reshare-prefix-fits-3
+slice-reshare-prefix-fits-3 c = search needs
 
 slice-aggregate-fits-3 : tie.Need-slice-aggregate-fits-3
-slice-aggregate-fits-3 c = sym (length-elided (c .before .before .before .before .before .before .before .build .ensures))
+slice-aggregate-fits-3 c = sym (length-elided (c .before .before .before .before .before .before .before .before .before .before .before .before .before .build .ensures))
 
-array-borrow-prefix-flags : tie.Need-array-borrow-prefix-flags
-array-borrow-prefix-flags c = search needs
+slice-relend-prefix-fits : tie.Need-slice-relend-prefix-fits
+slice-relend-prefix-fits c = search needs
 
 slice-aggregate-fits-4 : tie.Need-slice-aggregate-fits-4
-slice-aggregate-fits-4 c = sym (length-flags (c .before .before .before .before .before .before .before .before .build .ensures))
+slice-aggregate-fits-4 c = sym (length-flags (c .before .before .before .before .before .before .before .before .before .before .before .before .before .before .build .ensures))
 
 fits-requires : tie.Need-fits-requires
 fits-requires c κs =
-    let s = c .before .before .before .before .before .before .before .before .before .before .before .before .before .before .before .before in
-    built-shape (c .before .before .before .before .before .before .before .before .build .ensures) (s .pre .0) (now (s .args .row)) (s .pre .1)
+    let s = c .before .before .before .before .before .before .before .before .before .before .before .before .before .before .before .before .before .before .before .before .before .before .before .before .before .before in
+    built-shape (c .before .before .before .before .before .before .before .before .before .before .before .before .before .before .build .ensures) (s .pre .0) (now (s .args .row)) (s .pre .1 .0)
+
+same-length : tie.Need-same-length
+same-length c = search needs
+
+same-length-2 : tie.Need-same-length-2
+same-length-2 c = search needs
+
+same-length-3 : tie.Need-same-length-3
+same-length-3 c = search needs
+
+same-length-4 : tie.Need-same-length-4
+same-length-4 c = search needs
+
+same-length-5 : tie.Need-same-length-5
+same-length-5 c = search needs
 
 returns : tie.Need-returns
-returns c = c .before .fits2 .ensures ∙ matching-built (c .before .before .before .before .before .before .before .before .before .before .build .ensures) (now (c .before .before .before .before .before .before .before .before .before .before .before .before .before .before .before .before .before .before .args .row))
+returns c = c .before .before .fits2 .ensures ∙ matching-built (c .before .before .before .before .before .before .before .before .before .before .before .before .before .before .before .before .before .build .ensures) (now (c .before .before .before .before .before .before .before .before .before .before .before .before .before .before .before .before .before .before .before .before .before .before .before .before .before .before .before .before .before .args .row))
 
 pub fits-in-spec : {M : Type 1} → statement M
 fits-in-spec =
     tie.close
     (tie.spec
-    slice-aggregate-build
-    slice-aggregate-build-2
-    slice-aggregate-build-3
-    slice-aggregate-build-4
     build-requires
-    array-share-prefix-ea
+    slice-reshare-prefix-fits
     slice-aggregate-fits
-    array-share-prefix-eb
+    slice-reshare-prefix-fits-2
     slice-aggregate-fits-2
-    array-share-prefix-el
+    slice-reshare-prefix-fits-3
     slice-aggregate-fits-3
-    array-borrow-prefix-flags
+    slice-relend-prefix-fits
     slice-aggregate-fits-4
     fits-requires
+    same-length
+    same-length-2
+    same-length-3
+    same-length-4
+    same-length-5
     returns)
