@@ -76,9 +76,9 @@ module _ {bonds : ℕ → Bond} {m : ℕ} (fit : BondsFit bonds maxAtoms m) (k :
       → Linked bonds m k head2 after2 behind2
   linked-step rh ra rb head2 after2 behind2 eh ea eb =
       let q = fit .ends k h in
-      let long : {v : ℕ} → v < length head2 → v < length head = λ i. omega (arith, ap length eh, length-set (set head (bonds k .lo) k) (bonds k .hi) k, length-set head (bonds k .lo) k) in
+      let long : (v : ℕ) → v < length head2 → v < length head = λ v i. omega (arith, ap length eh, length-set (set head (bonds k .lo) k) (bonds k .hi) k, length-set head (bonds k .lo) k) in
       record {
-        heads = λ v i. ap (λ (t : List ℕ). getD t v 0) eh ∙ head-step (bonds k .lo) (bonds k .hi) refl refl (omega arith) (omega arith) v (long i);
+        heads = λ v i. ap (λ (t : List ℕ). getD t v 0) eh ∙ head-step (bonds k .lo) (bonds k .hi) refl refl (omega arith) (omega arith) v (long v i);
         afters = λ c i j. ap (λ (t : List ℕ). getD t c 0) ea ∙ behind-step (λ c. bonds c .lo) after (omega arith) (omega arith) (l .afters) c i j;
         behinds = λ c i j. ap (λ (t : List ℕ). getD t c 0) eb ∙ behind-step (λ c. bonds c .hi) behind (omega arith) (omega arith) (l .behinds) c i j;
       }

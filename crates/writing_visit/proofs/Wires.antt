@@ -238,3 +238,14 @@ link-room fit p s =
       kinds = p .kinds;
       summed = λ b h. omega (arith, fit .ends b h .1, s);
     }
+
+pub places-kept : {n m : ℕ} {h a b e f k h2 a2 b2 e2 f2 k2 : List ℕ} → Places n m h a b e f k → length h2 ≡ length h → length a2 ≡ length a → length b2 ≡ length b → length e2 ≡ length e → length f2 ≡ length f → length k2 ≡ length k → Places n m h2 a2 b2 e2 f2 k2
+places-kept p h a b e f k =
+    record {
+      heads = omega (arith, p .heads, h);
+      afters = omega (arith, p .afters, a);
+      behinds = omega (arith, p .behinds, b);
+      firsts = omega (arith, p .firsts, e);
+      seconds = omega (arith, p .seconds, f);
+      kinds = omega (arith, p .kinds, k);
+    }
