@@ -247,8 +247,20 @@ sums-at sums g n l e h a i = ap (λ (s : List ℕ). getD s a 0) e ∙ upTo-at g 
 
 -- what the walk leaves
 module _ {bonds : List ℤ} {n m : ℕ} {o₀ w₀ u₀ k₀ o w u k : List ℕ} (room : Room n o₀ w₀ u₀ k₀) (kept : Kept o₀ w₀ u₀ k₀ o w u k) (walked : Walked (bondList bonds m) n o w u k) where
-  pub held : {atoms : List ℤ} {ea eb ks sums : List ℕ} → Valid atoms bonds n m → Wired bonds m 0 ea eb ks → m ≤ length ea → m ≤ length eb → m ≤ length ks → sums ≡ upTo (bondSum bonds m) 0 (length sums) → n ≤ length sums → Held atoms bonds n m o w u k ea eb ks sums
-  held v wired a b c summed s = record { valid = v; room = room-kept room kept; walked = walked; wired = wired; firsts = a; seconds = b; kinds = c; summed = summed; sums-long = s }
+  pub held : {atoms : List ℤ} {ea eb ks sums : List ℕ} (len : ℕ) → Valid atoms bonds n m → Wired bonds m 0 ea eb ks → m ≤ length ea → m ≤ length eb → m ≤ length ks → sums ≡ upTo (bondSum bonds m) 0 len → n ≤ len → Held atoms bonds n m o w u k ea eb ks sums
+  held {atoms} {ea} {eb} {ks} {sums} len v wired a b c summed s =
+      let l : length sums ≡ len = ap length summed ∙ length-upTo (bondSum bonds m) 0 len in
+      record {
+        valid = v;
+        room = room-kept room kept;
+        walked = walked;
+        wired = wired;
+        firsts = a;
+        seconds = b;
+        kinds = c;
+        summed = summed ∙ ap (upTo (bondSum bonds m) 0) (sym l);
+        sums-long = omega (arith, s, l);
+      }
 
   pub counted : Counted bonds n m w
   counted = record { long = room-kept room kept .number; place-at = walked .number }

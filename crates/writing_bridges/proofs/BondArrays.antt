@@ -81,6 +81,9 @@ bag-grows up b g = go (treeBond up b)
 pub bag-room : {m : ℕ} {l h k l2 h2 k2 : List ℕ} → BondRoom m l h k → length l2 ≡ length l → length h2 ≡ length h → length k2 ≡ length k → BondRoom m l2 h2 k2
 bag-room r a b c = let x = r .los in let y = r .his in let z = r .kinds in record { los = omega arith; his = omega arith; kinds = omega arith }
 
+pub bag-less : {j m : ℕ} {l h k : List ℕ} → BondRoom m l h k → j ≤ m → BondRoom j l h k
+bag-less r e = let x = r .los in let y = r .his in let z = r .kinds in record { los = omega arith; his = omega arith; kinds = omega arith }
+
 pub strictly : (x y : ℕ) → (x ≡ y → ⊥) → y ≤ x → y < x
 strictly x y h l = go (eqb x y) refl
   where

@@ -4,7 +4,7 @@ use Rattle.ids.specs.Limits.{maxText}
 use lib.Seq.{length-take-le}
 use lib.ListN.{drop}
 use mathlib.Core.List.{_++_}
-use mathlib.Core.Path.{sym, _∙_}
+use mathlib.Core.Path.{refl, sym, _∙_}
 use native.Mathlib.Omega.{arith}
 use borrow.Author.Needs.{needs}
 use Rattle.writer.proofs.write_valid.Statement.{statement}
@@ -19,7 +19,9 @@ slice-aggregate-text c =
     sym (length-take-le maxText (s .args .out .now) (s .pre .1 .0))
 
 text-requires : tie.Need-text-requires
-text-requires c κs = search needs
+text-requires c κs =
+    let s = c in
+    (s .pre .0, (refl, omega (arith, s .pre .0 .few-atoms)))
 
 clear-all-requires : tie.Need-clear-all-requires
 clear-all-requires c κs = search needs
@@ -95,7 +97,7 @@ renumber-requires c κs =
     let s = c .before .before .before .before .before .before .before .before .before .before .before .before .before .before .before .before in
     let v = s .pre .0 in
     let n = c .before .before .before .before .before .before .before .before .before .before .before .text .ensures .1 in
-    ((omega (arith, v .few-atoms, n .long), omega (arith, v .few-atoms, s .pre .1 .1)), λ a h. (let q = n .place-at a h in omega arith))
+    ((n .long, omega (arith, v .few-atoms, s .pre .1 .1)), λ a h. (let q = n .place-at a h in omega arith))
 
 same-length-7 : tie.Need-same-length-7
 same-length-7 c = search needs

@@ -1,3 +1,4 @@
+use lib.ListN.{length-set}
 use Rattle.writing_bridges.proofs.BondArrays.{left-out, taken-in, marked-add}
 use Prim.Native.Nat.{_-_}
 use native.Mathlib.Omega.{arith}
@@ -18,11 +19,11 @@ shared-slice-read-if1 : tie.Need-shared-slice-read-if1
 shared-slice-read-if1 c = search needs
 
 cast-if1 : tie.Need-cast-if1
-cast-if1 c = omega (arith, c .shared-slice-known2 .given (c .before .before .before .before .before .args .q - 1))
+cast-if1 c = omega (arith, c .shared-slice-known2 .given (c .before .before .before .before .before .before .args .q - 1))
 
 returns : tie.Need-returns
 returns c =
-    let s = c .before .before .before .before .before .before in
+    let s = c .before .before .before .before .before .before .before in
     let a = s .args in
     let w = s .pre .1 .1 .1 .0 in
     (left-out _ _ _ _ (a .p) (a .q) (a .kind) (a .used) (w .0) (omega (arith, w .0, w .1)) (c .if1 .taken), s .pre .1 .1 .0)
@@ -70,7 +71,10 @@ mul-mark-2 : tie.Need-mul-mark-2
 mul-mark-2 c = search needs
 
 slice-read-mark-2 : tie.Need-slice-read-mark-2
-slice-read-mark-2 c = search needs
+slice-read-mark-2 c =
+    let s = c .before .before .before .before .before .before .before .before .before .before in
+    let w = s .pre .1 .1 .1 .0 in
+    simp length-set (omega (arith, s .pre .0 .1, w .0, w .1))
 
 mark-requires-2 : tie.Need-mark-requires-2
 mark-requires-2 c κs = search needs
@@ -79,7 +83,10 @@ mul-marks-2 : tie.Need-mul-marks-2
 mul-marks-2 c = search needs
 
 slice-write-marks-2 : tie.Need-slice-write-marks-2
-slice-write-marks-2 c = search needs
+slice-write-marks-2 c =
+    let s = c .before .before .before .before .before .before .before .before .before .before .before in
+    let w = s .pre .1 .1 .1 .0 in
+    simp length-set (omega (arith, s .pre .0 .1, w .0, w .1))
 
 add-result : tie.Need-add-result
 add-result c = search needs
@@ -98,7 +105,7 @@ same-length-4 c = search needs
 
 returns-2 : tie.Need-returns-2
 returns-2 c =
-    let s = c .before .before .before .before .before .before .before .before .before .before in
+    let s = c .before .before .before .before .before .before .before .before .before .before .before in
     let a = s .args in
     let up = s .pre .0 in
     let room = s .pre .1 .0 in
