@@ -239,8 +239,8 @@ module _ {atoms bonds : List ℤ} {n m : ℕ} {o w u kd ea eb ks sums : List ℕ
       subst (λ (bs : List Bond). Listed bs n l2 h2 q2 k) (wired-list (h .wired)) (listed held-fit d held-numbered l j q l2 h2 q2 k r e)
 
 -- as many bonds at most are listed as there are
-pub listed-few : {bonds : List ℤ} {n m k : ℕ} {l j q : List ℕ} → Listed (bondList bonds m) n l j q k → k ≤ m
-listed-few {bonds} {n} {m} h = omega (arith, h .few, length-upTo (walkBond bonds) 0 m)
+pub listed-few : (bonds : List ℤ) (m : ℕ) {n k : ℕ} {l j q : List ℕ} → Listed (bondList bonds m) n l j q k → k ≤ m
+listed-few bonds m h = omega (arith, h .few, length-upTo (walkBond bonds) 0 m)
 
 pub sums-at : (sums : List ℕ) (g : ℕ → ℕ) (n l : ℕ) → sums ≡ upTo g 0 l → n ≤ l → (a : ℕ) → a < n → getD sums a 0 ≡ g a
 sums-at sums g n l e h a i = ap (λ (s : List ℕ). getD s a 0) e ∙ upTo-at g l a 0 (omega arith)
