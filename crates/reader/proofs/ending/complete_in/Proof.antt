@@ -11,22 +11,22 @@ use Rattle.reader.proofs.ending.complete_in.Tie as tie
 
 wire-requires : tie.Need-wire-requires
 wire-requires c κs =
-    let s = c in
+    let s = c .before .before .before .before .before .before .before .before .before .before in
     let r = s .pre .1 .0 in
     (wide (s .pre .0) (r .firsts) (r .seconds) (r .elided) (r .summed), s .pre .1 .1 .0)
 
 hydrogenate-requires : tie.Need-hydrogenate-requires
 hydrogenate-requires c κs =
-    let s = c in
+    let s = c .before .before .before .before .before .before .before .before .before .before .before .before .before .before .before .before .before .before .before .before .before in
     let a = s .args in
-    (s .pre .0 .few-atoms, omega (arith, s .pre .1 .0 .summed, sums-length (now (a .bonds)) (a .m) _ (c .wire .ensures .1)))
+    (s .pre .0 .few-atoms, omega (arith, s .pre .1 .0 .summed, sums-length (now (a .bonds)) (a .m) _ (c .before .before .before .before .before .before .before .before .before .before .wire .ensures .1)))
 
 matchable-requires : tie.Need-matchable-requires
 matchable-requires c κs =
-    let s = c in
+    let s = c .before .before .before .before .before .before .before .before .before .before .before .before .before .before .before .before .before .before .before .before .before .before .before .before .before .before .before .before .before .before in
     let a = s .args in
-    let w = c .wire .ensures in
-    let h = c .hydrogenate .ensures in
+    let w = c .before .before .before .before .before .before .before .before .before .before .before .before .before .before .before .before .before .before .before .wire .ensures in
+    let h = c .before .before .before .before .before .before .before .before .hydrogenate .ensures in
     ((s .pre .1 .0 .atoms, s .pre .1 .1 .1), (now (a .bonds), completed-tables (now (a .outsides)) (now (a .atoms)) (now (a .bonds)) (a .n) (a .m) _ (s .pre .1 .0 .summed) (w .1) (s .pre .0) (h .hydrogens) (w .0)))
 
 same-length : tie.Need-same-length
@@ -52,14 +52,14 @@ same-length-7 c = search needs
 
 returns : tie.Need-returns
 returns c =
-    let s = c in
+    let s = c .before .before .before .before .before .before .before .before .before .before .before .before .before .before .before .before .before .before .before .before .before .before .before .before .before .before .before .before .before .before .before .before .before .before .before in
     let a = s .args in
-    let w = c .wire .ensures in
-    let h = c .hydrogenate .ensures in
+    let w = c .before .before .before .before .before .before .before .before .before .before .before .before .before .before .before .before .before .before .before .before .before .before .before .before .wire .ensures in
+    let h = c .before .before .before .before .before .before .before .before .before .before .before .before .before .hydrogenate .ensures in
     record {
       hydrogens = completed-atoms (now (a .outsides)) (now (a .atoms)) (now (a .bonds)) (a .n) (a .m) _ (s .pre .1 .0 .summed) (w .1) (s .pre .0) (h .hydrogens);
       overfull = h .overfull ∙ overfulls-by (now (a .outsides)) (now (a .bonds)) (a .n) (a .m) _ (now (a .atoms)) (w .1) (s .pre .1 .0 .summed);
-      matched = c .matchable .ensures (now (a .bonds)) (completed-tables (now (a .outsides)) (now (a .atoms)) (now (a .bonds)) (a .n) (a .m) _ (s .pre .1 .0 .summed) (w .1) (s .pre .0) (h .hydrogens) (w .0));
+      matched = c .before .before .before .before .matchable .ensures (now (a .bonds)) (completed-tables (now (a .outsides)) (now (a .atoms)) (now (a .bonds)) (a .n) (a .m) _ (s .pre .1 .0 .summed) (w .1) (s .pre .0) (h .hydrogens) (w .0));
     }
 
 pub complete-in-spec : {M : Type 1} → statement M

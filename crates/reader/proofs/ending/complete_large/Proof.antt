@@ -24,7 +24,7 @@ slice-aggregate-complete-in-6 c = search needs
 
 complete-in-requires : tie.Need-complete-in-requires
 complete-in-requires c κs =
-    let s = c in
+    let s = c .before .before .before .before .before .before .before in
     (s .pre, (record { atoms = omega (arith, s .pre .few-atoms); firsts = omega (arith, s .pre .few-bonds); seconds = omega (arith, s .pre .few-bonds); elided = omega (arith, s .pre .few-bonds); summed = omega (arith, s .pre .few-atoms) }, (refl, omega (arith, s .pre .few-bonds))))
 
 same-length : tie.Need-same-length

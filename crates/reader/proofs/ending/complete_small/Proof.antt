@@ -24,7 +24,7 @@ slice-aggregate-complete-in-6 c = search needs
 
 complete-in-requires : tie.Need-complete-in-requires
 complete-in-requires c κs =
-    let s = c in
+    let s = c .before .before .before .before .before .before .before in
     (s .pre .0, (record { atoms = omega (arith, s .pre .1 .0); firsts = omega (arith, s .pre .1 .1); seconds = omega (arith, s .pre .1 .1); elided = omega (arith, s .pre .1 .1); summed = omega (arith, s .pre .1 .0) }, (refl, omega (arith, s .pre .1 .1))))
 
 same-length : tie.Need-same-length

@@ -24,8 +24,8 @@ mul-hydrogenate-atom c = search needs
 
 shared-slice-read-hydrogenate-atom : tie.Need-shared-slice-read-hydrogenate-atom Inv-loop μ-loop
 shared-slice-read-hydrogenate-atom c =
-    let s = c in
-    omega (arith, c .loop-test .taken, s .pre .1)
+    let s = c .before .before .before .before .before .before in
+    omega (arith, c .before .before .before .loop-test .taken, s .pre .1)
 
 hydrogenate-atom-requires : tie.Need-hydrogenate-atom-requires Inv-loop μ-loop
 hydrogenate-atom-requires c κs =
@@ -33,8 +33,8 @@ hydrogenate-atom-requires c κs =
 
 add-overfull : tie.Need-add-overfull Inv-loop μ-loop
 add-overfull c =
-    let s = c in
-    record { fits = omega (arith, filling-adds (c .loop .inv) (c .hydrogenate-atom .ensures), c .loop-test .taken, s .pre .0) }
+    let s = c .before .before .before .before .before .before .before .before in
+    record { fits = omega (arith, filling-adds (c .before .before .before .before .before .before .loop .inv) (c .before .hydrogenate-atom .ensures), c .before .before .before .before .before .loop-test .taken, s .pre .0) }
 
 add-i : tie.Need-add-i Inv-loop μ-loop
 add-i c = omega arith
