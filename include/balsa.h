@@ -9,7 +9,7 @@
  * (first end, second end, kind). Least lengths: atoms 6000, bonds 3300, row 1100, out 16384, ren 1000.
  * n and m are the numbers of atoms and bonds in the tables.
  *
- * Codes: 0 accepted, 1 to 16 the refusals of docs/RULES.md, 255 "end" (balsa_next, balsa_register_walk). Refusal 1 changes
+ * Codes: 0 accepted, 1 to 22 the refusals of docs/RULES.md, 255 "end" (balsa_next, balsa_register_walk). Refusal 1 changes
  * nothing; any other zeroes what is named as output; an acceptance zeroes the unused rest. */
 #ifndef BALSA_H
 #define BALSA_H

@@ -16,7 +16,8 @@ use Rattle.matching.specs.Graph.{isMatching, eachOnce, degree, chosenInduced}
 use Rattle.table.specs.Cells.{number}
 use Rattle.table.specs.Rows.{withAtom, withBond}
 use Rattle.table.specs.Valid.{enough}
-use Rattle.table_graph.specs.Graph.{touches, share, bondSum, matchable}
+use Rattle.table.specs.Sound.{touches, bondDegree, noneLoose, lateCode}
+use Rattle.table_graph.specs.Graph.{share, bondSum, matchable}
 use Rattle.reading_state.specs.State.{started, opened, closed, joined}
 use Rattle.reading.specs.Memory.{symbolKind, begun, joins, joinedAlready, closeRefusal}
 use Rattle.reading.specs.Bracket.{symbolled}
@@ -39,6 +40,7 @@ texts =
     (99 ∷ 49 ∷ 99 ∷ 99 ∷ 91 ∷ 110 ∷ 72 ∷ 93 ∷ 99 ∷ 49 ∷ []) ∷  -- c1cc[nH]c1
     (99 ∷ 40 ∷ 99 ∷ 41 ∷ 40 ∷ 99 ∷ 41 ∷ 99 ∷ []) ∷  -- c(c)(c)c
     (99 ∷ 99 ∷ []) ∷  -- cc
+    (99 ∷ 49 ∷ 99 ∷ 99 ∷ 49 ∷ 45 ∷ 99 ∷ 49 ∷ 99 ∷ 99 ∷ 49 ∷ []) ∷  -- c1cc1-c1cc1
     (67 ∷ 49 ∷ 49 ∷ []) ∷  -- C11
     (67 ∷ 61 ∷ 49 ∷ 67 ∷ 67 ∷ 35 ∷ 49 ∷ []) ∷  -- C=1CC#1
     (67 ∷ 49 ∷ 46 ∷ 67 ∷ 49 ∷ []) ∷  -- C1.C1
@@ -56,8 +58,9 @@ expected =
     accepted 6 (pos 6 ∷ pos 1 ∷ pos 0 ∷ pos 1 ∷ pos 0 ∷ pos 0 ∷ pos 6 ∷ pos 1 ∷ pos 0 ∷ pos 1 ∷ pos 0 ∷ pos 0 ∷ pos 6 ∷ pos 1 ∷ pos 0 ∷ pos 1 ∷ pos 0 ∷ pos 0 ∷ pos 6 ∷ pos 1 ∷ pos 0 ∷ pos 1 ∷ pos 0 ∷ pos 0 ∷ pos 6 ∷ pos 1 ∷ pos 0 ∷ pos 1 ∷ pos 0 ∷ pos 0 ∷ pos 6 ∷ pos 1 ∷ pos 0 ∷ pos 1 ∷ pos 0 ∷ pos 0 ∷ []) (pos 0 ∷ pos 1 ∷ pos 0 ∷ pos 1 ∷ pos 2 ∷ pos 0 ∷ pos 2 ∷ pos 3 ∷ pos 0 ∷ pos 3 ∷ pos 4 ∷ pos 0 ∷ pos 4 ∷ pos 5 ∷ pos 0 ∷ pos 0 ∷ pos 5 ∷ pos 0 ∷ []) ((1 ∷ 0 ∷ 1 ∷ 0 ∷ 1 ∷ 0 ∷ []) ∷ (0 ∷ 1 ∷ 0 ∷ 1 ∷ 0 ∷ 1 ∷ []) ∷ []) (99 ∷ 49 ∷ 99 ∷ 99 ∷ 99 ∷ 99 ∷ 99 ∷ 49 ∷ []) ∷  -- c1ccccc1
     accepted 4 (pos 8 ∷ pos 1 ∷ pos 0 ∷ pos 0 ∷ pos 0 ∷ pos 0 ∷ pos 6 ∷ pos 1 ∷ pos 0 ∷ pos 1 ∷ pos 0 ∷ pos 0 ∷ pos 6 ∷ pos 1 ∷ pos 0 ∷ pos 1 ∷ pos 0 ∷ pos 0 ∷ pos 6 ∷ pos 1 ∷ pos 0 ∷ pos 1 ∷ pos 0 ∷ pos 0 ∷ pos 6 ∷ pos 1 ∷ pos 0 ∷ pos 1 ∷ pos 0 ∷ pos 0 ∷ []) (pos 0 ∷ pos 1 ∷ pos 0 ∷ pos 1 ∷ pos 2 ∷ pos 0 ∷ pos 2 ∷ pos 3 ∷ pos 0 ∷ pos 3 ∷ pos 4 ∷ pos 0 ∷ pos 0 ∷ pos 4 ∷ pos 0 ∷ []) ((0 ∷ 1 ∷ 0 ∷ 1 ∷ 0 ∷ []) ∷ []) (111 ∷ 49 ∷ 99 ∷ 99 ∷ 99 ∷ 99 ∷ 49 ∷ []) ∷  -- o1cccc1
     accepted 4 (pos 6 ∷ pos 1 ∷ pos 0 ∷ pos 1 ∷ pos 0 ∷ pos 0 ∷ pos 6 ∷ pos 1 ∷ pos 0 ∷ pos 1 ∷ pos 0 ∷ pos 0 ∷ pos 6 ∷ pos 1 ∷ pos 0 ∷ pos 1 ∷ pos 0 ∷ pos 0 ∷ pos 7 ∷ pos 1 ∷ pos 0 ∷ pos 1 ∷ pos 0 ∷ pos 0 ∷ pos 6 ∷ pos 1 ∷ pos 0 ∷ pos 1 ∷ pos 0 ∷ pos 0 ∷ []) (pos 0 ∷ pos 1 ∷ pos 0 ∷ pos 1 ∷ pos 2 ∷ pos 0 ∷ pos 2 ∷ pos 3 ∷ pos 0 ∷ pos 3 ∷ pos 4 ∷ pos 0 ∷ pos 0 ∷ pos 4 ∷ pos 0 ∷ []) ((0 ∷ 1 ∷ 0 ∷ 0 ∷ 1 ∷ []) ∷ []) (99 ∷ 49 ∷ 99 ∷ 99 ∷ 91 ∷ 110 ∷ 72 ∷ 93 ∷ 99 ∷ 49 ∷ []) ∷  -- c1cc[nH]c1
-    refused 11 0 4 ∷  -- c(c)(c)c: 11, though four atoms are kept
-    accepted 2 (pos 6 ∷ pos 1 ∷ pos 0 ∷ pos 2 ∷ pos 0 ∷ pos 0 ∷ pos 6 ∷ pos 1 ∷ pos 0 ∷ pos 2 ∷ pos 0 ∷ pos 0 ∷ []) (pos 0 ∷ pos 1 ∷ pos 0 ∷ []) ((1 ∷ []) ∷ []) (99 ∷ 99 ∷ []) ∷  -- cc
+    refused 22 0 4 ∷  -- c(c)(c)c: 22, three selected atoms have one bond
+    refused 22 0 2 ∷  -- cc
+    refused 11 0 6 ∷  -- c1cc1-c1cc1: 11, though an even number of atoms is kept, six
     refused 7 2 0 ∷  -- C11
     refused 9 6 0 ∷  -- C=1CC#1
     accepted 0 (pos 6 ∷ pos 0 ∷ pos 0 ∷ pos 3 ∷ pos 0 ∷ pos 0 ∷ pos 6 ∷ pos 0 ∷ pos 0 ∷ pos 3 ∷ pos 0 ∷ pos 0 ∷ []) (pos 0 ∷ pos 1 ∷ pos 0 ∷ []) ((0 ∷ []) ∷ []) (67 ∷ 67 ∷ []) ∷  -- C1.C1
@@ -67,5 +70,5 @@ expected =
     []
 
 pub marked-texts : map said texts ≡ expected
-unfolding texts expected each run upTo among listed starts sameBytes symbols letters marks indexFrom numberOf selectedOf letterOf bare bytesOf selectedBytes order targets firstTarget firstFitting reachedIn hydrogensOf shiftedTarget delocalized nonzero digits several bondSymbols signs step next accepting resting atomOr bridgeOr closing extending charging hydrating symbolOr feed read rows passing isMatching eachOnce degree chosenInduced number withAtom withBond enough touches share bondSum started opened closed joined symbolKind begun joins joinedAlready closeRefusal symbolled atomAct bridgeAct branchAct modeAct act hydrogenated overfullAtoms leftmost matchable ended readFrom readOf forestOf renumbered unused write decimal hydrogenBytes sizeBytes bracketBytes withoutBrackets spelledAtom kindBytes bridgeBytes restBytes tokensBytes tokens textOf
+unfolding texts expected bondDegree noneLoose lateCode each run upTo among listed starts sameBytes symbols letters marks indexFrom numberOf selectedOf letterOf bare bytesOf selectedBytes order targets firstTarget firstFitting reachedIn hydrogensOf shiftedTarget delocalized nonzero digits several bondSymbols signs step next accepting resting atomOr bridgeOr closing extending charging hydrating symbolOr feed read rows passing isMatching eachOnce degree chosenInduced number withAtom withBond enough touches share bondSum started opened closed joined symbolKind begun joins joinedAlready closeRefusal symbolled atomAct bridgeAct branchAct modeAct act hydrogenated overfullAtoms leftmost matchable ended readFrom readOf forestOf renumbered unused write decimal hydrogenBytes sizeBytes bracketBytes withoutBrackets spelledAtom kindBytes bridgeBytes restBytes tokensBytes tokens textOf
 marked-texts = refl

@@ -11,8 +11,8 @@ use borrow.Author.Tests.{le-leb, lt-leb}
 use lib.IntN.{ℤ}
 use Rattle.loops.specs.Loop.{pick, run}
 use Rattle.loops.proofs.Loops.{and-left, length-upTo, Ran, ran-start, ran-step}
-use Rattle.table.specs.Valid.{valid}
-use Rattle.table.proofs.Valid.{facts}
+use Rattle.table.specs.Sound.{sound}
+use Rattle.table.proofs.Sound.{sound-valid}
 use Rattle.matching.specs.Enumeration.{Row, matchings, isRow, orZeroed, zeroed, rowCall, rowReplies}
 use Rattle.matching.specs.Graph.{enumeration}
 use Rattle.matching.specs.declared.MatchingAnswer.{MatchingAnswer}
@@ -84,13 +84,13 @@ module _ (atoms bonds : List ℤ) (n m : ℕ) where
   short-turns (c ∷ cs) row e = rw e (ap (λ (os : List CallReply). callReply 1 row ∷ os) (short-turns cs row e))
 
   -- not valid: every call gives 13 and a zeroed row
-  invalid-turns : (cs : List Call) (len : ℕ) (row : List ℕ) → length row ≡ len → roomy atoms bonds len ≡ true → valid atoms bonds n m ≡ false → turns on cs row ≡ map (λ c. callReply 13 (replicate len 0)) cs
+  invalid-turns : (cs : List Call) (len : ℕ) (row : List ℕ) → length row ≡ len → roomy atoms bonds len ≡ true → sound atoms bonds n m ≡ false → turns on cs row ≡ map (λ c. callReply 13 (replicate len 0)) cs
   unfolding turns callOn
   invalid-turns [] len row l e f = refl
   invalid-turns (c ∷ cs) len row l e f = rw (l, e, f) (ap (λ (os : List CallReply). callReply 13 (replicate len 0) ∷ os) (invalid-turns cs len (replicate len 0) (length-replicate len 0) e f))
 
   -- valid: the answers of the row machine
-  valid-turns : (cs : List Call) (len : ℕ) (row : List ℕ) → length row ≡ len → m ≤ len → roomy atoms bonds len ≡ true → valid atoms bonds n m ≡ true → turns on cs row ≡ map callReplyOf (rowReplies (matchingOf atoms bonds n m) m cs row)
+  valid-turns : (cs : List Call) (len : ℕ) (row : List ℕ) → length row ≡ len → m ≤ len → roomy atoms bonds len ≡ true → sound atoms bonds n m ≡ true → turns on cs row ≡ map callReplyOf (rowReplies (matchingOf atoms bonds n m) m cs row)
   unfolding turns callOn rowReplies
   valid-turns [] len row l r e f = refl
   valid-turns (c ∷ cs) len row l r e f =
@@ -102,17 +102,17 @@ module _ (atoms bonds : List ℤ) (n m : ℕ) where
 -- THE STATEMENT on tables: for every molecule, row and list of calls, the calls give what the enumeration of the molecule gives
 pub calls-enumerated : (cs : List Call) (atoms bonds : List ℤ) (n m : ℕ) (row : List ℕ) → turns (λ c r. callOn c atoms bonds n m r) cs row ≡ repliesOf cs atoms bonds n m row
 unfolding repliesOf
-calls-enumerated cs atoms bonds n m row = go (roomy atoms bonds (length row)) (valid atoms bonds n m) refl refl
+calls-enumerated cs atoms bonds n m row = go (roomy atoms bonds (length row)) (sound atoms bonds n m) refl refl
   where
     flags : List ℕ
     flags = delocalizedFlags atoms bonds n m
 
-    go : (x y : Bool) → roomy atoms bonds (length row) ≡ x → valid atoms bonds n m ≡ y
+    go : (x y : Bool) → roomy atoms bonds (length row) ≡ x → sound atoms bonds n m ≡ y
         → turns (λ c r. callOn c atoms bonds n m r) cs row ≡ pick x (pick y (map callReplyOf (enumeration flags (graphOf bonds m) cs row)) (map (λ c. callReply 13 (replicate (length row) 0)) cs)) (map (λ c. callReply 1 row) cs)
     go false y e q = short-turns atoms bonds n m cs row e
     go true false e q = invalid-turns atoms bonds n m cs (length row) row refl e q
     go true true e q =
-        let r : m ≤ length row = row-room atoms bonds n m (length row) e (facts atoms bonds n m q) in
+        let r : m ≤ length row = row-room atoms bonds n m (length row) e (sound-valid atoms bonds n m q) in
         let l : length (graphOf bonds m) ≡ m = length-upTo (bondOf bonds) 0 m in
         valid-turns atoms bonds n m cs (length row) row refl r e q
         ∙ ap (map callReplyOf) (ap (λ (k : ℕ). rowReplies (matchingOf atoms bonds n m) k cs row) (sym l) ∙ enumeration-agrees flags (graphOf bonds m) cs row (omega arith))

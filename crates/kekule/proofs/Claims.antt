@@ -1,4 +1,4 @@
--- What the calls on a valid molecule mean, from the list theorem and the claims on matchings. Assumes nothing.
+-- What the calls on a sound molecule mean, from the list theorem and the claims on matchings. Assumes nothing.
 use Prim.Native.Nat.{ℕ, suc}
 use native.Mathlib.Omega.{arith}
 use mathlib.Core.Path.{_≡_, refl, sym, ap, _∙_}
@@ -9,8 +9,7 @@ use lib.ListN.{length, take, replicate}
 use lib.IntN.{ℤ}
 use Rattle.loops.specs.Loop.{pick}
 use Rattle.loops.proofs.Loops.{length-upTo}
-use Rattle.table.specs.Valid.{Valid, valid}
-use Rattle.table.proofs.Valid.{facts-back}
+use Rattle.table.specs.Sound.{sound}
 use Rattle.matching.specs.Enumeration.{Row, matchings, cursorAt, fill, given, zeroed, orZeroed, rowCall}
 use Rattle.matching.specs.Graph.{enumeration, afterZero, Pairs}
 use Rattle.matching.specs.Model.{some?}
@@ -32,11 +31,11 @@ absent Absent e = refl
 absent answerRefused e = absurd (omega arith)
 absent Ended e = absurd (omega arith)
 
-module _ {atoms bonds : List ℤ} {n m : ℕ} (v : Valid atoms bonds n m) (row : List ℕ) (h : roomy atoms bonds (length row) ≡ true) where
-  -- a call on valid tables is answered by the row machine
+module _ (atoms bonds : List ℤ) (n m : ℕ) (v : sound atoms bonds n m ≡ true) (row : List ℕ) (h : roomy atoms bonds (length row) ≡ true) where
+  -- a call on sound tables is answered by the row machine
   valid-call : (c : Call) → callOn c atoms bonds n m row ≡ callReplyOf (rowCall (matchingOf atoms bonds n m) m c row)
   unfolding callOn
-  valid-call c = simp (h, facts-back v)
+  valid-call c = simp (h, v)
 
   valid-code : (c : Call) → callOn c atoms bonds n m row .code ≡ foundCode (foundOf (rowCall (matchingOf atoms bonds n m) m c row .answer))
   valid-code c = ap (λ (o : CallReply). o .code) (valid-call c)
@@ -69,7 +68,7 @@ module _ {atoms bonds : List ℤ} {n m : ℕ} (v : Valid atoms bonds n m) (row :
   all-given e rest q =
       let es = matchings (matchingOf atoms bonds n m) (length (graphOf bonds m)) in
       let k : es ≡ e ∷ rest = ap (matchings (matchingOf atoms bonds n m)) graph-length ∙ q in
-      simp (h, facts-back v, k) (ap (map callReplyOf) (whole-list (length row) (afterZero (delocalizedFlags atoms bonds n m) (e ∷ rest)) e rest _) ∙ outs (length row) (e ∷ rest))
+      simp (h, v, k) (ap (map callReplyOf) (whole-list (length row) (afterZero (delocalizedFlags atoms bonds n m) (e ∷ rest)) e rest _) ∙ outs (length row) (e ∷ rest))
     where
       outs : (len : ℕ) (es : List Row) → map callReplyOf (map (given len) es ++ (zeroed len Ended ∷ [])) ≡ map (λ r. callReply 0 (fill len r)) es ++ (callReply 255 (replicate len 0) ∷ [])
       outs len [] = refl
@@ -78,7 +77,7 @@ module _ {atoms bonds : List ℤ} {n m : ℕ} (v : Valid atoms bonds n m) (row :
 -- asking for the next never gives 11, whatever the tables and the row
 pub next-never-none : (atoms bonds : List ℤ) (n m : ℕ) (row : List ℕ) → callOn Next atoms bonds n m row .code ≡ 11 → ⊥
 unfolding callOn
-next-never-none atoms bonds n m row = go (roomy atoms bonds (length row)) (valid atoms bonds n m)
+next-never-none atoms bonds n m row = go (roomy atoms bonds (length row)) (sound atoms bonds n m)
   where
     go : (x y : Bool) → pick x (pick y (callReplyOf (rowCall (matchingOf atoms bonds n m) m Next row)) (callReply 13 (replicate (length row) 0))) (callReply 1 row) .code ≡ 11 → ⊥
     go false y e = omega arith

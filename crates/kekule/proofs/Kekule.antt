@@ -10,7 +10,8 @@ use lib.IntN.{ℤ}
 use lib.Dec.{leb}
 use Rattle.loops.proofs.Loops.{and-left}
 use Rattle.table.specs.Limits.{maxBonds}
-use Rattle.table.specs.Valid.{Valid, valid, enough}
+use Rattle.table.specs.Valid.{Valid, enough}
+use Rattle.table.specs.Sound.{sound}
 use Rattle.matching.specs.Enumeration.{Reply, rowFirst, rowNext, rowCall}
 use Rattle.matching.specs.Graph.{isMatching}
 use Rattle.matching.specs.Model.{bondsOf, matchingFrom, part}
@@ -57,11 +58,11 @@ module _ (c : Call) (atoms bonds : List ℤ) (n m : ℕ) (row : List ℕ) where
   unfolding callOn
   call-short e = simp e
 
-  pub call-invalid : {row′ : List ℕ} → roomy atoms bonds (length row) ≡ true → valid atoms bonds n m ≡ false → row′ ≡ take 0 row ++ replicate (length row - 0) 0 → callReply 13 row′ ≡ callOn c atoms bonds n m row
+  pub call-invalid : {row′ : List ℕ} → roomy atoms bonds (length row) ≡ true → sound atoms bonds n m ≡ false → row′ ≡ take 0 row ++ replicate (length row - 0) 0 → callReply 13 row′ ≡ callOn c atoms bonds n m row
   unfolding callOn
   call-invalid e f h = simp (e, f, h) (ap (callReply 13) (cleared row))
 
-  pub call-done : {o : CallReply} → roomy atoms bonds (length row) ≡ true → valid atoms bonds n m ≡ true → o ≡ callReplyOf (rowCall (matchingOf atoms bonds n m) m c row) → o ≡ callOn c atoms bonds n m row
+  pub call-done : {o : CallReply} → roomy atoms bonds (length row) ≡ true → sound atoms bonds n m ≡ true → o ≡ callReplyOf (rowCall (matchingOf atoms bonds n m) m c row) → o ≡ callOn c atoms bonds n m row
   unfolding callOn
   call-done e f h = h ∙ simp (e, f)
 
@@ -71,14 +72,14 @@ module _ (atoms bonds : List ℤ) (n m : ℕ) (row : List ℕ) where
   unfolding kekulizedOf
   kekulize-short e = simp e
 
-  pub kekulize-invalid : roomy atoms bonds (length row) ≡ true → valid atoms bonds n m ≡ false → kekulizeReply 13 atoms bonds ≡ kekulizedOf atoms bonds n m row
+  pub kekulize-invalid : roomy atoms bonds (length row) ≡ true → sound atoms bonds n m ≡ false → kekulizeReply 13 atoms bonds ≡ kekulizedOf atoms bonds n m row
   unfolding kekulizedOf
   kekulize-invalid e f = simp (e, f)
 
-  pub kekulize-wrong : roomy atoms bonds (length row) ≡ true → valid atoms bonds n m ≡ true → isMatchingOf atoms bonds n m row ≡ false → kekulizeReply 12 atoms bonds ≡ kekulizedOf atoms bonds n m row
+  pub kekulize-wrong : roomy atoms bonds (length row) ≡ true → sound atoms bonds n m ≡ true → isMatchingOf atoms bonds n m row ≡ false → kekulizeReply 12 atoms bonds ≡ kekulizedOf atoms bonds n m row
   unfolding kekulizedOf
   kekulize-wrong e f g = simp (e, f, g)
 
-  pub kekulize-done : {o : KekulizeReply} → roomy atoms bonds (length row) ≡ true → valid atoms bonds n m ≡ true → isMatchingOf atoms bonds n m row ≡ true → o ≡ kekulized atoms bonds n m row → o ≡ kekulizedOf atoms bonds n m row
+  pub kekulize-done : {o : KekulizeReply} → roomy atoms bonds (length row) ≡ true → sound atoms bonds n m ≡ true → isMatchingOf atoms bonds n m row ≡ true → o ≡ kekulized atoms bonds n m row → o ≡ kekulizedOf atoms bonds n m row
   unfolding kekulizedOf
   kekulize-done e f g h = h ∙ simp (e, f, g)

@@ -1,4 +1,4 @@
--- A kekulized molecule: valid tables, no selected atom, no delocalized atom. Assumes nothing.
+-- A kekulized molecule: sound tables, no selected atom, no delocalized atom. Assumes nothing.
 use Prim.Native.Nat.{ℕ, zero, suc, _+_, _<_}
 use native.Mathlib.Omega.{arith}
 use mathlib.Core.Path.{_≡_, refl, ap, _∙_}
@@ -11,9 +11,11 @@ use Rattle.loops.specs.Loop.{pick, upTo}
 use Rattle.loops.proofs.Loops.{and-right, each-all, each-same, length-upTo}
 use Rattle.table.specs.Limits.{maxBonds, atomCells, ELEMENT, SELECTED, ISOTOPE, HYDROGENS, CHARGE, EXTENSION, FIRST, SECOND, KIND}
 use Rattle.table.specs.Cells.{number, inRange, bondPlace, atomCell, bondCell, element, selected, hydrogens}
-use Rattle.table.specs.Valid.{selectedOk, sameEnds, fresh, distinct, atomOk, bondOk, Valid, valid, enough}
+use Rattle.table.specs.Valid.{selectedOk, sameEnds, fresh, distinct, atomOk, bondOk, Valid, enough}
+use Rattle.table.specs.Sound.{sound}
 use Rattle.table.specs.Edits.{unselectedAtoms, doubledBonds}
-use Rattle.table.proofs.Valid.{facts, enough-facts, Enough, AtomFine, atom-row, atom-fine-back, BondFine, bond-row, bond-fine-back}
+use Rattle.table.proofs.Sound.{sound-valid, sound-back, unselected-late}
+use Rattle.table.proofs.Valid.{enough-facts, Enough, AtomFine, atom-row, atom-fine-back, BondFine, bond-row, bond-fine-back}
 use Rattle.table.proofs.Edits.{unselected-cell, unselected-field, doubled-kind, doubled-field}
 use Rattle.valence.specs.Valence.{delocalized}
 use Rattle.matching.specs.Enumeration.{matchings}
@@ -104,6 +106,11 @@ module _ {atoms bonds : List ℤ} {n m : ℕ} (v : Valid atoms bonds n m) (r : E
         apart = same-distinct ∙ v .apart;
       }
 
+  -- and sound
+  pub kekulized-sound : sound atoms′ bonds′ n m ≡ true
+  unfolding number
+  kekulized-sound = sound-back atoms′ bonds′ n m kekulized-valid (unselected-late atoms′ bonds′ n m (λ a l. ap number (none-selected a l)))
+
   -- no atom is delocalized
   pub none-delocalized : (a : ℕ) → a < n → delocalizedAt atoms′ bonds′ m a ≡ false
   unfolding delocalized number
@@ -121,22 +128,22 @@ module _ {atoms bonds : List ℤ} {n m : ℕ} (v : Valid atoms bonds n m) (r : E
       let z : noneFlagged flags ≡ true = zero-flags (delocalizedFlag atoms′ bonds′ m) 0 n (λ j h. flag-none j (omega arith)) in
       rw (matching-pairs flags bs) (rw l at (only-zeros bs flags z))
 
--- kekulizing that is not refused leaves valid tables without a selected or a delocalized atom
+-- kekulizing that is not refused leaves sound tables without a selected or a delocalized atom
 pub record Settled (atoms bonds : List ℤ) (n m : ℕ) : Type 0 where
-  pub still-valid : Valid atoms bonds n m
+  pub still-sound : sound atoms bonds n m ≡ true
   pub unselected : (a : ℕ) → a < n → atomCell atoms a SELECTED ≡ pos 0
   pub localized : (a : ℕ) → a < n → delocalizedAt atoms bonds m a ≡ false
 
 pub kekulize-settles : (atoms bonds : List ℤ) (n m : ℕ) (row : List ℕ) → kekulizedOf atoms bonds n m row .code ≡ 0 → Settled (kekulizedOf atoms bonds n m row .atoms) (kekulizedOf atoms bonds n m row .bonds) n m
 unfolding kekulizedOf
-kekulize-settles atoms bonds n m row = go (roomy atoms bonds (length row)) (valid atoms bonds n m) (isMatchingOf atoms bonds n m row) refl refl
+kekulize-settles atoms bonds n m row = go (roomy atoms bonds (length row)) (sound atoms bonds n m) (isMatchingOf atoms bonds n m row) refl refl
   where
-    go : (x y z : Bool) → roomy atoms bonds (length row) ≡ x → valid atoms bonds n m ≡ y
+    go : (x y z : Bool) → roomy atoms bonds (length row) ≡ x → sound atoms bonds n m ≡ y
         → let o = pick x (pick y (pick z (kekulized atoms bonds n m row) (kekulizeReply 12 atoms bonds)) (kekulizeReply 13 atoms bonds)) (kekulizeReply 1 atoms bonds) in o .code ≡ 0 → Settled (o .atoms) (o .bonds) n m
     go false y z e f h = absurd (omega arith)
     go true false z e f h = absurd (omega arith)
     go true true false e f h = absurd (omega arith)
     go true true true e f h =
-        let v = facts atoms bonds n m f in
+        let v = sound-valid atoms bonds n m f in
         let r = enough-facts atoms bonds (and-right (leb maxBonds (length row)) (enough atoms bonds) e) in
-        record { still-valid = kekulized-valid v r row; unselected = none-selected v r row; localized = none-delocalized v r row }
+        record { still-sound = kekulized-sound v r row; unselected = none-selected v r row; localized = none-delocalized v r row }

@@ -6,7 +6,8 @@ use lib.ListN.{length, getD, set, replicate}
 use lib.IntN.{ℤ}
 use lib.Dec.{leb}
 use Rattle.loops.specs.Loop.{pick, run}
-use Rattle.table.specs.Valid.{valid, checkCode}
+use Rattle.table.specs.Valid.{checkCode}
+use Rattle.table.specs.Sound.{sound}
 use Rattle.table.specs.declared.Check.{Check}
 use Rattle.matching.specs.Graph.{enumeration}
 use Rattle.matching.specs.declared.Call.{Call}
@@ -18,7 +19,7 @@ use Rattle.kekule.specs.Kekule.{CallReply, callReply, callReplyOf, roomy
 unfoldable pub repliesOf : List Call → List ℤ → List ℤ → ℕ → ℕ → List ℕ → List CallReply
 repliesOf cs atoms bonds n m row =
     pick (roomy atoms bonds (length row))
-    (pick (valid atoms bonds n m)
+    (pick (sound atoms bonds n m)
     (map callReplyOf (enumeration (delocalizedFlags atoms bonds n m) (graphOf bonds m) cs row))
     (map (λ c. callReply 13 (replicate (length row) 0)) cs))
     (map (λ c. callReply 1 row) cs)

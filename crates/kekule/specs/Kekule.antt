@@ -7,7 +7,8 @@ use lib.IntN.{ℤ}
 use lib.Dec.{eqb, leb}
 use Rattle.loops.specs.Loop.{pick, each}
 use Rattle.table.specs.Limits.{maxAtoms, maxBonds}
-use Rattle.table.specs.Valid.{valid, enough, checkCode}
+use Rattle.table.specs.Valid.{enough, checkCode}
+use Rattle.table.specs.Sound.{sound}
 use Rattle.table.specs.Edits.{unselectedAtoms, doubledBonds}
 use Rattle.table.specs.declared.Check.{Check}
 use Rattle.matching.specs.Enumeration.{Reply, isRow, rowCall}
@@ -38,7 +39,7 @@ roomy atoms bonds len = leb maxBonds len && enough atoms bonds
 unfoldable pub callOn : Call → List ℤ → List ℤ → ℕ → ℕ → List ℕ → CallReply
 callOn c atoms bonds n m row =
     pick (roomy atoms bonds (length row))
-    (pick (valid atoms bonds n m) (callReplyOf (rowCall (matchingOf atoms bonds n m) m c row)) (callReply 13 (replicate (length row) 0)))
+    (pick (sound atoms bonds n m) (callReplyOf (rowCall (matchingOf atoms bonds n m) m c row)) (callReply 13 (replicate (length row) 0)))
     (callReply 1 row)
 
 -- the row, up to the last bond, is a matching; "in a row handed in, cells past the last bond are not looked at"
@@ -51,7 +52,7 @@ allZero m row = each (λ b. eqb (getD row b 0) 0) 0 m
 
 -- the question whether a row is a matching: 1, 13, then 12
 unfoldable pub askedOf : List ℤ → List ℤ → ℕ → ℕ → List ℕ → ℕ
-askedOf atoms bonds n m row = pick (roomy atoms bonds (length row)) (pick (valid atoms bonds n m) (pick (isMatchingOf atoms bonds n m row) 0 12) 13) 1
+askedOf atoms bonds n m row = pick (roomy atoms bonds (length row)) (pick (sound atoms bonds n m) (pick (isMatchingOf atoms bonds n m row) 0 12) 13) 1
 
 -- what kekulizing hands back: 01's number for its answer, and the tables as they are then
 pub record KekulizeReply : Type 0 where
@@ -73,7 +74,7 @@ kekulized atoms bonds n m row = kekulizeReply 0 (unselectedAtoms n atoms) (doubl
 unfoldable pub kekulizedOf : List ℤ → List ℤ → ℕ → ℕ → List ℕ → KekulizeReply
 kekulizedOf atoms bonds n m row =
     pick (roomy atoms bonds (length row))
-    (pick (valid atoms bonds n m)
+    (pick (sound atoms bonds n m)
     (pick (isMatchingOf atoms bonds n m row) (kekulized atoms bonds n m row) (kekulizeReply 12 atoms bonds))
     (kekulizeReply 13 atoms bonds))
     (kekulizeReply 1 atoms bonds)

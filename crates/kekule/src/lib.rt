@@ -229,7 +229,7 @@ fn call(c: Call, atoms: &[i32], bonds: &[i32], n: usize, m: usize, row: &mut [u8
     if !roomy(atoms, bonds, len) {
         return Found::Refused(Refusal::Short);
     }
-    if !table_validity::valid(atoms, bonds, n, m) {
+    if !table_validity::sound(atoms, bonds, n, m) {
         matching_search::clear(row, BondId(0));
         return Found::Refused(Refusal::Invalid);
     }
@@ -368,7 +368,7 @@ pub fn is_matching(atoms: &[i32], bonds: &[i32], n: usize, m: usize, row: &[u8])
     if !roomy(atoms, bonds, row.len()) {
         return Check::Refused(Refusal::Short);
     }
-    if !table_validity::valid(atoms, bonds, n, m) {
+    if !table_validity::sound(atoms, bonds, n, m) {
         return Check::Refused(Refusal::Invalid);
     }
     if is_matching_valid(atoms, bonds, n, m, row) {
@@ -394,7 +394,7 @@ pub fn kekulize(atoms: &mut [i32], bonds: &mut [i32], n: usize, m: usize, row: &
     if !roomy(atoms, bonds, row.len()) {
         return Check::Refused(Refusal::Short);
     }
-    if !table_validity::valid(atoms, bonds, n, m) {
+    if !table_validity::sound(atoms, bonds, n, m) {
         return Check::Refused(Refusal::Invalid);
     }
     if !is_matching_valid(atoms, bonds, n, m, row) {

@@ -8,14 +8,16 @@ use mathlib.Core.List.{List, [], _∷_}
 use lib.ListN.{length, getD, set, replicate, length-replicate}
 use lib.IntN.{ℤ, pos}
 use lib.Dec.{eqb}
-use borrow.Author.Tests.{eqb-true, eqb-false, eq-eqb, le-leb, lt-leb, lt-ltb, le-ltb}
+use borrow.Author.Tests.{eqb-true, eqb-false, eq-eqb, ne-eqb, le-leb, lt-leb, lt-ltb, le-ltb}
 use mir.Val.{toZ}
 use mir.Syntax.{w32}
 use mir.Facts.{toZ-pos}
 use Rattle.loops.specs.Loop.{pick, upTo, run}
 use Rattle.loops.proofs.Loops.{and-left, and-right, upTo-at}
 use Rattle.refusal.specs.declared.Refusal.{Refusal}
-use Rattle.refusal.specs.declared.Refusal.the-variants.{Short, LongText, Grammar, OpenBridge, Unmatchable}
+use Rattle.refusal.specs.declared.Refusal.the-variants.{Short, LongText, Grammar}
+use Rattle.refusal.specs.Code.{codeOf}
+use Rattle.refusal.proofs.Codes.{code-range}
 use Rattle.valence.specs.Valence.{implied}
 use Rattle.reading_grammar.specs.declared.Last.the-variants.{Plain as plain}
 use Rattle.reading_grammar.specs.declared.Mode.the-variants.{Seq as seq, AtomNext as atomNext}
@@ -26,6 +28,7 @@ use Rattle.reading_grammar.specs.Fold.{Reading, going, halted, feed, read, Verd
 use Rattle.table.specs.Limits.{maxAtoms, HYDROGENS}
 use Rattle.table.specs.Cells.{atomPlace, element, selected}
 use Rattle.table.specs.Valid.{Valid, enough}
+use Rattle.table.specs.Sound.{lateCode}
 use Rattle.table_graph.specs.Graph.{bondSum, matchable}
 use Rattle.table_graph.specs.Built.{Wired, Prepared}
 use Rattle.table_graph.proofs.Graph.{prepared}
@@ -46,7 +49,8 @@ use Rattle.reader.specs.declared.piece.Joint.{Joint}
 use Rattle.reader.specs.declared.bridge.Why.{Why}
 use Rattle.reader.specs.declared.ending.ReadAnswer as reply
 use Rattle.reader.specs.Outcome.{Bounded, Outcome, refusedAt, PastFine, Past, Goes, Stops, Sequenced}
-use Rattle.reader.specs.Ending.{told, hydrogensBy, hydrogenatedBy, endedOf, answerOf, TextGoes, TextRead}
+use Rattle.reader.specs.Filled.{hydrogensBy, hydrogenatedBy, placedBy}
+use Rattle.reader.specs.Ending.{told, endedOf, answerOf, TextGoes, TextRead}
 use Rattle.reader.proofs.Branches.{close-down}
 
 -- ---- the whole text
@@ -178,18 +182,20 @@ module _ (opener offset : List ℕ) where
 
 -- ---- after the last byte
 module _ (t : Steering) (a b : List ℤ) {p : ℕ} (e : p ≡ leftmost (t .opener) (t .offset)) where
-  pub ended-open : {x y : List ℤ} → p < maxText → x ≡ zeros a → y ≡ zeros b → told (reply.ReadAnswer.Refused OpenBridge p) x y ≡ endedOf t a b
+  pub ended-open : {o : ReadResult} → p < maxText → o ≡ refused 10 p a b → o ≡ endedOf t a b
   unfolding ended
-  ended-open h ex ey = rw (ex, ey, ← e, lt-ltb p maxText h)
+  ended-open h eo = rw (eo, ← e, lt-ltb p maxText h)
 
-  module _ (h : maxText ≤ p) {v : List ℤ} (ev : v ≡ hydrogenated (t .outside) b (t .bonds) (t .atoms) a) where
-    pub ended-matched : {k : ℕ} → k ≡ overfullAtoms (t .outside) b (t .bonds) (t .atoms) a → matchable v b (t .atoms) (t .bonds) ≡ true → told (reply.ReadAnswer.Molecule (t .atoms) (t .bonds) k) v b ≡ endedOf t a b
+  module _ (h : maxText ≤ p) {v : List ℤ} (ev : v ≡ hydrogenated (t .outside) b (t .bonds) (t .atoms) a) {o : ReadResult} where
+    pub ended-late : (r : Refusal) → codeOf r ≡ lateCode v b (t .atoms) (t .bonds) → o ≡ refused (codeOf r) 0 v b → o ≡ endedOf t a b
     unfolding ended
-    ended-matched ek m = rw (← e, le-ltb p maxText h, ← ev, m, ek)
+    ended-late r l eo =
+        let n : eqb (lateCode v b (t .atoms) (t .bonds)) 0 ≡ false = ne-eqb (lateCode v b (t .atoms) (t .bonds)) 0 (λ z. omega (arith, code-range r .positive, l, z)) in
+        rw (eo, ← e, le-ltb p maxText h, ← ev, l, n)
 
-    pub ended-unmatched : {x y : List ℤ} → matchable v b (t .atoms) (t .bonds) ≡ false → x ≡ zeros v → y ≡ zeros b → told (reply.ReadAnswer.Refused Unmatchable 0) x y ≡ endedOf t a b
+    pub ended-placed : {x : Bool} {k : ℕ} → 0 ≡ lateCode v b (t .atoms) (t .bonds) → k ≡ overfullAtoms (t .outside) b (t .bonds) (t .atoms) a → x ≡ matchable v b (t .atoms) (t .bonds) → o ≡ placedBy x v b (t .atoms) (t .bonds) k → o ≡ endedOf t a b
     unfolding ended
-    ended-unmatched m ex ey = rw (ex, ey, ← e, le-ltb p maxText h, ← ev, m)
+    ended-placed l ek m eo = rw (eo, ← e, le-ltb p maxText h, ← ev, ← l, m, ek)
 
 -- ---- the public call
 abbrev byAnswer : List ℤ → List ℤ → Verdict Memory → ReadResult

@@ -19,7 +19,7 @@ use Rattle.valence.specs.declared.Hydrogens.{Hydrogens}
 use Rattle.valence.specs.Valence.{valuesOf, hydrogensOf, implied, overfull}
 use Rattle.table_graph.specs.Graph.{bondSum}
 use Rattle.reading.specs.Read.{overfullAt, overfullAtoms}
-use Rattle.reader.specs.Ending.{hydrogensBy, hydrogenatedBy, overfullBy, overfullsBy, AtomFilled, AtomsFilled}
+use Rattle.reader.specs.Filled.{hydrogensBy, hydrogenatedBy, overfullBy, overfullsBy, AtomFilled, AtomsFilled}
 
 -- ---- one atom
 module _ (t : List ℤ) (a x sum : ℕ) where

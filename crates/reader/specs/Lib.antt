@@ -2,4 +2,5 @@ pub mod Piece
 pub mod Added
 pub mod Outcome
 pub mod Bridge
+pub mod Filled
 pub mod Ending

@@ -1,4 +1,4 @@
-// After the last byte: open bridges, hydrogens, and whether a matching exists.
+// After the last byte: open bridges, hydrogens, the late checks, and whether a matching exists.
 ghost use mathlib.Core.Path.{_≡_};
 ghost use mathlib.Core.Bool.{true};
 ghost use lib.ListN.{length, getD, replicate};
@@ -10,14 +10,17 @@ ghost use Rattle.table.specs.Limits.{maxAtoms, maxBonds};
 ghost use Rattle.table.specs.Valid.{Valid};
 ghost use Rattle.valence.specs.Valence.{valuesOf};
 ghost use Rattle.reading_state.specs.State.{steering};
-ghost use Rattle.reading.specs.Read.{earlier, leftmost, hydrogenated};
-ghost use Rattle.reader.specs.Ending.{AtomFilled, AtomsFilled, Completed, told, endedOf};
+ghost use Rattle.refusal.specs.Code.{codeOf};
+ghost use Rattle.reading.specs.Read.{refused, earlier, leftmost, hydrogenated};
+ghost use Rattle.reader.specs.Filled.{AtomFilled, AtomsFilled, Completed, placedBy};
+ghost use Rattle.reader.specs.Ending.{told, endedOf};
 use ids::AtomId;
 use ids::BRIDGES;
 use ids::MAX_TEXT;
 use ids::SMALL;
 use reading_state::State;
 use refusal::Refusal;
+use table::Check;
 use table::ELEMENT;
 use table::HYDROGENS;
 use table::MAX_ATOMS;
@@ -237,7 +240,26 @@ fn complete(
     complete_small(n, m, outsides, atoms, bonds)
 }
 
-// internal: what a text that was read whole answers: 10, 11 or the molecule.
+// A refusal with its offset; both tables are zeroed.
+fn refuse_whole(r: Refusal, p: usize, atoms: &mut [i32], bonds: &mut [i32]) -> ReadAnswer
+    ensures { λ t. ⌜ told t (now (atoms .exit)) (now (bonds .exit)) ≡ refused (codeOf r) p (now (atoms .entry)) (now (bonds .entry)) ⌝ }
+{
+    clear(atoms);
+    clear(bonds);
+    ReadAnswer::Refused(r, p)
+}
+
+// The molecule, or 11 where it has no matching.
+fn place(w: Whole, n: usize, m: usize, atoms: &mut [i32], bonds: &mut [i32]) -> ReadAnswer
+    ensures { λ t. ⌜ told t (now (atoms .exit)) (now (bonds .exit)) ≡ placedBy (w .matchable) (now (atoms .entry)) (now (bonds .entry)) n m (w .overfull) ⌝ }
+{
+    if w.matchable {
+        return ReadAnswer::Molecule(n, m, w.overfull);
+    }
+    refuse_whole(Refusal::Unmatchable, 0, atoms, bonds)
+}
+
+// internal: what a text that was read whole answers: 10, a late check's refusal, 11 or the molecule.
 pub fn end(
     st: State,
     offsets: &[u16; BRIDGES],
@@ -252,17 +274,13 @@ pub fn end(
     let openers = st.openers;
     let p = leftmost(&openers, offsets);
     if p < MAX_TEXT {
-        clear(atoms);
-        clear(bonds);
-        return ReadAnswer::Refused(Refusal::OpenBridge, p);
+        return refuse_whole(Refusal::OpenBridge, p, atoms, bonds);
     }
     let n = st.atoms;
     let m = st.bonds;
     let w = complete(n, m, outsides, atoms, bonds);
-    if w.matchable {
-        return ReadAnswer::Molecule(n, m, w.overfull);
+    match table_validity::late::late_check(atoms, bonds, n, m) {
+        Check::Fine => place(w, n, m, atoms, bonds),
+        Check::Refused(r) => refuse_whole(r, 0, atoms, bonds),
     }
-    clear(atoms);
-    clear(bonds);
-    ReadAnswer::Refused(Refusal::Unmatchable, 0)
 }

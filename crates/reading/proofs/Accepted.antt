@@ -2,6 +2,7 @@
 use Prim.Native.Nat.{ℕ, zero, suc, _+_, _≤_, _<_}
 use native.Mathlib.Omega.{arith}
 use mathlib.Core.Path.{_≡_, refl, sym, ap, subst, _∙_}
+use mathlib.Core.Bool.{true}
 use mathlib.Core.List.{List}
 use lib.ListN.{length, getD}
 use lib.IntN.{ℤ, pos}
@@ -15,6 +16,8 @@ use Rattle.table.specs.Limits.{atomCells, ELEMENT, SELECTED, HYDROGENS}
 use Rattle.table.specs.Cells.{atomPlace, element, selected}
 use Rattle.table.specs.Rows.{atomRow}
 use Rattle.table.specs.Valid.{Valid}
+use Rattle.table.specs.Sound.{sound}
+use Rattle.table.proofs.Sound.{sound-back}
 use Rattle.table_graph.specs.Graph.{bondSum}
 use Rattle.ids.specs.Limits.{maxText}
 use Rattle.reading.specs.Memory.{Memory}
@@ -61,8 +64,23 @@ module _ (s : List ℕ) (atoms bonds : List ℤ) where
       go t (Outcome.halts f e) z = let h = halt-code e in absurd (omega arith)
       go t (Outcome.unfinished f e a) z = absurd (omega arith)
       go t (Outcome.unclosed f e a l) z = absurd (omega arith)
-      go t (Outcome.unmatched f e a l m) z = absurd (omega arith)
-      go t (Outcome.accepts f e a l m) z = sane-valid (read-sane f e)
+      go t (Outcome.late f e a l p) z = absurd (omega (arith, p .0))
+      go t (Outcome.unmatched f e a l p m) z = absurd (omega arith)
+      go t (Outcome.accepts f e a l p m) z = sane-valid (read-sane f e)
+
+  -- and sound ones
+  pub read-sound : readOf s atoms bonds .code ≡ 0 → sound (readOf s atoms bonds .atoms) (readOf s atoms bonds .bonds) (readOf s atoms bonds .atomCount) (readOf s atoms bonds .bondCount) ≡ true
+  read-sound = go (readOf s atoms bonds) (outcome s atoms bonds)
+    where
+      go : (t : ReadResult) → Outcome s atoms bonds t → t .code ≡ 0 → sound (t .atoms) (t .bonds) (t .atomCount) (t .bondCount) ≡ true
+      go t (Outcome.too-short e) z = absurd (omega arith)
+      go t (Outcome.too-long e l) z = absurd (omega arith)
+      go t (Outcome.halts f e) z = let h = halt-code e in absurd (omega arith)
+      go t (Outcome.unfinished f e a) z = absurd (omega arith)
+      go t (Outcome.unclosed f e a l) z = absurd (omega arith)
+      go t (Outcome.late f e a l p) z = absurd (omega (arith, p .0))
+      go t (Outcome.unmatched f e a l p m) z = absurd (omega arith)
+      go t (Outcome.accepts {σ} {μ} f e a l p m) z = sound-back (atomsOf μ) (μ .bonds) (μ .st .atoms) (μ .st .bonds) (sane-valid (read-sane f e)) p
 
   -- ---- hydrogens
 
@@ -102,8 +120,9 @@ module _ (s : List ℕ) (atoms bonds : List ℤ) where
       go t (Outcome.halts f e) z = let h = halt-code e in absurd (omega arith)
       go t (Outcome.unfinished f e a) z = absurd (omega arith)
       go t (Outcome.unclosed f e a l) z = absurd (omega arith)
-      go t (Outcome.unmatched f e a l m) z = absurd (omega arith)
-      go t (Outcome.accepts {σ} {μ} f e a l m) z =
+      go t (Outcome.late f e a l p) z = absurd (omega (arith, p .0))
+      go t (Outcome.unmatched f e a l p m) z = absurd (omega arith)
+      go t (Outcome.accepts {σ} {μ} f e a l p m) z =
           let w = read-sane f e in
           record {
             fits = f;
@@ -118,5 +137,6 @@ module _ (s : List ℕ) (atoms bonds : List ℤ) where
             unused-bonds = w .tables .bonds-clear;
             unused-atoms = λ k h. hydrogenated-other (μ .st .outside) (μ .bonds) (μ .st .bonds) (μ .st .atoms) (μ .atoms) k (λ x lx ex jx. omega arith) ∙ w .tables .atoms-clear k h;
             no-open-bridge = none-open (μ .st .opener) (μ .st .offset) (w .steering .opener-length) (early f w) l;
+            late-checks = p;
             matched = m;
           }

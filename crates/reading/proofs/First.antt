@@ -22,7 +22,7 @@ use Rattle.reading.proofs.Halting.{holds-halts}
 use Rattle.reading.proofs.Outcome.{Outcome, outcome}
 use Rattle.reading.proofs.Accepted.{halt-code}
 use Rattle.reading.proofs.Texts.{reads-texts}
-use Rattle.reading.proofs.Ending.{read-unclosed, unclosed-read, unmatched-iff, unmatched-read}
+use Rattle.reading.proofs.Ending.{read-unclosed, unclosed-read, late-iff, late-read, unmatched-iff, unmatched-read}
 
 module _ (s : List ℕ) (atoms bonds : List ℤ) where
   -- ---- what is told holds
@@ -44,8 +44,9 @@ module _ (s : List ℕ) (atoms bonds : List ℤ) where
       go t (Outcome.halts {c} {p} f e) n l h = halted-holds c p n e
       go t (Outcome.unfinished f e a) n l h = absurd (n refl)
       go t (Outcome.unclosed f e a k) n l h = absurd (omega arith)
-      go t (Outcome.unmatched f e a k m) n l h = absurd (omega arith)
-      go t (Outcome.accepts f e a k m) n l h = absurd (omega arith)
+      go t (Outcome.late f e a k p) n l h = absurd (omega (arith, p .0))
+      go t (Outcome.unmatched f e a k p m) n l h = absurd (omega arith)
+      go t (Outcome.accepts f e a k p m) n l h = absurd (omega arith)
 
       split : Dec (readOf s atoms bonds .code ≡ 3) → 3 ≤ readOf s atoms bonds .code → readOf s atoms bonds .code ≤ 9 → Holds s atoms bonds (readOf s atoms bonds .code) (readOf s atoms bonds .offset)
       split (yes e) l h = subst (λ (c : ℕ). Holds s atoms bonds c (readOf s atoms bonds .offset)) (sym e) (Holds.grammar (reads-texts s atoms bonds f .place e))
@@ -121,8 +122,9 @@ module _ (s : List ℕ) (atoms bonds : List ℤ) where
   refusal t q (Outcome.unfinished f e a) l =
       subst (λ (u : ReadResult). Refused s atoms bonds (u .code) (u .offset)) q (Refused.first f (first-told f (rw q (omega arith)) (rw q (omega arith))))
   refusal t q (Outcome.unclosed f e a n) l = Refused.unclosed (rw q at (read-unclosed s atoms bonds (rw q)))
-  refusal t q (Outcome.unmatched f e a n m) l = Refused.unmatched (unmatched-iff s atoms bonds .0 (rw q))
-  refusal t q (Outcome.accepts f e a n m) l = absurd (omega arith)
+  refusal t q (Outcome.late {σ} {μ} f e a n p) l = Refused.late (late-iff s atoms bonds (p .0) .0 (rw q))
+  refusal t q (Outcome.unmatched f e a n p m) l = Refused.unmatched (unmatched-iff s atoms bonds .0 (rw q))
+  refusal t q (Outcome.accepts f e a n p m) l = absurd (omega arith)
 
   refused-told : {c p : ℕ} → Refused s atoms bonds c p → (readOf s atoms bonds .code ≡ c) × (readOf s atoms bonds .offset ≡ p)
   unfolding readOf
@@ -130,6 +132,7 @@ module _ (s : List ℕ) (atoms bonds : List ℤ) where
   refused-told (Refused.too-long e l) = rw (e, lt-leb (length s) maxText l) (refl, refl)
   refused-told (Refused.first f w) = told-first f w
   refused-told (Refused.unclosed u) = rw (unclosed-read s atoms bonds u) (refl, refl)
+  refused-told (Refused.late u) = rw (late-read s atoms bonds u) (refl, refl)
   refused-told (Refused.unmatched u) = rw (unmatched-read s atoms bonds u) (refl, refl)
 
   refused-code : {c p : ℕ} → Refused s atoms bonds c p → 0 < c
@@ -137,6 +140,7 @@ module _ (s : List ℕ) (atoms bonds : List ℤ) where
   refused-code (Refused.too-long e l) = omega arith
   refused-code (Refused.first f w) = ⊎-elim (λ e. omega (arith, e .0)) (λ e. omega (arith, e .0)) (by-code (w .holds))
   refused-code (Refused.unclosed u) = omega arith
+  refused-code (Refused.late u) = u .some
   refused-code (Refused.unmatched u) = omega arith
 
   -- THE STATEMENT: a refusal is told exactly when 01 says so

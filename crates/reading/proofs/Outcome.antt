@@ -1,17 +1,20 @@
--- The seven ways in which reading ends, each with all the checks that it passed. Assumes nothing.
-use Prim.Native.Nat.{ℕ, _≤_, _<_}
+-- The eight ways in which reading ends, each with all the checks that it passed. Assumes nothing.
+use Prim.Native.Nat.{ℕ, zero, suc, _≤_, _<_}
 use mathlib.Core.Path.{_≡_, refl}
 use mathlib.Core.Bool.{Bool, true, false}
 use mathlib.Core.List.{List}
 use lib.ListN.{length}
 use lib.IntN.{ℤ}
-use lib.Dec.{leb, ltb}
-use borrow.Author.Tests.{leb-true, leb-false, ltb-true, ltb-false}
+use lib.Dec.{eqb, leb, ltb}
+use native.Mathlib.Omega.{arith}
+use borrow.Author.Tests.{eqb-true, eqb-false, leb-true, leb-false, ltb-true, ltb-false}
 use Rattle.loops.specs.Loop.{pick}
 use Rattle.reading_grammar.specs.declared.MachineState.{MachineState}
 use Rattle.reading_grammar.specs.Machine.{accepting}
 use Rattle.reading_grammar.specs.Fold.{Reading, going, halted}
 use Rattle.table.specs.Valid.{enough}
+use Rattle.table.specs.Sound.{lateCode}
+use Rattle.table.proofs.Sound.{late-range}
 use Rattle.table_graph.specs.Graph.{matchable}
 use Rattle.ids.specs.Limits.{maxText}
 use Rattle.reading.specs.Memory.{Memory}
@@ -38,21 +41,31 @@ pub data Outcome (s : List ℕ) (atoms bonds : List ℤ) : ReadResult → Type 0
   unfinished : {σ : MachineState} {μ : Memory} → Fits s atoms bonds → bytesRead s atoms bonds ≡ going σ μ → accepting σ ≡ false → Outcome s atoms bonds (refused 3 (length s) atoms bonds)
   unclosed : {σ : MachineState} {μ : Memory} → Fits s atoms bonds → bytesRead s atoms bonds ≡ going σ μ → accepting σ ≡ true → leftmost (μ .st .opener) (μ .st .offset) < maxText
       → Outcome s atoms bonds (refused 10 (leftmost (μ .st .opener) (μ .st .offset)) (μ .atoms) (μ .bonds))
+  late : {σ : MachineState} {μ : Memory} → Fits s atoms bonds → bytesRead s atoms bonds ≡ going σ μ → accepting σ ≡ true → maxText ≤ leftmost (μ .st .opener) (μ .st .offset)
+      → (20 ≤ lateCode (atomsOf μ) (μ .bonds) (μ .st .atoms) (μ .st .bonds)) × (lateCode (atomsOf μ) (μ .bonds) (μ .st .atoms) (μ .st .bonds) ≤ 23) → Outcome s atoms bonds (refused (lateCode (atomsOf μ) (μ .bonds) (μ .st .atoms) (μ .st .bonds)) 0 (atomsOf μ) (μ .bonds))
   unmatched : {σ : MachineState} {μ : Memory} → Fits s atoms bonds → bytesRead s atoms bonds ≡ going σ μ → accepting σ ≡ true → maxText ≤ leftmost (μ .st .opener) (μ .st .offset)
-      → matchable (atomsOf μ) (μ .bonds) (μ .st .atoms) (μ .st .bonds) ≡ false → Outcome s atoms bonds (refused 11 0 (atomsOf μ) (μ .bonds))
+      → lateCode (atomsOf μ) (μ .bonds) (μ .st .atoms) (μ .st .bonds) ≡ 0 → matchable (atomsOf μ) (μ .bonds) (μ .st .atoms) (μ .st .bonds) ≡ false → Outcome s atoms bonds (refused 11 0 (atomsOf μ) (μ .bonds))
   accepts : {σ : MachineState} {μ : Memory} → Fits s atoms bonds → bytesRead s atoms bonds ≡ going σ μ → accepting σ ≡ true → maxText ≤ leftmost (μ .st .opener) (μ .st .offset)
-      → matchable (atomsOf μ) (μ .bonds) (μ .st .atoms) (μ .st .bonds) ≡ true → Outcome s atoms bonds (accepted μ)
+      → lateCode (atomsOf μ) (μ .bonds) (μ .st .atoms) (μ .st .bonds) ≡ 0 → matchable (atomsOf μ) (μ .bonds) (μ .st .atoms) (μ .st .bonds) ≡ true → Outcome s atoms bonds (accepted μ)
+
+positive : (c : ℕ) → (c ≡ 0 → ⊥) → 0 < c
+positive zero n = absurd (n refl)
+positive (suc c) n = omega arith
 
 module _ (s : List ℕ) (atoms bonds : List ℤ) where
   at-end : Fits s atoms bonds → (σ : MachineState) (μ : Memory) → bytesRead s atoms bonds ≡ going σ μ → accepting σ ≡ true → Outcome s atoms bonds (ended μ)
   unfolding ended
-  at-end f σ μ e a = split (ltb (leftmost (μ .st .opener) (μ .st .offset)) maxText) refl (matchable (atomsOf μ) (μ .bonds) (μ .st .atoms) (μ .st .bonds)) refl
+  at-end f σ μ e a = split (ltb (leftmost (μ .st .opener) (μ .st .offset)) maxText) refl (eqb (lateCode (atomsOf μ) (μ .bonds) (μ .st .atoms) (μ .st .bonds)) 0) refl (matchable (atomsOf μ) (μ .bonds) (μ .st .atoms) (μ .st .bonds)) refl
     where
-      split : (t : Bool) → ltb (leftmost (μ .st .opener) (μ .st .offset)) maxText ≡ t → (u : Bool) → matchable (atomsOf μ) (μ .bonds) (μ .st .atoms) (μ .st .bonds) ≡ u
-          → Outcome s atoms bonds (pick t (refused 10 (leftmost (μ .st .opener) (μ .st .offset)) (μ .atoms) (μ .bonds)) (pick u (accepted μ) (refused 11 0 (atomsOf μ) (μ .bonds))))
-      split true p u q = Outcome.unclosed f e a (ltb-true (leftmost (μ .st .opener) (μ .st .offset)) maxText p)
-      split false p true q = Outcome.accepts f e a (ltb-false (leftmost (μ .st .opener) (μ .st .offset)) maxText p) q
-      split false p false q = Outcome.unmatched f e a (ltb-false (leftmost (μ .st .opener) (μ .st .offset)) maxText p) q
+      split : (t : Bool) → ltb (leftmost (μ .st .opener) (μ .st .offset)) maxText ≡ t → (k : Bool) → eqb (lateCode (atomsOf μ) (μ .bonds) (μ .st .atoms) (μ .st .bonds)) 0 ≡ k → (u : Bool) → matchable (atomsOf μ) (μ .bonds) (μ .st .atoms) (μ .st .bonds) ≡ u
+          → Outcome s atoms bonds (pick t (refused 10 (leftmost (μ .st .opener) (μ .st .offset)) (μ .atoms) (μ .bonds))
+          (pick k (pick u (accepted μ) (refused 11 0 (atomsOf μ) (μ .bonds))) (refused (lateCode (atomsOf μ) (μ .bonds) (μ .st .atoms) (μ .st .bonds)) 0 (atomsOf μ) (μ .bonds))))
+      split true p k c u q = Outcome.unclosed f e a (ltb-true (leftmost (μ .st .opener) (μ .st .offset)) maxText p)
+      split false p false c u q =
+          let n = eqb-false (lateCode (atomsOf μ) (μ .bonds) (μ .st .atoms) (μ .st .bonds)) 0 c in
+          Outcome.late f e a (ltb-false (leftmost (μ .st .opener) (μ .st .offset)) maxText p) (late-range (atomsOf μ) (μ .bonds) (μ .st .atoms) (μ .st .bonds) (positive (lateCode (atomsOf μ) (μ .bonds) (μ .st .atoms) (μ .st .bonds)) n))
+      split false p true c true q = Outcome.accepts f e a (ltb-false (leftmost (μ .st .opener) (μ .st .offset)) maxText p) (eqb-true (lateCode (atomsOf μ) (μ .bonds) (μ .st .atoms) (μ .st .bonds)) 0 c) q
+      split false p true c false q = Outcome.unmatched f e a (ltb-false (leftmost (μ .st .opener) (μ .st .offset)) maxText p) (eqb-true (lateCode (atomsOf μ) (μ .bonds) (μ .st .atoms) (μ .st .bonds)) 0 c) q
 
   at-finish : Fits s atoms bonds → (r : Reading Memory) → bytesRead s atoms bonds ≡ r → Outcome s atoms bonds (finished (length s) atoms bonds r)
   at-finish f (going σ μ) e = split (accepting σ) refl

@@ -31,8 +31,9 @@ module _ (s : List ℕ) (atoms bonds : List ℤ) where
       go t (Outcome.halts f e) z = let h = halt-code s atoms bonds e in absurd (omega arith)
       go t (Outcome.unfinished f e a) z = absurd (omega arith)
       go t (Outcome.unclosed f e a l) z = absurd (omega arith)
-      go t (Outcome.unmatched f e a l m) z = absurd (omega arith)
-      go t (Outcome.accepts f e a l m) z = absurd (omega arith)
+      go t (Outcome.late f e a l p) z = absurd (omega (arith, p .0))
+      go t (Outcome.unmatched f e a l p m) z = absurd (omega arith)
+      go t (Outcome.accepts f e a l p m) z = absurd (omega arith)
 
   -- then 2 exactly where the text is too long
   pub long-iff : (readOf s atoms bonds .code ≡ 2) ↔ ((enough atoms bonds ≡ true) × (maxText < length s))
@@ -45,8 +46,9 @@ module _ (s : List ℕ) (atoms bonds : List ℤ) where
       go t (Outcome.halts f e) z = let h = halt-code s atoms bonds e in absurd (omega arith)
       go t (Outcome.unfinished f e a) z = absurd (omega arith)
       go t (Outcome.unclosed f e a l) z = absurd (omega arith)
-      go t (Outcome.unmatched f e a l m) z = absurd (omega arith)
-      go t (Outcome.accepts f e a l m) z = absurd (omega arith)
+      go t (Outcome.late f e a l p) z = absurd (omega (arith, p .0))
+      go t (Outcome.unmatched f e a l p m) z = absurd (omega arith)
+      go t (Outcome.accepts f e a l p m) z = absurd (omega arith)
 
   -- the tables of a memory are as long as those handed in
   same-zeros : {σ : MachineState} {μ : Memory} (c p : ℕ) (t : List ℤ) → Sane (length atoms) (length bonds) σ (length s) μ → length t ≡ length (μ .atoms) → refused c p t (μ .bonds) ≡ refused c p atoms bonds
@@ -65,6 +67,8 @@ module _ (s : List ℕ) (atoms bonds : List ℤ) where
       go t (Outcome.halts f e) n m = refl
       go t (Outcome.unfinished f e a) n m = refl
       go t (Outcome.unclosed {σ} {μ} f e a l) n m = same-zeros _ _ (μ .atoms) (read-sane s atoms bonds f e) refl
-      go t (Outcome.unmatched {σ} {μ} f e a l x) n m =
+      go t (Outcome.late {σ} {μ} f e a l p) n m =
           same-zeros _ _ (atomsOf μ) (read-sane s atoms bonds f e) (hydrogenated-length (μ .st .outside) (μ .bonds) (μ .st .bonds) (μ .st .atoms) (μ .atoms))
-      go t (Outcome.accepts f e a l m) n k = absurd (n refl)
+      go t (Outcome.unmatched {σ} {μ} f e a l p x) n m =
+          same-zeros _ _ (atomsOf μ) (read-sane s atoms bonds f e) (hydrogenated-length (μ .st .outside) (μ .bonds) (μ .st .bonds) (μ .st .atoms) (μ .atoms))
+      go t (Outcome.accepts f e a l p m) n k = absurd (n refl)

@@ -45,10 +45,9 @@ module _ (s : List ℕ) (atoms bonds : List ℤ) where
         refused = λ p y. inl (c, o ∙ place-unique s q p x y);
       }
     where
-      absurd-code : (t .code ≡ 0) ⊎ ((t .code ≡ 10) ⊎ (t .code ≡ 11)) → Text s
+      absurd-code : (t .code ≡ 0) ⊎ (10 ≤ t .code) → Text s
       absurd-code (inl e) = absurd (omega arith)
-      absurd-code (inr (inl e)) = absurd (omega arith)
-      absurd-code (inr (inr e)) = absurd (omega arith)
+      absurd-code (inr e) = absurd (omega arith)
 
   of-refusal : (c p : ℕ) → bytesRead s atoms bonds ≡ halted c p → ReadsTexts s atoms bonds (refused c p atoms bonds)
   of-refusal c p e = split (ℕ-discrete c 3)
@@ -69,10 +68,9 @@ module _ (s : List ℕ) (atoms bonds : List ℤ) where
             refused = λ k y. inr (omega (arith, within .0), within .1, other-first act in-time (beginning (zeros atoms) (zeros bonds)) s c p k n said y);
           }
         where
-          absurd-code : (c ≡ 0) ⊎ ((c ≡ 10) ⊎ (c ≡ 11)) → Text s
+          absurd-code : (c ≡ 0) ⊎ (10 ≤ c) → Text s
           absurd-code (inl e) = absurd (omega (arith, within .0))
-          absurd-code (inr (inl e)) = absurd (omega (arith, within .1))
-          absurd-code (inr (inr e)) = absurd (omega (arith, within .1))
+          absurd-code (inr e) = absurd (omega (arith, within .1))
 
   -- with long enough tables and a text that is not too long, reading refuses by the grammar exactly where 01 says
   pub reads-texts : Fits s atoms bonds → ReadsTexts s atoms bonds (readOf s atoms bonds)
@@ -85,5 +83,6 @@ module _ (s : List ℕ) (atoms bonds : List ℤ) where
       go t (Outcome.unfinished {σ} {μ} g e a) f =
           of-place (length s) (refused 3 (length s) atoms bonds) (bad-3 act never-3 (beginning (zeros atoms) (zeros bonds)) s (length s) (answered (going σ μ) e ∙ rw a)) refl refl
       go t (Outcome.unclosed g e a l) f = of-text t (is-text e a) (λ z. omega arith)
-      go t (Outcome.unmatched g e a l m) f = of-text t (is-text e a) (λ z. omega arith)
-      go t (Outcome.accepts g e a l m) f = of-text t (is-text e a) (λ z. omega arith)
+      go t (Outcome.late g e a l p) f = of-text t (is-text e a) (λ z. omega (arith, p .0))
+      go t (Outcome.unmatched g e a l p m) f = of-text t (is-text e a) (λ z. omega arith)
+      go t (Outcome.accepts g e a l p m) f = of-text t (is-text e a) (λ z. omega arith)

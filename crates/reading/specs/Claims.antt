@@ -16,6 +16,7 @@ use Rattle.table.specs.declared.Atom.{Atom}
 use Rattle.table.specs.Limits.{atomCells, bondCells}
 use Rattle.table.specs.Cells.{element, selected}
 use Rattle.table.specs.Rows.{atomRow}
+use Rattle.table.specs.Sound.{lateCode}
 use Rattle.table_graph.specs.Graph.{bondSum, matchable}
 use Rattle.reading.specs.Memory.{Memory}
 use Rattle.reading.specs.Read.{ReadResult, overfullAtoms}
@@ -49,11 +50,12 @@ module _ (s : List ℕ) (atoms bonds : List ℤ) where
     pub unused-atoms : (k : ℕ) → atomCells * t .atomCount ≤ k → getD (t .atoms) k (pos 0) ≡ pos 0
     pub unused-bonds : (k : ℕ) → bondCells * t .bondCount ≤ k → getD (t .bonds) k (pos 0) ≡ pos 0
     pub no-open-bridge : (r : ℕ) → getD (memory .st .opener) r 0 ≡ 0
+    pub late-checks : lateCode (t .atoms) (t .bonds) (t .atomCount) (t .bondCount) ≡ 0
     pub matched : matchable (t .atoms) (t .bonds) (t .atomCount) (t .bondCount) ≡ true
 
   pub record ReadsTexts (t : ReadResult) : Type 0 where
     -- what passed 3 to 9 is a text
-    pub text : (t .code ≡ 0) ⊎ ((t .code ≡ 10) ⊎ (t .code ≡ 11)) → Text s
+    pub text : (t .code ≡ 0) ⊎ (10 ≤ t .code) → Text s
     -- a text is not refused with 3
     pub not-3 : Text s → t .code ≡ 3 → ⊥
     -- 3 stands at the place of the grammar

@@ -1,4 +1,4 @@
--- 01, "When a call says no", the rows 1 to 11 one after the other: when each holds of a text, and which is told where several hold
+-- 01, "When a call says no", and 02: the refusals of reading one after the other: when each holds of a text, and which is told where several hold
 use Prim.Native.Nat.{ℕ, _+_, _-_, _*_, _≤_, _<_}
 use mathlib.Core.Path.{_≡_}
 use mathlib.Core.Bool.{true, false}
@@ -20,6 +20,7 @@ use Rattle.reading_grammar.specs.Fold.{Reading, going, read}
 use Rattle.table.specs.Limits.{maxAtoms, maxBonds}
 use Rattle.table.specs.Cells.{end1, end2}
 use Rattle.table.specs.Valid.{enough}
+use Rattle.table.specs.Sound.{lateCode}
 use Rattle.table_graph.specs.Graph.{matchable}
 use Rattle.ids.specs.Limits.{maxDepth, maxText}
 use Rattle.reading.specs.Memory.{Memory, dotted, kindOf}
@@ -162,18 +163,29 @@ module _ (s : List ℕ) (atoms bonds : List ℤ) where
     pub reads : Read state memory
     pub leftmost : LeftmostOpening (memory .st .opener) (memory .st .offset) p
 
-  -- 11: "no placement exists", no bridge being open
+  -- a late check (02, P6: 22): the code of the first that the molecule read fails, no bridge being open
+  pub record Late (c : ℕ) : Type 0 where
+    pub state : MachineState
+    pub memory : Memory
+    pub reads : Read state memory
+    pub no-open-bridge : (r : ℕ) → getD (memory .st .opener) r 0 ≡ 0
+    pub fails : lateCode (atomsOf memory) (memory .bonds) (memory .st .atoms) (memory .st .bonds) ≡ c
+    pub some : 0 < c
+
+  -- 11: "no placement exists", no bridge being open and no late check failing
   pub record Unmatched : Type 0 where
     pub state : MachineState
     pub memory : Memory
     pub reads : Read state memory
     pub no-open-bridge : (r : ℕ) → getD (memory .st .opener) r 0 ≡ 0
+    pub passes : lateCode (atomsOf memory) (memory .bonds) (memory .st .atoms) (memory .st .bonds) ≡ 0
     pub none : matchable (atomsOf memory) (memory .bonds) (memory .st .atoms) (memory .st .bonds) ≡ false
 
-  -- "Reading checks 1, 2, then 3 to 9 by smallest place and there by smallest number, then 10, 11": the code, and its offset
+  -- "Reading checks 1, 2, then 3 to 9 by smallest place and there by smallest number, then 10," the late checks and 11: the code, and its offset
   pub data Refused : ℕ → ℕ → Type 0 where
     too-short : enough atoms bonds ≡ false → Refused 1 0
     too-long : enough atoms bonds ≡ true → maxText < length s → Refused 2 maxText
     first : {c p : ℕ} → Fits → First c p → Refused c p
     unclosed : {p : ℕ} → Unclosed p → Refused 10 p
+    late : {c : ℕ} → Late c → Refused c 0
     unmatched : Unmatched → Refused 11 0

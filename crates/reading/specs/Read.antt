@@ -1,4 +1,4 @@
--- 01, When a call says no: reading a text into two tables: the refusals 1 to 11 in the stated order, and what every answer leaves behind
+-- 01, When a call says no: reading a text into two tables: the refusals in the stated order, and what every answer leaves behind
 use Prim.Native.Nat.{ℕ, zero, suc, _+_}
 use mathlib.Core.Bool.{Bool, true, false, _&&_, not}
 use mathlib.Core.List.{List, [], _∷_}
@@ -10,6 +10,7 @@ use Rattle.valence.specs.Valence.{implied, overfull}
 use Rattle.table.specs.Limits.{HYDROGENS}
 use Rattle.table.specs.Cells.{atomPlace, element, selected}
 use Rattle.table.specs.Valid.{enough}
+use Rattle.table.specs.Sound.{lateCode}
 use Rattle.table_graph.specs.Graph.{bondSum, matchable}
 use Rattle.ids.specs.Limits.{maxText, bridges}
 use Rattle.reading_state.specs.State.{started}
@@ -74,12 +75,16 @@ abbrev pub placed : List ℤ → List ℤ → ℕ → ℕ → ℕ → ReadResult
 placed atoms bonds n m k =
     pick (matchable atoms bonds n m) (record { code = 0; offset = 0; atomCount = n; bondCount = m; overfull = k; atoms = atoms; bonds = bonds }) (refused 11 0 atoms bonds)
 
--- 10: "a bridge is open at the end"; then 11
+-- the late checks in their order, "after 10 and before 11, at place 0"
+abbrev pub checked : List ℤ → List ℤ → ℕ → ℕ → ℕ → ReadResult
+checked atoms bonds n m k = pick (eqb (lateCode atoms bonds n m) 0) (placed atoms bonds n m k) (refused (lateCode atoms bonds n m) 0 atoms bonds)
+
+-- 10: "a bridge is open at the end"; then the late checks; then 11
 unfoldable pub ended : Memory → ReadResult
 ended μ =
     let p : ℕ = leftmost (μ .st .opener) (μ .st .offset) in
     pick (ltb p maxText) (refused 10 p (μ .atoms) (μ .bonds))
-    (placed (hydrogenated (μ .st .outside) (μ .bonds) (μ .st .bonds) (μ .st .atoms) (μ .atoms)) (μ .bonds) (μ .st .atoms) (μ .st .bonds)
+    (checked (hydrogenated (μ .st .outside) (μ .bonds) (μ .st .bonds) (μ .st .atoms) (μ .atoms)) (μ .bonds) (μ .st .atoms) (μ .st .bonds)
     (overfullAtoms (μ .st .outside) (μ .bonds) (μ .st .bonds) (μ .st .atoms) (μ .atoms)))
 
 -- 3 to 9 at their byte, 3 at the length, then what comes at the end; n: the length of the text
@@ -91,7 +96,7 @@ finished n atoms bonds (halted c p) = refused c p atoms bonds
 unfoldable pub readFrom : List ℕ → List ℤ → List ℤ → ReadResult
 readFrom s atoms bonds = finished (length s) atoms bonds (read act 0 (going start (beginning (zeros atoms) (zeros bonds))) s)
 
--- "Reading checks 1, 2, then 3 to 9 by smallest place and there by smallest number, then 10, 11"
+-- "Reading checks 1, 2, then 3 to 9 by smallest place and there by smallest number, then 10," the late checks and 11
 unfoldable pub readOf : List ℕ → List ℤ → List ℤ → ReadResult
 readOf s atoms bonds =
     pick (enough atoms bonds) (pick (leb (length s) maxText) (readFrom s atoms bonds) (refused 2 maxText atoms bonds)) (short atoms bonds)

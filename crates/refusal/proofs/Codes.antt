@@ -1,4 +1,4 @@
--- A refusal's code is one of 1 to 16, and tells the refusal. Assumes nothing.
+-- A refusal's code is one of 1 to 22, and tells the refusal. Assumes nothing.
 use Prim.Native.Nat.{ℕ, _<_, _≤_}
 use native.Mathlib.Omega.{arith}
 use mathlib.Core.Path.{_≡_, refl, sym, ap, _∙_}
@@ -6,11 +6,11 @@ use mathlib.Core.List.{List, [], _∷_}
 use lib.ListN.{getD}
 use Rattle.refusal.specs.Code.{codeOf}
 use Rattle.refusal.specs.declared.Refusal.{Refusal}
-use Rattle.refusal.specs.declared.Refusal.the-variants.{Short, LongText, Grammar, ManyAtoms, ManyBonds, DeepBranch, SelfBridge, RepeatedBond, SymbolClash, OpenBridge, Unmatchable, NotMatching, Invalid, ManyBridges, DeepWriting, LongWriting}
+use Rattle.refusal.specs.declared.Refusal.the-variants.{Short, LongText, Grammar, ManyAtoms, ManyBonds, DeepBranch, SelfBridge, RepeatedBond, SymbolClash, OpenBridge, Unmatchable, NotMatching, Invalid, ManyBridges, DeepWriting, LongWriting, LooseAtom}
 
 -- the refusal with a code, from 1 on
 abbrev refusalOf : ℕ → Refusal
-refusalOf c = getD (Short ∷ Short ∷ LongText ∷ Grammar ∷ ManyAtoms ∷ ManyBonds ∷ DeepBranch ∷ SelfBridge ∷ RepeatedBond ∷ SymbolClash ∷ OpenBridge ∷ Unmatchable ∷ NotMatching ∷ Invalid ∷ ManyBridges ∷ DeepWriting ∷ LongWriting ∷ []) c Short
+refusalOf c = getD (Short ∷ Short ∷ LongText ∷ Grammar ∷ ManyAtoms ∷ ManyBonds ∷ DeepBranch ∷ SelfBridge ∷ RepeatedBond ∷ SymbolClash ∷ OpenBridge ∷ Unmatchable ∷ NotMatching ∷ Invalid ∷ ManyBridges ∷ DeepWriting ∷ LongWriting ∷ Short ∷ Short ∷ Short ∷ Short ∷ Short ∷ LooseAtom ∷ []) c Short
 
 back : (r : Refusal) → refusalOf (codeOf r) ≡ r
 back Short = refl
@@ -29,13 +29,14 @@ back Invalid = refl
 back ManyBridges = refl
 back DeepWriting = refl
 back LongWriting = refl
+back LooseAtom = refl
 
 pub one-code : (r s : Refusal) → codeOf r ≡ codeOf s → r ≡ s
 one-code r s e = sym (back r) ∙ ap refusalOf e ∙ back s
 
 pub record Code (c : ℕ) : Type 0 where
   pub positive : 0 < c
-  pub small : c ≤ 16
+  pub small : c ≤ 22
 
 pub code-range : (r : Refusal) → Code (codeOf r)
 code-range Short = record { positive = omega arith; small = omega arith }
@@ -54,3 +55,4 @@ code-range Invalid = record { positive = omega arith; small = omega arith }
 code-range ManyBridges = record { positive = omega arith; small = omega arith }
 code-range DeepWriting = record { positive = omega arith; small = omega arith }
 code-range LongWriting = record { positive = omega arith; small = omega arith }
+code-range LooseAtom = record { positive = omega arith; small = omega arith }

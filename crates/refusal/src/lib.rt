@@ -20,9 +20,11 @@ pub enum Refusal {
     ManyBridges,
     DeepWriting,
     LongWriting,
+    // 02, P6.
+    LooseAtom,
 }
 
-// The code of a refusal: 1 to 16.
+// The code of a refusal.
 pub fn code(r: Refusal) -> u8
     ensures { λ c. ⌜ c ≡ codeOf r ⌝ }
 {
@@ -43,5 +45,6 @@ pub fn code(r: Refusal) -> u8
         Refusal::ManyBridges => 14,
         Refusal::DeepWriting => 15,
         Refusal::LongWriting => 16,
+        Refusal::LooseAtom => 22,
     }
 }

@@ -13,7 +13,8 @@ use borrow.Author.Tests.{eqb-true, leb-true, lt-leb}
 use Rattle.loops.specs.Loop.{pick}
 use Rattle.report_lines.specs.Cut.{maxLine}
 use Rattle.table.specs.Limits.{maxAtoms, maxBonds, atomCells, bondCells}
-use Rattle.table.specs.Valid.{valid, enough}
+use Rattle.table.specs.Valid.{enough}
+use Rattle.table.specs.Sound.{sound}
 use Rattle.ids.specs.Limits.{maxText}
 use Rattle.reading.specs.Read as read
 use Rattle.reading.proofs.Accepted.{read-valid}
@@ -68,7 +69,7 @@ pub size-within : (atoms bonds : List ℤ) (n m : ℕ) (out ren : List ℕ) → 
 unfolding write.writeOf write.writeValid
 size-within atoms bonds n m out ren =
     pick-size (write.lent atoms bonds out ren) _ _
-    (pick-size (valid atoms bonds n m) _ _
+    (pick-size (sound atoms bonds n m) _ _
     (pick-size (write.fewBridges (write.tokens bonds n m)) _ _
     (pick-size (write.shallow (write.tokens bonds n m)) _ _ (accepted-size _ (write.textOf atoms bonds n m) (write.renumbering bonds n m) out ren refl) (omega arith))
     (omega arith))

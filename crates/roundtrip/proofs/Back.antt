@@ -15,10 +15,12 @@ use Rattle.table_graph.specs.Graph.{bondSum, matchable}
 use Rattle.table.specs.Limits.{maxAtoms, maxBonds, atomCells, bondCells, ELEMENT, SELECTED, ISOTOPE, HYDROGENS, CHARGE, EXTENSION}
 use Rattle.table.specs.Cells.{number, atomCell, bondCell, element, selected, hydrogens}
 use Rattle.table.specs.Valid.{Valid, selectedOk}
+use Rattle.table.specs.Sound.{bondDegree, loose, lateCode}
+use Rattle.table.proofs.Sound.{late-fine, late-none, none-loose, not-loose}
 use Rattle.table.proofs.Valid.{AtomFine, atom-row, range-pos, Enough}
 use Rattle.ids.specs.Limits.{maxText, maxDepth, bridges}
 use Rattle.reading.specs.Memory.{Memory}
-use Rattle.reading.specs.Read.{hydrogenated, overfullAtoms, leftmost, refused, placed, ended, finished, readFrom}
+use Rattle.reading.specs.Read.{hydrogenated, overfullAtoms, leftmost, refused, checked, ended, finished, readFrom}
 use Rattle.writing_walk.specs.Token.{Bond, Tok, apart, along, ring, branch, back}
 use Rattle.writing_walk.specs.Reading.{St, st, startTokens}
 use Rattle.writing_walk.specs.Emit.{pre}
@@ -31,10 +33,10 @@ use Rattle.writing_walk.proofs.Checked.{read-written, length-count}
 use Rattle.writing_walk.proofs.Grammar.{written-grammar}
 use Rattle.writing_walk.proofs.Twice.{count-map}
 use Rattle.writing_walk.proofs.Sums as sums
-use Rattle.roundtrip_matchings.proofs.Sums.{sum-total}
+use Rattle.roundtrip_matchings.proofs.Sums.{sum-total, degree-total}
 use Rattle.roundtrip_matchings.proofs.Claims.{matchable-renumbered}
 use Rattle.writing_walk.proofs.Made.{Made, written-made}
-use Rattle.writing_walk.proofs.Order.{place-below, atom-place}
+use Rattle.writing_walk.proofs.Order.{place-below, atom-below, place-atom, atom-place}
 use Rattle.writing.specs.Spell.{unbracketed}
 use Rattle.writing.specs.Write.{bondList, tokens, textOf, fewBridges, shallow}
 use Rattle.writing.proofs.Bonds.{inside}
@@ -113,7 +115,7 @@ module _ (atoms bonds : List ℤ) (m v : ℕ) (fine-row : AtomFine atoms v) wher
       go false y c = c ∙ sym hydrogens-as
 
 -- ---- the end of a reading with no open bridge
-ended-law : (μ : Memory) (n m : ℕ) → leftmost (μ .st .opener) (μ .st .offset) ≡ maxText → μ .st .atoms ≡ n → μ .st .bonds ≡ m → ended μ ≡ placed (hydrogenated (μ .st .outside) (μ .bonds) m n (μ .atoms)) (μ .bonds) n m (overfullAtoms (μ .st .outside) (μ .bonds) m n (μ .atoms))
+ended-law : (μ : Memory) (n m : ℕ) → leftmost (μ .st .opener) (μ .st .offset) ≡ maxText → μ .st .atoms ≡ n → μ .st .bonds ≡ m → ended μ ≡ checked (hydrogenated (μ .st .outside) (μ .bonds) m n (μ .atoms)) (μ .bonds) n m (overfullAtoms (μ .st .outside) (μ .bonds) m n (μ .atoms))
 unfolding ended
 ended-law μ n m e a b = rw (e, a, b)
 
@@ -132,7 +134,7 @@ pub record ReadBack (atoms₀ bonds₀ : List ℤ) (n m : ℕ) (A B : List ℤ) 
   pub atoms : List ℤ
   pub bonds : List ℤ
   pub overfull : ℕ
-  pub reads : readFrom (textOf atoms₀ bonds₀ n m) A B ≡ placed atoms bonds n m overfull
+  pub reads : readFrom (textOf atoms₀ bonds₀ n m) A B ≡ checked atoms bonds n m overfull
   pub molecule : Molecule atoms₀ bonds₀ n m atoms bonds (length A) (length B)
 
 module _ (atoms bonds : List ℤ) (n m : ℕ) (v : Valid atoms bonds n m) where
@@ -155,6 +157,11 @@ module _ (atoms bonds : List ℤ) (n m : ℕ) (v : Valid atoms bonds n m) where
   pub sum-same : (U : List ℤ) → bondList U m ≡ completed n bs → (w : ℕ) → w < n → bondSum U m (place walked w) ≡ bondSum bonds m w
   sum-same U e w l =
       sum-total U m (place walked w) ∙ ap (sums.bondSum order (place walked w)) e ∙ sums.sum-kept n bs (inside v) order w l ∙ sym (sum-total bonds m w)
+
+  -- and so are the numbers of bonds
+  degree-same : (U : List ℤ) → bondList U m ≡ completed n bs → (w : ℕ) → w < n → bondDegree U m (place walked w) ≡ bondDegree bonds m w
+  degree-same U e w l =
+      degree-total U m (place walked w) ∙ ap (sums.bondSum (λ k. 1) (place walked w)) e ∙ sums.sum-kept n bs (inside v) (λ k. 1) w l ∙ sym (degree-total bonds m w)
 
   module _ (A B : List ℤ) (lent : Enough A B) (few : fewBridges (tokens bonds n m) ≡ true) (flat : shallow (tokens bonds n m) ≡ true) where
     rows-fine : (w : ℕ) → w < n → AtomFine atoms w
@@ -227,7 +234,7 @@ module _ (atoms bonds : List ℤ) (n m : ℕ) (v : Valid atoms bonds n m) where
       bonds-long = sim .bonding .long;
     }
 
-    reads : readFrom (textOf atoms bonds n m) A B ≡ placed readAtoms readBonds n m (overfullAtoms (μ .st .outside) readBonds m n (μ .atoms))
+    reads : readFrom (textOf atoms bonds n m) A B ≡ checked readAtoms readBonds n m (overfullAtoms (μ .st .outside) readBonds m n (μ .atoms))
     unfolding readFrom
     reads =
         ap (finished (length (textOf atoms bonds n m)) A B) (held .takes .is)
@@ -243,6 +250,19 @@ module _ (atoms bonds : List ℤ) (n m : ℕ) (v : Valid atoms bonds n m) where
     permuted : Perm (completed n bs) (map (renumber walked) bs)
     unfolding renumbered
     permuted = bonds-permuted n bs (inside v)
+
+    -- no late check fails in what is read if none fails in the molecule
+    pub late-same : lateCode atoms bonds n m ≡ 0 → lateCode T U n m ≡ 0
+    late-same h = late-fine T U n m (none-loose T U n m tight)
+      where
+        tight : (a : ℕ) → a < n → loose T U m a ≡ false
+        tight a l =
+            let w = getD walked a 0 in
+            let k : w < n = atom-below ren a l in
+            let p : place walked w ≡ a = place-atom ren a l in
+            let s : selected T a ≡ selected atoms w = subst (λ (x : ℕ). selected T x ≡ selected atoms w) p (ap number (M .cells w SELECTED k (omega arith))) in
+            let d : bondDegree U m a ≡ bondDegree bonds m w = subst (λ (x : ℕ). bondDegree U m x ≡ bondDegree bonds m w) p (degree-same U (M .listed) w k) in
+            rw (s, d) (not-loose atoms bonds n m (late-none atoms bonds n m h) w k)
 
     pub matchable-same : matchable T U n m ≡ matchable atoms bonds n m
     matchable-same = matchable-renumbered (record {

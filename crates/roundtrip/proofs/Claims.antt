@@ -4,7 +4,7 @@ use mathlib.Core.Bool.{Bool, true, false}
 use mathlib.Core.List.{List, [], _∷_, map}
 use Prim.Native.Nat.{ℕ, _-_, _<_}
 use native.Mathlib.Omega.{arith}
-use lib.Dec.{leb}
+use lib.Dec.{eqb, leb}
 use lib.ListN.{length, getD, take, replicate}
 use lib.Seq.{take-append-seam, take-at}
 use lib.IntN.{ℤ, pos}
@@ -14,10 +14,12 @@ use Rattle.table_graph.specs.Graph.{matchable}
 use Rattle.table_graph.proofs.Localized.{localized-matchable}
 use Rattle.valence.specs.Valence.{delocalized}
 use Rattle.table.specs.Cells.{atomCell, selected}
-use Rattle.table.specs.Valid.{valid, Valid, enough}
-use Rattle.table.proofs.Valid.{facts, facts-back, enough-facts}
+use Rattle.table.specs.Valid.{Valid, enough}
+use Rattle.table.specs.Sound.{lateCode, sound}
+use Rattle.table.proofs.Sound.{sound-valid, sound-late, sound-back}
+use Rattle.table.proofs.Valid.{enough-facts}
 use Rattle.ids.specs.Limits.{maxText}
-use Rattle.reading.specs.Read.{ReadResult, refused, placed, readOf}
+use Rattle.reading.specs.Read.{ReadResult, refused, placed, checked, readOf}
 use Rattle.writing_walk.specs.Token.{Bond, bondBetween}
 use Rattle.writing_walk.specs.Emit.{pre}
 use Rattle.writing_walk.specs.Walk.{forestOf, place, renumber, renumbered}
@@ -32,7 +34,7 @@ use Rattle.writing.specs.Conditions.{Writes}
 use Rattle.writing.proofs.Bonds.{inside}
 use Rattle.writing.proofs.Claims.{written-iff, one-answer}
 use Rattle.roundtrip.specs.Claims.{Writable, numbered, renamed, accepted, Same, RoundTrip, Permutes, WrittenAndRead, Demand2}
-use Rattle.roundtrip.proofs.Back.{Molecule, ReadBack, ren, read-back, matchable-same}
+use Rattle.roundtrip.proofs.Back.{Molecule, ReadBack, ren, read-back, late-same, matchable-same}
 use Rattle.roundtrip.proofs.Again.{text-again, identity-again}
 use Rattle.roundtrip.proofs.Rewritten.{valid-again, few-again, shallow-again}
 
@@ -58,7 +60,7 @@ all-pass t out ren false a b c d h = absurd (omega arith)
 pub written : (atoms bonds : List ℤ) (n m : ℕ) (out ren : List ℕ) → writeOf atoms bonds n m out ren .code ≡ 0 → Writable atoms bonds n m × (lent atoms bonds out ren ≡ true)
 unfolding writeOf writeValid
 written atoms bonds n m out ren h =
-    let r = all-pass (write.writeAccepted (textOf atoms bonds n m) (renumbering bonds n m) out ren) out ren (lent atoms bonds out ren) (valid atoms bonds n m) (fewBridges (tokens bonds n m)) (shallow (tokens bonds n m)) (leb (length (textOf atoms bonds n m)) maxText) h in
+    let r = all-pass (write.writeAccepted (textOf atoms bonds n m) (renumbering bonds n m) out ren) out ren (lent atoms bonds out ren) (sound atoms bonds n m) (fewBridges (tokens bonds n m)) (shallow (tokens bonds n m)) (leb (length (textOf atoms bonds n m)) maxText) h in
     (record { tables = r .1 .0; bridges = r .1 .1 .0; branches = r .1 .1 .1 .0; bytes = r .1 .1 .1 .1 }, r .0)
 
 -- the text stands at the front of the output, and the renumbering at the front of the numbers
@@ -79,11 +81,11 @@ unfolding renumbering
 number-place bonds n m v l = upTo-at (place (pre (forestOf n (bondList bonds m)))) n v 0 l
 
 -- THE RENUMBERING is a permutation of the atom numbers
-pub renumbering-permutes : (atoms bonds : List ℤ) (n m : ℕ) → valid atoms bonds n m ≡ true → Permutes n (renumbering bonds n m)
+pub renumbering-permutes : (atoms bonds : List ℤ) (n m : ℕ) → sound atoms bonds n m ≡ true → Permutes n (renumbering bonds n m)
 unfolding renumbering
 renumbering-permutes atoms bonds n m h =
     let walked = pre (forestOf n (bondList bonds m)) in
-    let r = ren atoms bonds n m (facts atoms bonds n m h) in
+    let r = ren atoms bonds n m (sound-valid atoms bonds n m h) in
     let e : (v : ℕ) → v < n → numbered (renumbering bonds n m) v ≡ place walked v = number-place bonds n m in
     record {
       long = length-upTo (place walked) 0 n;
@@ -112,20 +114,27 @@ same-of atoms bonds n m T U p q v M =
       bonds-after = M .bonds-after;
     }
 
+-- after the late checks, where none fails
+passed : (T U : List ℤ) (n m k : ℕ) → lateCode T U n m ≡ 0 → checked T U n m k ≡ placed T U n m k
+passed T U n m k e = ap (λ (c : ℕ). pick (eqb c 0) (placed T U n m k) (refused c 0 T U)) e
+
 module _ (atoms bonds : List ℤ) (n m : ℕ) (w : Writable atoms bonds n m) (A B : List ℤ) (long : enough A B ≡ true) where
   v : Valid atoms bonds n m
-  v = facts atoms bonds n m (w .tables)
+  v = sound-valid atoms bonds n m (w .tables)
 
   back : ReadBack atoms bonds n m A B
   back = read-back atoms bonds n m v A B (enough-facts A B long) (w .bridges) (w .branches)
 
+  sound-again : {T U : List ℤ} {p q : ℕ} → Molecule atoms bonds n m T U p q → sound T U n m ≡ true
+  sound-again {T} {U} M = sound-back T U n m (valid-again atoms bonds n m v M) (late-same atoms bonds n m v M (sound-late atoms bonds n m (w .tables)))
+
   reads : readOf (textOf atoms bonds n m) A B ≡ placed (back .atoms) (back .bonds) n m (back .overfull)
   unfolding readOf
-  reads = rw (long, w .bytes) (back .reads)
+  reads = rw (long, w .bytes) (back .reads ∙ passed (back .atoms) (back .bonds) n m (back .overfull) (late-same atoms bonds n m v (back .molecule) (sound-late atoms bonds n m (w .tables))))
 
   again : {T U : List ℤ} → Molecule atoms bonds n m T U (length A) (length B) → Writable T U n m
   again M = record {
-    tables = facts-back (valid-again atoms bonds n m v M);
+    tables = sound-again M;
     bridges = few-again atoms bonds n m v M ∙ w .bridges;
     branches = shallow-again atoms bonds n m v M ∙ w .branches;
     bytes = ap (λ (s : List ℕ). leb (length s) maxText) (text-again atoms bonds n m v M) ∙ w .bytes;
@@ -144,7 +153,7 @@ module _ (atoms bonds : List ℤ) (n m : ℕ) (w : Writable atoms bonds n m) (A 
         same = same-of atoms bonds n m (back .atoms) (back .bonds) (length A) (length B) v M;
         atoms-long = M .atoms-long;
         bonds-long = M .bonds-long;
-        still-valid = facts-back (valid-again atoms bonds n m v M);
+        still-sound = sound-again M;
         again = λ out ren l. writes (again M) out ren l ∙ (λ i. write.writeAccepted (text-again atoms bonds n m v M i) (identity-again atoms bonds n m v M i) out ren);
       }
 
@@ -173,8 +182,8 @@ written-and-read atoms bonds n m out ren h A B long =
       no-matching = no-matching-read atoms bonds n m (w .0) A B long;
     }
 
-module _ (atoms bonds : List ℤ) (n m : ℕ) (out ren : List ℕ) (l : lent atoms bonds out ren ≡ true) (v : valid atoms bonds n m ≡ true) (A B : List ℤ) (long : enough A B ≡ true) where
-  -- DEMAND 2, for all valid tables and all long enough buffers: written and read back, or 14, 15 or 16 with its reason
+module _ (atoms bonds : List ℤ) (n m : ℕ) (out ren : List ℕ) (l : lent atoms bonds out ren ≡ true) (v : sound atoms bonds n m ≡ true) (A B : List ℤ) (long : enough A B ≡ true) where
+  -- DEMAND 2, for all sound tables and all long enough buffers: written and read back, or 14, 15 or 16 with its reason
   pub demand-2 : Demand2 atoms bonds n m out ren A B (writeOf atoms bonds n m out ren)
   demand-2 = go refl (written-iff atoms bonds n m out ren (writeOf atoms bonds n m out ren) .0 refl)
     where

@@ -10,7 +10,7 @@ use Rattle.loops.specs.Loop.{upTo}
 use Rattle.table_graph.specs.Graph.{matchable}
 use Rattle.table.specs.Limits.{atomCells, bondCells}
 use Rattle.table.specs.Cells.{atomCell}
-use Rattle.table.specs.Valid.{valid}
+use Rattle.table.specs.Sound.{sound}
 use Rattle.ids.specs.Limits.{bridges, maxText}
 use Rattle.reading.specs.Read.{ReadResult, refused, readOf}
 use Rattle.writing_walk.specs.Token.{Bond, bondBetween}
@@ -19,9 +19,9 @@ use Rattle.writing.specs.Write.{bondList, tokens, textOf, renumbering, fewBridg
 use Rattle.writing.specs.Write as write
 use Rattle.writing.specs.Conditions.{ManyBridges, DeepBranch, LongText, WithinLimits}
 
--- valid tables that writing does not refuse: neither 13, 14, 15 nor 16
+-- sound tables that writing does not refuse: neither 13, 14, 15 nor 16
 pub record Writable (atoms bonds : List ℤ) (n m : ℕ) : Type 0 where
-  pub tables : valid atoms bonds n m ≡ true
+  pub tables : sound atoms bonds n m ≡ true
   pub bridges : fewBridges (tokens bonds n m) ≡ true
   pub branches : shallow (tokens bonds n m) ≡ true
   pub bytes : leb (length (textOf atoms bonds n m)) maxText ≡ true
@@ -44,7 +44,7 @@ pub record Same (atoms bonds : List ℤ) (n m : ℕ) (T U : List ℤ) : Type 0 w
   pub atoms-after : (j : ℕ) → atomCells * n ≤ j → getD T j (pos 0) ≡ pos 0
   pub bonds-after : (j : ℕ) → bondCells * m ≤ j → getD U j (pos 0) ≡ pos 0
 
--- the text is read into tables T and U that hold the molecule (the number of over-full atoms, which brackets hide, is as its definition says); they are valid, and writing them is accepted with the same bytes, every atom keeping its number
+-- the text is read into tables T and U that hold the molecule (the number of over-full atoms, which brackets hide, is as its definition says); they are sound, and writing them is accepted with the same bytes, every atom keeping its number
 pub record RoundTrip (atoms bonds : List ℤ) (n m : ℕ) (A B : List ℤ) : Type 0 where
   pub T : List ℤ
   pub U : List ℤ
@@ -53,7 +53,7 @@ pub record RoundTrip (atoms bonds : List ℤ) (n m : ℕ) (A B : List ℤ) : Typ
   pub same : Same atoms bonds n m T U
   pub atoms-long : length T ≡ length A
   pub bonds-long : length U ≡ length B
-  pub still-valid : valid T U n m ≡ true
+  pub still-sound : sound T U n m ≡ true
   pub again : (out ren : List ℕ) → lent T U out ren ≡ true → writeOf T U n m out ren ≡ write.writeAccepted (textOf atoms bonds n m) (upTo (λ v. v) 0 n) out ren
 
 -- "The renumbering gives each atom's walk number": a permutation of the numbers below n
@@ -73,7 +73,7 @@ pub record WrittenAndRead (atoms bonds : List ℤ) (n m : ℕ) (out ren : List �
   -- "A sound molecule without a placement is written by the same rules; reading its text gives 11."
   pub no-matching : matchable atoms bonds n m ≡ false → readOf (textOf atoms bonds n m) A B ≡ refused 11 0 A B
 
--- DEMAND 2: what writing valid tables into long enough buffers hands back, and what reading its text gives: one of four
+-- DEMAND 2: what writing sound tables into long enough buffers hands back, and what reading its text gives: one of four
 pub data Demand2 (atoms bonds : List ℤ) (n m : ℕ) (out ren : List ℕ) (A B : List ℤ) : write.WriteResult → Type 0 where
   written : WithinLimits atoms bonds n m → WrittenAndRead atoms bonds n m out ren A B → Demand2 atoms bonds n m out ren A B (write.writeAccepted (textOf atoms bonds n m) (renumbering bonds n m) out ren)
   says-14 : ManyBridges bonds n m → Demand2 atoms bonds n m out ren A B (write.writeRefused 14 out ren)

@@ -12,7 +12,8 @@ use Rattle.loops.proofs.Loops.{length-upTo, upTo-at}
 use Rattle.table.specs.Limits.{CHARGE}
 use Rattle.table.specs.Cells.{atomCell, element, selected, hydrogens, end1, end2, kind}
 use Rattle.valence.specs.Valence.{order, delocalized}
-use Rattle.table_graph.specs.Graph.{touches, share, addShare, bondSum, flag, delocalizedFlag, delocalizedFlags, graphOf}
+use Rattle.table.specs.Sound.{touches, countBond, bondDegree}
+use Rattle.table_graph.specs.Graph.{share, addShare, bondSum, flag, delocalizedFlag, delocalizedFlags, graphOf}
 use Rattle.writing_walk.specs.Token.{bond}
 use Rattle.writing_walk.specs.Walk.{place, renumber}
 use Rattle.writing_walk.proofs.Walk.{Inside}
@@ -48,6 +49,24 @@ sum-from bonds a k (suc m) s = omega (arith, sum-from bonds a (suc k) m (s + sha
 pub sum-total : (bonds : List ℤ) (m a : ℕ) → bondSum bonds m a ≡ total (weightAt order a) (bondList bonds m)
 unfolding bondSum
 sum-total bonds m a = sum-from bonds a 0 m 0 ∙ zero-add (total (weightAt order a) (bondList bonds m))
+
+-- the number of an atom's bonds, in the same way
+count-weight : (bonds : List ℤ) (a b : ℕ) → pick (touches bonds a b) 1 0 ≡ weightAt (λ k. 1) a (walkBond bonds b)
+unfolding touches
+count-weight bonds a b = go (eqb (end1 bonds b) a || eqb (end2 bonds b) a)
+  where
+    go : (x : Bool) → pick {A = ℕ} x 1 0 ≡ cond x 1 0
+    go true = refl
+    go false = refl
+
+degree-from : (bonds : List ℤ) (a k m s : ℕ) → run (countBond bonds a) k m s ≡ s + total (weightAt (λ k. 1) a) (upTo (walkBond bonds) k m)
+unfolding run upTo
+degree-from bonds a k zero s = sym (add-zero s)
+degree-from bonds a k (suc m) s = omega (arith, degree-from bonds a (suc k) m (s + pick (touches bonds a k) 1 0), count-weight bonds a k)
+
+pub degree-total : (bonds : List ℤ) (m a : ℕ) → bondDegree bonds m a ≡ total (weightAt (λ k. 1) a) (bondList bonds m)
+unfolding bondDegree
+degree-total bonds m a = degree-from bonds a 0 m 0 ∙ zero-add (total (weightAt (λ k. 1) a) (bondList bonds m))
 
 -- tables with n atoms and m bonds, and the same molecule under the walk numbers `order`
 pub record Renumbered (n m : ℕ) (order : List ℕ) (atoms bonds atoms′ bonds′ : List ℤ) : Type 0 where

@@ -4,3 +4,4 @@ pub mod Valid
 pub mod Edits
 pub mod Keys
 pub mod Checks
+pub mod Sound

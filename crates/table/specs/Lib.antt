@@ -4,3 +4,4 @@ pub mod Rows
 pub mod Valid
 pub mod Edits
 pub mod Keys
+pub mod Sound

@@ -1,4 +1,4 @@
--- 01, The tables: when tables with their two counts are valid ("sound"), a test for each condition
+-- 01, The tables: when tables with their two counts are valid, a test for each condition: the part of "sound" that also holds between the bytes of a text
 use Prim.Native.Nat.{ℕ, _*_, _≤_}
 use mathlib.Core.Path.{_≡_}
 use mathlib.Core.List.{List}
@@ -7,7 +7,7 @@ use lib.ListN.{length}
 use lib.IntN.{ℤ, pos, negsuc}
 use lib.Signed.{leZ}
 use lib.Dec.{eqb, leb, ltb}
-use Rattle.loops.specs.Loop.{pick, each}
+use Rattle.loops.specs.Loop.{each}
 use Rattle.refusal.specs.Code.{codeOf}
 use Rattle.table.specs.declared.Check.{Check}
 use Rattle.table.specs.declared.Check.the-variants.{Fine, Refused}
@@ -100,7 +100,3 @@ enough atoms bonds = leb (atomCells * maxAtoms) (length atoms) && leb (bondCells
 abbrev pub checkCode : Check → ℕ
 checkCode Fine = 0
 checkCode (Refused r) = codeOf r
-
--- 01, When a call says no: 1, then 13
-unfoldable pub checkOf : List ℤ → List ℤ → ℕ → ℕ → ℕ
-checkOf atoms bonds n m = pick (enough atoms bonds) (pick (valid atoms bonds n m) 0 13) 1

@@ -21,7 +21,8 @@ use Rattle.table.specs.Limits.{maxBonds}
 use Rattle.table.specs.Cells.{number, end1, end2, kind}
 use Rattle.table.specs.Rows.{bondAt, bondRow, BondFits}
 use Rattle.valence.specs.Valence.{order}
-use Rattle.table_graph.specs.Graph.{touches, share, addShare, bondSum}
+use Rattle.table.specs.Sound.{touches}
+use Rattle.table_graph.specs.Graph.{share, addShare, bondSum}
 use Rattle.table_graph.specs.Built.{bump, sumsWithBond}
 
 -- the numbers in a bond's row are those of its cells

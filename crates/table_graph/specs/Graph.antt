@@ -1,20 +1,17 @@
 -- 01, Hydrogens and kept atoms: the bond sum, the delocalized ("kept") atoms, and the graph that matchings ("placements") see
 use Prim.Native.Nat.{ℕ, _+_}
 use mathlib.Core.List.{List}
-use mathlib.Core.Bool.{Bool, true, false, _||_, not}
+use mathlib.Core.Bool.{Bool, true, false, not}
 use lib.IntN.{ℤ}
 use lib.Dec.{eqb}
 use Rattle.loops.specs.Loop.{pick, each, run, upTo}
 use Rattle.table.specs.Limits.{CHARGE}
 use Rattle.table.specs.Cells.{atomCell, element, selected, hydrogens, end1, end2, kind}
+use Rattle.table.specs.Sound.{touches}
 use Rattle.valence.specs.Valence.{order, delocalized}
 use Rattle.matching.specs.Enumeration.{Row, matchings}
 use Rattle.matching.specs.Graph.{Bond, isMatching}
 use Rattle.matching.specs.Model.{some?}
-
--- the atom a is an end of the bond b
-unfoldable pub touches : List ℤ → ℕ → ℕ → Bool
-touches bonds a b = eqb (end1 bonds b) a || eqb (end2 bonds b) a
 
 -- what the bond b adds to the bond sum of the atom a
 unfoldable pub share : List ℤ → ℕ → ℕ → ℕ

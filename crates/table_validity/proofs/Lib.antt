@@ -1,1 +1,2 @@
 mod Ranges
+mod Degrees

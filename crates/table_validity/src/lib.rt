@@ -1,4 +1,4 @@
-// Valid tables (01: sound): a test for each condition, and all of them.
+// Valid and sound tables: a test for each condition, and all of them.
 ghost use mathlib.Core.Path.{_≡_};
 ghost use Prim.Native.Nat.{ℕ, _<_, _≤_};
 ghost use mathlib.Core.Bool.{true};
@@ -7,7 +7,8 @@ ghost use lib.ListN.{length, drop};
 ghost use Rattle.loops.specs.Loop.{each, upTo};
 ghost use Rattle.table.specs.Limits.{maxAtoms, maxBonds};
 ghost use Rattle.table.specs.Cells.{number};
-ghost use Rattle.table.specs.Valid.{selectable, selectionOk, atomRowOk, bondRowOk, atomOk, bondOk, distinct, valid, enough, checkCode, checkOf};
+ghost use Rattle.table.specs.Valid.{selectable, selectionOk, atomRowOk, bondRowOk, atomOk, bondOk, distinct, valid, enough, checkCode};
+ghost use Rattle.table.specs.Sound.{sound, checkOf};
 ghost use Rattle.table.specs.Keys.{BondEnds, keyOf, endsKey};
 use ids::AtomId;
 use ids::BondId;
@@ -27,6 +28,8 @@ use table::MAX_BONDS;
 use table::SECOND;
 use table::SELECTED;
 use table::cell;
+
+pub mod late;
 
 // internal: an element that a selected atom may have.
 pub fn selectable(e: usize) -> bool
@@ -269,6 +272,19 @@ pub fn valid(atoms: &[i32], bonds: &[i32], n: usize, m: usize) -> bool
     distinct(bonds, m)
 }
 
+// internal: the tables with their counts are sound: valid, and no late check fails.
+pub fn sound(atoms: &[i32], bonds: &[i32], n: usize, m: usize) -> bool
+    ensures { λ r. ⌜ r ≡ sound (now (atoms .entry)) (now (bonds .entry)) n m ⌝ }
+{
+    if !valid(atoms, bonds, n, m) {
+        return false;
+    }
+    match late::late_check(atoms, bonds, n, m) {
+        Check::Fine => true,
+        Check::Refused(_) => false,
+    }
+}
+
 // internal: the tables are as long as they have to be.
 pub fn enough(atoms: &[i32], bonds: &[i32]) -> bool
     ensures { λ r. ⌜ r ≡ enough (now (atoms .entry)) (now (bonds .entry)) ⌝ }
@@ -276,14 +292,14 @@ pub fn enough(atoms: &[i32], bonds: &[i32]) -> bool
     (ATOM_CELLS * MAX_ATOMS <= atoms.len()) & (BOND_CELLS * MAX_BONDS <= bonds.len())
 }
 
-// Whether the tables with their counts can be worked with: 1 for a table that is too short, 13 for tables that are not valid.
+// Whether the tables with their counts can be worked with: 1 for a table that is too short, 13 for tables that are not sound.
 pub fn check_tables(atoms: &[i32], bonds: &[i32], n: usize, m: usize) -> Check
     ensures { λ r. ⌜ checkCode r ≡ checkOf (now (atoms .entry)) (now (bonds .entry)) n m ⌝ }
 {
     if !enough(atoms, bonds) {
         return Check::Refused(Refusal::Short);
     }
-    if !valid(atoms, bonds, n, m) {
+    if !sound(atoms, bonds, n, m) {
         return Check::Refused(Refusal::Invalid);
     }
     Check::Fine

@@ -13,7 +13,8 @@ use borrow.Author.Tests.{le-leb, lt-leb, leb-true, leb-false, lt-ltb, le-ltb}
 use Rattle.loops.specs.Loop.{pick, upTo}
 use Rattle.loops.proofs.Loops.{length-upTo}
 use Rattle.table.specs.Limits.{maxAtoms}
-use Rattle.table.specs.Valid.{valid, enough}
+use Rattle.table.specs.Valid.{enough}
+use Rattle.table.specs.Sound.{sound}
 use Rattle.ids.specs.Limits.{maxText}
 use Rattle.writing_walk.specs.Emit.{pre}
 use Rattle.writing_walk.specs.Walk.{forestOf, place}
@@ -136,10 +137,10 @@ unfolding writeOf
 short3 atoms bonds n m out ren e h g = sym (rw (e, le-leb maxText (length out) h, lt-leb maxAtoms (length ren) g))
 
 module _ (atoms bonds : List ℤ) (n m : ℕ) (out ren : List ℕ) (e : enough atoms bonds ≡ true) (h : maxText ≤ length out) (g : maxAtoms ≤ length ren) where
-  pub told13 : valid atoms bonds n m ≡ false → writeRefused 13 out ren ≡ writeOf atoms bonds n m out ren
+  pub told13 : sound atoms bonds n m ≡ false → writeRefused 13 out ren ≡ writeOf atoms bonds n m out ren
   unfolding writeOf
   told13 v = sym (rw (e, le-leb maxText (length out) h, le-leb maxAtoms (length ren) g, v))
 
-  pub told-valid : valid atoms bonds n m ≡ true → writeValid atoms bonds n m out ren ≡ writeOf atoms bonds n m out ren
+  pub told-valid : sound atoms bonds n m ≡ true → writeValid atoms bonds n m out ren ≡ writeOf atoms bonds n m out ren
   unfolding writeOf
   told-valid v = sym (rw (e, le-leb maxText (length out) h, le-leb maxAtoms (length ren) g, v))

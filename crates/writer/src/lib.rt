@@ -340,7 +340,7 @@ pub fn write(
     if ren.len() < MAX_ATOMS {
         return Written::Refused(Refusal::Short);
     }
-    if !table_validity::valid(atoms, bonds, n, m) {
+    if !table_validity::sound(atoms, bonds, n, m) {
         clear_all(out, ren);
         return Written::Refused(Refusal::Invalid);
     }

@@ -10,7 +10,7 @@ use lib.ListN.{length}
 use lib.IntN.{ℤ}
 use borrow.Author.Tests.{leb-true, leb-false, lt-leb}
 use Rattle.loops.specs.Loop.{pick}
-use Rattle.table.specs.Valid.{valid}
+use Rattle.table.specs.Sound.{sound}
 use Rattle.ids.specs.Limits.{maxText}
 use Rattle.writing.specs.Write.{tokens, textOf, renumbering, fewBridges, shallow, WriteResult, writeRefused, writeShort, writeAccepted, writeValid, lent, writeOf}
 use Rattle.writing.specs.Conditions.{ManyBridges, DeepBranch, LongText, Writes}
@@ -21,7 +21,7 @@ never h k = absurd (let z : _≡_ {A = ℕ} 0 1 = cc in omega arith)
 
 module _ (atoms bonds : List ℤ) (n m : ℕ) where
   -- the tests of the definition, and 01's conditions
-  few : valid atoms bonds n m ≡ true → ¬ ManyBridges bonds n m → fewBridges (tokens bonds n m) ≡ true
+  few : sound atoms bonds n m ≡ true → ¬ ManyBridges bonds n m → fewBridges (tokens bonds n m) ≡ true
   few v w = go (fewBridges (tokens bonds n m)) refl
     where
       go : (t : Bool) → fewBridges (tokens bonds n m) ≡ t → t ≡ true
@@ -45,9 +45,9 @@ module _ (atoms bonds : List ℤ) (n m : ℕ) where
   module _ (out ren : List ℕ) where
     writes-so : Writes atoms bonds n m out ren (writeOf atoms bonds n m out ren)
     unfolding writeOf writeValid
-    writes-so = split (lent atoms bonds out ren) refl (valid atoms bonds n m) refl (fewBridges (tokens bonds n m)) refl (shallow (tokens bonds n m)) refl (leb (length (textOf atoms bonds n m)) maxText) refl
+    writes-so = split (lent atoms bonds out ren) refl (sound atoms bonds n m) refl (fewBridges (tokens bonds n m)) refl (shallow (tokens bonds n m)) refl (leb (length (textOf atoms bonds n m)) maxText) refl
       where
-        split : (a : Bool) → lent atoms bonds out ren ≡ a → (b : Bool) → valid atoms bonds n m ≡ b → (c : Bool) → fewBridges (tokens bonds n m) ≡ c → (d : Bool) → shallow (tokens bonds n m) ≡ d
+        split : (a : Bool) → lent atoms bonds out ren ≡ a → (b : Bool) → sound atoms bonds n m ≡ b → (c : Bool) → fewBridges (tokens bonds n m) ≡ c → (d : Bool) → shallow (tokens bonds n m) ≡ d
             → (e : Bool) → leb (length (textOf atoms bonds n m)) maxText ≡ e
             → Writes atoms bonds n m out ren (pick a (pick b (pick c (pick d (pick e (writeAccepted (textOf atoms bonds n m) (renumbering bonds n m) out ren) (writeRefused 16 out ren)) (writeRefused 15 out ren)) (writeRefused 14 out ren)) (writeRefused 13 out ren)) (writeShort out ren))
         split false l b v c f d s e k = Writes.too-short l

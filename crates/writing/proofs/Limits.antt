@@ -10,8 +10,8 @@ use mathlib.Core.Logic.{_⊎_, inl, inr, ⊎-elim}
 use borrow.Author.Tests.{eqb-true, eqb-false, ltb-true, lt-ltb, lt-leb, ltb-false}
 use Rattle.loops.proofs.Loops.{and-left, and-right}
 use Rattle.table.specs.Limits.{maxAtoms, maxBonds}
-use Rattle.table.specs.Valid.{valid}
-use Rattle.table.proofs.Valid.{facts}
+use Rattle.table.specs.Sound.{sound}
+use Rattle.table.proofs.Sound.{sound-valid}
 use Rattle.ids.specs.Limits.{maxDepth, bridges}
 use Rattle.writing_walk.specs.Token.{Tok, apart, along, ring, branch, back}
 use Rattle.writing_walk.specs.Emit.{size}
@@ -58,9 +58,9 @@ over f c (suc k) = go (ltb c (f k)) refl (over f c k)
         last x l true y = subst (λ (i : ℕ). f i ≤ c) (sym (eqb-true x k y)) (ltb-false c (f k) e)
         last x l false y = let z = eqb-false x k y in h x (omega arith)
 
-module _ (atoms bonds : List ℤ) (n m : ℕ) (h : valid atoms bonds n m ≡ true) where
+module _ (atoms bonds : List ℤ) (n m : ℕ) (h : sound atoms bonds n m ≡ true) where
   i : Inside n (bondList bonds m)
-  i = inside (facts atoms bonds n m h)
+  i = inside (sound-valid atoms bonds n m h)
 
   -- past the last atom none is open
   open-past : (x : ℕ) → n < x → openAt bonds n m x ≡ 0

@@ -5,7 +5,7 @@ use mathlib.Core.List.{List, [], _∷_, _++_}
 use Prim.Native.Nat.{ℕ, suc, _-_, _<_, _≤_}
 use lib.ListN.{length}
 use lib.IntN.{ℤ}
-use Rattle.table.specs.Valid.{valid}
+use Rattle.table.specs.Sound.{sound}
 use Rattle.ids.specs.Limits.{maxDepth, bridges, maxText}
 use Rattle.writing_walk.specs.Token.{Tok, apart, along, ring, branch, back}
 use Rattle.writing_walk.specs.Walk.{unused}
@@ -58,8 +58,8 @@ pub record WithinLimits (atoms bonds : List ℤ) (n m : ℕ) : Type 0 where
 -- "Other calls check 1, 13, .. then 14, 15, 16 over the whole walk": what is handed back, and when
 pub data Writes (atoms bonds : List ℤ) (n m : ℕ) (out ren : List ℕ) : WriteResult → Type 0 where
   too-short : lent atoms bonds out ren ≡ false → Writes atoms bonds n m out ren (writeShort out ren)
-  not-valid : lent atoms bonds out ren ≡ true → valid atoms bonds n m ≡ false → Writes atoms bonds n m out ren (writeRefused 13 out ren)
-  many-bridges : lent atoms bonds out ren ≡ true → valid atoms bonds n m ≡ true → ManyBridges bonds n m → Writes atoms bonds n m out ren (writeRefused 14 out ren)
-  deep-branch : lent atoms bonds out ren ≡ true → valid atoms bonds n m ≡ true → ¬ ManyBridges bonds n m → DeepBranch bonds n m → Writes atoms bonds n m out ren (writeRefused 15 out ren)
-  long-text : lent atoms bonds out ren ≡ true → valid atoms bonds n m ≡ true → ¬ ManyBridges bonds n m → ¬ DeepBranch bonds n m → LongText atoms bonds n m → Writes atoms bonds n m out ren (writeRefused 16 out ren)
-  writes : lent atoms bonds out ren ≡ true → valid atoms bonds n m ≡ true → WithinLimits atoms bonds n m → Writes atoms bonds n m out ren (writeAccepted (textOf atoms bonds n m) (renumbering bonds n m) out ren)
+  not-valid : lent atoms bonds out ren ≡ true → sound atoms bonds n m ≡ false → Writes atoms bonds n m out ren (writeRefused 13 out ren)
+  many-bridges : lent atoms bonds out ren ≡ true → sound atoms bonds n m ≡ true → ManyBridges bonds n m → Writes atoms bonds n m out ren (writeRefused 14 out ren)
+  deep-branch : lent atoms bonds out ren ≡ true → sound atoms bonds n m ≡ true → ¬ ManyBridges bonds n m → DeepBranch bonds n m → Writes atoms bonds n m out ren (writeRefused 15 out ren)
+  long-text : lent atoms bonds out ren ≡ true → sound atoms bonds n m ≡ true → ¬ ManyBridges bonds n m → ¬ DeepBranch bonds n m → LongText atoms bonds n m → Writes atoms bonds n m out ren (writeRefused 16 out ren)
+  writes : lent atoms bonds out ren ≡ true → sound atoms bonds n m ≡ true → WithinLimits atoms bonds n m → Writes atoms bonds n m out ren (writeAccepted (textOf atoms bonds n m) (renumbering bonds n m) out ren)

@@ -8,7 +8,8 @@ use lib.Dec.{leb, ltb}
 use Rattle.loops.specs.Loop.{pick, upTo}
 use Rattle.table.specs.Limits.{maxAtoms, maxBonds}
 use Rattle.table.specs.Cells.{end1, end2, kind}
-use Rattle.table.specs.Valid.{valid, enough}
+use Rattle.table.specs.Valid.{enough}
+use Rattle.table.specs.Sound.{sound}
 use Rattle.ids.specs.Limits.{maxDepth, bridges, maxText}
 use Rattle.writing_walk.specs.Token.{Bond, bond, Tok, apart, along, ring, branch, back}
 use Rattle.writing_walk.specs.Emit.{pre}
@@ -84,4 +85,4 @@ lent atoms bonds out ren = enough atoms bonds && leb maxText (length out) && leb
 -- 1, 13, then 14, 15, 16
 unfoldable pub writeOf : List ℤ → List ℤ → ℕ → ℕ → List ℕ → List ℕ → WriteResult
 writeOf atoms bonds n m out ren =
-    pick (lent atoms bonds out ren) (pick (valid atoms bonds n m) (writeValid atoms bonds n m out ren) (writeRefused 13 out ren)) (writeShort out ren)
+    pick (lent atoms bonds out ren) (pick (sound atoms bonds n m) (writeValid atoms bonds n m out ren) (writeRefused 13 out ren)) (writeShort out ren)

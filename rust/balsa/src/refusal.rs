@@ -30,7 +30,7 @@ pub enum Code {
     Unmatchable = 11,
     /// The row is not a matching of this molecule.
     NotMatching = 12,
-    /// The tables are not valid.
+    /// The tables are not sound.
     Invalid = 13,
     /// Over 99 bridges would be open at once.
     ManyBridges = 14,
@@ -42,10 +42,12 @@ pub enum Code {
     InvalidRegister = 17,
     /// The register has no room for the body.
     FullRegister = 18,
+    /// A selected atom has fewer than two bonds.
+    LooseAtom = 22,
 }
 
 impl Code {
-    const ALL: [Code; 18] = [
+    const ALL: [Code; 19] = [
         Code::Short,
         Code::LongText,
         Code::Grammar,
@@ -64,15 +66,19 @@ impl Code {
         Code::LongWriting,
         Code::InvalidRegister,
         Code::FullRegister,
+        Code::LooseAtom,
     ];
 
-    /// The number of the rules, 1 to 18.
+    /// The number of the rules.
     pub fn number(self) -> u8 {
         self as u8
     }
 
     pub(crate) fn of(number: u32) -> Code {
-        Self::ALL[number as usize - 1]
+        let known = Self::ALL
+            .into_iter()
+            .find(|code| code.number() as u32 == number);
+        known.expect("a number of the rules")
     }
 }
 

@@ -24,7 +24,7 @@ fn a_lone_ring_behind_32_benzenes() {
 
 #[test]
 fn two_bonds_far_apart() {
-    let text = format!("c%10c%11.{}c%10.c%11", "c1ccccc1.".repeat(31));
+    let text = format!("c%10c%11.{}c%10C.c%11C", "c1ccccc1.".repeat(31));
     let molecule = Molecule::read(text.as_bytes()).unwrap();
     let first = molecule.matchings().next().unwrap();
     assert_eq!(first[0], 0);
@@ -33,8 +33,8 @@ fn two_bonds_far_apart() {
 }
 
 #[test]
-fn an_odd_atom_behind_33_benzenes() {
-    let text = "c1ccccc1.".repeat(33) + "c";
+fn an_odd_atom_behind_32_benzenes() {
+    let text = "c1ccccc1.".repeat(32) + "CcC";
     let refusal = Molecule::read(text.as_bytes()).unwrap_err();
     assert_eq!(refusal.code, Code::Unmatchable);
 }

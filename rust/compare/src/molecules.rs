@@ -254,13 +254,23 @@ pub fn molecule(random: &mut Random, effort: Effort) -> Molecule {
     molecule
 }
 
+/// The atoms that may be selected: those with two bonds, and in some molecules also loose ones.
+fn tight(random: &mut Random, molecule: &Molecule) -> Vec<bool> {
+    let loose = *random.pick(&[0, 0, 0, 5]);
+    let degrees = molecule.degrees().into_iter();
+    degrees
+        .map(|degree| degree >= 2 || random.percent(loose))
+        .collect()
+}
+
 /// Gives the atoms any elements and fields; mostly the molecule has no matching.
 fn dress(random: &mut Random, molecule: &mut Molecule, effort: Effort, style: Style) {
     let sums = molecule.bond_sums();
+    let tight = tight(random, molecule);
     let chance = [95, 40, 30][style as usize];
     let mut selected_atoms = 0;
-    for (atom, sum) in molecule.atoms.iter_mut().zip(sums) {
-        let is_free = selected_atoms < effort.most_selected();
+    for ((atom, sum), tight) in molecule.atoms.iter_mut().zip(sums).zip(tight) {
+        let is_free = tight && selected_atoms < effort.most_selected();
         atom.selected = is_free && random.percent(chance);
         selected_atoms += usize::from(atom.selected);
         atom.element = element(random, atom.selected, style);
@@ -278,6 +288,7 @@ fn dress(random: &mut Random, molecule: &mut Molecule, effort: Effort, style: St
 /// Selects pairs of atoms joined by elided bonds, so that the molecule mostly has a matching.
 fn dress_with_a_matching(random: &mut Random, molecule: &mut Molecule, effort: Effort) {
     let sums = molecule.bond_sums();
+    let tight = tight(random, molecule);
     let mut order: Vec<usize> = (0..molecule.bonds.len()).collect();
     if random.percent(50) {
         random.shuffle(&mut order);
@@ -289,7 +300,8 @@ fn dress_with_a_matching(random: &mut Random, molecule: &mut Molecule, effort: E
             second,
             kind,
         } = molecule.bonds[number];
-        let is_free = |atom: usize| !molecule.atoms[atom].selected && sums[atom] <= 3;
+        let is_free =
+            |atom: usize| !molecule.atoms[atom].selected && tight[atom] && sums[atom] <= 3;
         let has_room = 2 * pairs < effort.most_selected() && random.percent(97);
         if kind == Kind::Elided && is_free(first) && is_free(second) && has_room {
             molecule.atoms[first].selected = true;

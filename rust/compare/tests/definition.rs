@@ -24,6 +24,16 @@ fn delocalized(tables: Tables) -> Vec<bool> {
     (0..tables.counts.atoms).map(is_delocalized).collect()
 }
 
+/// Whether a selected atom has fewer than two bonds (request P6).
+fn has_loose(tables: Tables) -> bool {
+    let is_loose = |atom: usize| {
+        let bonds = tables.bonds.chunks(3).take(tables.counts.bonds);
+        let at_atom = bonds.filter(|bond| bond[0] as usize == atom || bond[1] as usize == atom);
+        tables.atoms[6 * atom + 1] == 1 && at_atom.count() < 2
+    };
+    (0..tables.counts.atoms).any(is_loose)
+}
+
 /// Whether a row is a matching, word by word.
 fn is_matching(tables: Tables, delocalized: &[bool], row: &[u8]) -> bool {
     let mut ends = vec![0; tables.counts.atoms];
@@ -64,6 +74,11 @@ fn check(molecule: &Molecule) -> usize {
         bonds: &bonds,
         counts,
     };
+    if has_loose(tables) {
+        let answer = tables::first(tables, &mut [9; ROW]);
+        assert_eq!(answer, Err(Code::InvalidTables), "{molecule:?}");
+        return 0;
+    }
     let delocalized = delocalized(tables);
     let all = rows(counts.bonds);
     let is_listed = |row: &&Vec<u8>| is_matching(tables, &delocalized, row);

@@ -1,5 +1,7 @@
 //! Molecules: atoms and bonds.
 
+use crate::refusal::Code;
+
 /// An atom.
 #[derive(Clone, Copy, Debug, Default, PartialEq, Eq)]
 pub struct Atom {
@@ -105,6 +107,24 @@ impl Molecule {
             sums[bond.second] += bond.kind.order();
         }
         sums
+    }
+
+    /// Each atom's number of bonds.
+    pub fn degrees(&self) -> Vec<usize> {
+        let mut degrees = vec![0; self.atoms.len()];
+        for bond in &self.bonds {
+            degrees[bond.first] += 1;
+            degrees[bond.second] += 1;
+        }
+        degrees
+    }
+
+    /// The first check that the molecule fails among those after an open bridge and before the
+    /// matching: they also belong to soundness.
+    pub fn late_refusal(&self) -> Option<Code> {
+        let mut atoms = self.atoms.iter().zip(self.degrees());
+        let is_loose = atoms.any(|(atom, degree)| atom.selected && degree < 2);
+        is_loose.then_some(Code::LooseSelected)
     }
 
     /// Each atom's neighbours.

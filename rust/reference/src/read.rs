@@ -24,6 +24,9 @@ pub fn reading(text: &[u8]) -> Result<Reading, Refusal> {
     let mut reader = Reader::new(text);
     reader.text()?;
     let reading = reader.finish()?;
+    if let Some(code) = reading.molecule.late_refusal() {
+        return Err(code.into());
+    }
     if has_matching(&reading.molecule) {
         Ok(reading)
     } else {

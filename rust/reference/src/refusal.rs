@@ -28,7 +28,7 @@ pub enum Code {
     Unmatchable = 11,
     /// The row handed in is not a matching.
     NotAMatching = 12,
-    /// The tables are not valid.
+    /// The tables are not sound.
     InvalidTables = 13,
     /// The written text would need too many bridges open at once.
     TooManyBridges = 14,
@@ -40,6 +40,8 @@ pub enum Code {
     InvalidRegister = 17,
     /// The register has no room for the body.
     RegisterFull = 18,
+    /// A selected atom has fewer than two bonds.
+    LooseSelected = 22,
 }
 
 impl Code {

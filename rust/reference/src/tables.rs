@@ -211,7 +211,7 @@ pub fn write(tables: Tables, text: &mut [u8], renumbering: &mut [u16]) -> Result
     }
 }
 
-/// The molecule of tables that are long enough, if they are valid (in the paper: sound).
+/// The molecule of tables that are long enough, if they are sound.
 pub fn molecule(tables: Tables) -> Result<Molecule, Code> {
     let Counts { atoms, bonds } = tables.counts;
     if atoms > MAX_ATOMS || bonds > MAX_BONDS {
@@ -229,7 +229,7 @@ pub fn molecule(tables: Tables) -> Result<Molecule, Code> {
         let bond = bond_of_cells(cells, atoms).ok_or(Code::InvalidTables)?;
         molecule.bonds.push(bond);
     }
-    if has_repeated_bond(&molecule) {
+    if has_repeated_bond(&molecule) || molecule.late_refusal().is_some() {
         return Err(Code::InvalidTables);
     }
     Ok(molecule)

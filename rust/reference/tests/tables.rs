@@ -66,12 +66,14 @@ fn padded(digits: &str) -> Vec<u8> {
 #[test]
 fn reading_fills_the_tables() {
     let (mut atoms, mut bonds) = ([7; ATOM_TABLE + 1], [7; BOND_TABLE + 1]);
-    let read = tables::read(b"[13nH-:5]=C", &mut atoms, &mut bonds).unwrap();
-    assert_eq!(read.counts, Counts { atoms: 2, bonds: 1 });
+    let read = tables::read(b"[13nH-:5]1=CC1", &mut atoms, &mut bonds).unwrap();
+    assert_eq!(read.counts, Counts { atoms: 3, bonds: 3 });
     assert_eq!(read.overfull, 0);
-    assert_eq!(atoms[..12], [7, 1, 13, 1, -1, 5, 6, 0, 0, 2, 0, 0]);
-    assert_eq!(bonds[..3], [0, 1, 2]);
-    assert!(atoms[12..].iter().chain(&bonds[3..]).all(|&cell| cell == 0));
+    assert_eq!(atoms[..6], [7, 1, 13, 1, -1, 5]);
+    assert_eq!(atoms[6..18], [6, 0, 0, 1, 0, 0, 6, 0, 0, 2, 0, 0]);
+    assert_eq!(bonds[..9], [0, 1, 2, 1, 2, 0, 0, 2, 0]);
+    let unused = atoms[18..].iter().chain(&bonds[9..]);
+    assert!(unused.copied().all(|cell| cell == 0));
 }
 
 #[test]
@@ -132,10 +134,10 @@ fn a_molecule_without_delocalized_atoms_ends_again_and_again() {
 
 #[test]
 fn a_missing_matching_zeroes_the_row() {
-    let mut lent = Lent::of("CC");
+    let mut lent = Lent::of("C1CC1");
     lent.atoms[1] = 1;
     lent.atoms[3] = 0;
-    let mut cells = row("1");
+    let mut cells = row("100");
     assert_eq!(
         tables::first(lent.tables(), &mut cells),
         Err(Code::Unmatchable)
@@ -229,9 +231,9 @@ fn a_refused_writing_zeroes_text_and_renumbering() {
 
 #[test]
 fn short_buffers_change_nothing() {
-    let mut lent = Lent::of("cc");
+    let mut lent = Lent::of("CccC");
     lent.counts.atoms = 999;
-    let (text, cells) = ([DIRT; TEXT], row("1"));
+    let (text, cells) = ([DIRT; TEXT], row("010"));
     for (atoms, bonds) in [
         (ATOM_TABLE - 1, BOND_TABLE),
         (ATOM_TABLE, BOND_TABLE - 1),
@@ -305,7 +307,7 @@ fn cells_have_bounds() {
 #[test]
 fn only_some_elements_can_be_selected() {
     for element in 0..=118 {
-        let mut lent = Lent::of("C.C");
+        let mut lent = Lent::of("C1CC1");
         lent.atoms[0] = element;
         lent.atoms[1] = 1;
         assert_eq!(is_valid(&lent), [6, 7, 8, 15, 16].contains(&element));

@@ -102,7 +102,7 @@ fn matchings_are_listed_in_order() {
     assert_eq!(matchings("c1cc[nH]c1"), ["01001"]);
     let naphthalene = ["10101010010", "01010101001", "01001010101"];
     assert_eq!(matchings("c1ccc2ccccc2c1"), naphthalene);
-    assert_eq!(matchings("cc"), ["1"]);
+    assert_eq!(matchings("CccC"), ["010"]);
     assert_eq!(matchings("O=c1cc[nH]cc1"), ["0010010"]);
     assert_eq!(matchings("CC"), ["0"]);
     assert_eq!(matchings("C"), [""]);
@@ -110,9 +110,18 @@ fn matchings_are_listed_in_order() {
 
 #[test]
 fn texts_without_a_matching_are_refused() {
-    for text in ["c1ccnc1", "c(c)(c)c", "c-c", "c", "c1cccc1", "[s+]1cccc1"] {
+    for text in ["c1ccnc1", "c1cc1-c1cc1", "CcC", "c1cccc1", "[s+]1cccc1"] {
         refused(text, Code::Unmatchable, 0);
     }
+}
+
+/// Request P6: told after an open bridge and before the matching, hydrogens being no bonds.
+#[test]
+fn loose_selected_atoms_are_refused() {
+    for text in ["cc", "c-c", "c", "c(c)(c)c", "[cH4]", "CCc", "c1cccc1.c"] {
+        refused(text, Code::LooseSelected, 0);
+    }
+    refused("cC1", Code::OpenBridge, 2);
 }
 
 /// Request P1.
@@ -328,12 +337,12 @@ fn the_grammar_is_kept() {
 
 #[test]
 fn sc_outside_brackets_is_two_atoms() {
-    let atoms = molecule("Scc").atoms;
+    let atoms = molecule("SccC").atoms;
     let seen: Vec<_> = atoms
         .iter()
         .map(|atom| (atom.element, atom.selected))
         .collect();
-    assert_eq!(seen, [(16, false), (6, true), (6, true)]);
+    assert_eq!(seen, [(16, false), (6, true), (6, true), (6, false)]);
     assert_eq!(molecule("[Sc]").atoms[0].element, 21);
 }
 
@@ -356,7 +365,7 @@ fn the_fields_of_a_bracket_are_read() {
         charge: 1,
         extension: 10,
     };
-    assert_eq!(molecule("[10nH+:10]n").atoms[0], atom);
+    assert_eq!(molecule("[10nH+:10]1nC1").atoms[0], atom);
     assert_eq!(molecule("[*-2]").atoms[0].charge, -2);
     assert_eq!(molecule("[H]").atoms[0].hydrogens, 0);
     assert_eq!(molecule("[HH]").atoms[0].hydrogens, 1);
@@ -459,5 +468,5 @@ fn refusals_come_by_place_and_then_by_number() {
     refused("C11)", Code::SelfBridge, 2);
     refused("C1(", Code::Grammar, 3);
     refused("c1", Code::OpenBridge, 1);
-    refused("c", Code::Unmatchable, 0);
+    refused("c", Code::LooseSelected, 0);
 }

@@ -1,5 +1,5 @@
 use denote.Ref.{now}
-use Rattle.table.proofs.Valid.{facts}
+use Rattle.table.proofs.Sound.{sound-valid}
 use Rattle.kekule.proofs.Kekule.{held, failed, row-room, call-short, call-invalid, call-done}
 use borrow.Author.Needs.{needs}
 use Rattle.kekule.proofs.call.Statement.{statement}
@@ -13,8 +13,8 @@ returns c =
     let a = c .before .before .before .args in
     call-short (a .c) (now (a .atoms)) (now (a .bonds)) (a .n) (a .m) (now (a .row)) (failed (c .before .roomy .ensures) (c .if1 .taken))
 
-valid-requires : tie.Need-valid-requires
-valid-requires c κs = search needs
+sound-requires : tie.Need-sound-requires
+sound-requires c κs = search needs
 
 clear-requires : tie.Need-clear-requires
 clear-requires c κs = search needs
@@ -25,12 +25,12 @@ same-length c = search needs
 returns-2 : tie.Need-returns-2
 returns-2 c =
     let a = c .before .before .before .before .before .before .before .before .before .args in
-    call-invalid (a .c) (now (a .atoms)) (now (a .bonds)) (a .n) (a .m) (now (a .row)) (held (c .before .before .before .before .before .before .before .roomy .ensures) (c .before .before .before .before .before .before .if1 .left)) (failed (c .before .before .before .before .before .valid .ensures) (c .before .before .before .before .if2 .taken)) (c .before .before .clear .ensures)
+    call-invalid (a .c) (now (a .atoms)) (now (a .bonds)) (a .n) (a .m) (now (a .row)) (held (c .before .before .before .before .before .before .before .roomy .ensures) (c .before .before .before .before .before .before .if1 .left)) (failed (c .before .before .before .before .before .sound .ensures) (c .before .before .before .before .if2 .taken)) (c .before .before .clear .ensures)
 
 call-valid-requires : tie.Need-call-valid-requires
 call-valid-requires c κs =
     let a = c .before .before .before .before .before .before .args in
-    let v = facts (now (a .atoms)) (now (a .bonds)) (a .n) (a .m) (held (c .before .before .valid .ensures) (c .before .if2 .left)) in
+    let v = sound-valid (now (a .atoms)) (now (a .bonds)) (a .n) (a .m) (held (c .before .before .sound .ensures) (c .before .if2 .left)) in
     (v, row-room (now (a .atoms)) (now (a .bonds)) (a .n) (a .m) _ (held (c .before .before .before .before .roomy .ensures) (c .before .before .before .if1 .left)) v)
 
 same-length-2 : tie.Need-same-length-2
@@ -39,7 +39,7 @@ same-length-2 c = search needs
 returns-3 : tie.Need-returns-3
 returns-3 c =
     let a = c .before .before .before .before .before .before .before .before .before .args in
-    call-done (a .c) (now (a .atoms)) (now (a .bonds)) (a .n) (a .m) (now (a .row)) (held (c .before .before .before .before .before .before .before .roomy .ensures) (c .before .before .before .before .before .before .if1 .left)) (held (c .before .before .before .before .before .valid .ensures) (c .before .before .before .before .if2 .left)) (c .before .before .call-valid .ensures)
+    call-done (a .c) (now (a .atoms)) (now (a .bonds)) (a .n) (a .m) (now (a .row)) (held (c .before .before .before .before .before .before .before .roomy .ensures) (c .before .before .before .before .before .before .if1 .left)) (held (c .before .before .before .before .before .sound .ensures) (c .before .before .before .before .if2 .left)) (c .before .before .call-valid .ensures)
 
 pub call-spec : {M : Type 1} → statement M
 call-spec =
@@ -47,7 +47,7 @@ call-spec =
     (tie.spec
     roomy-requires
     returns
-    valid-requires
+    sound-requires
     clear-requires
     same-length
     returns-2

@@ -1,5 +1,5 @@
 use denote.Ref.{now}
-use Rattle.table.proofs.Valid.{facts}
+use Rattle.table.proofs.Sound.{sound-valid}
 use Rattle.kekule.proofs.Kekule.{held, failed, row-room, kekulize-short, kekulize-invalid, kekulize-wrong, kekulize-done}
 use borrow.Author.Needs.{needs}
 use Rattle.kekule.proofs.kekulize.Statement.{statement}
@@ -19,8 +19,8 @@ returns c =
     let a = c .before .before .before .before .before .args in
     kekulize-short (now (a .atoms)) (now (a .bonds)) (a .n) (a .m) (now (a .row)) (failed (c .before .roomy .ensures) (c .if1 .taken))
 
-valid-requires : tie.Need-valid-requires
-valid-requires c κs = search needs
+sound-requires : tie.Need-sound-requires
+sound-requires c κs = search needs
 
 same-length-3 : tie.Need-same-length-3
 same-length-3 c = search needs
@@ -31,12 +31,12 @@ same-length-4 c = search needs
 returns-2 : tie.Need-returns-2
 returns-2 c =
     let a = c .before .before .before .before .before .before .before .before .before .args in
-    kekulize-invalid (now (a .atoms)) (now (a .bonds)) (a .n) (a .m) (now (a .row)) (held (c .before .before .before .before .before .roomy .ensures) (c .before .before .before .before .if1 .left)) (failed (c .before .valid .ensures) (c .if2 .taken))
+    kekulize-invalid (now (a .atoms)) (now (a .bonds)) (a .n) (a .m) (now (a .row)) (held (c .before .before .before .before .before .roomy .ensures) (c .before .before .before .before .if1 .left)) (failed (c .before .sound .ensures) (c .if2 .taken))
 
 is-matching-valid-requires : tie.Need-is-matching-valid-requires
 is-matching-valid-requires c κs =
     let a = c .before .before .before .before .before .before .before .before .before .before .before .args in
-    let v = facts (now (a .atoms)) (now (a .bonds)) (a .n) (a .m) (held (c .before .before .before .valid .ensures) (c .before .before .if2 .left)) in
+    let v = sound-valid (now (a .atoms)) (now (a .bonds)) (a .n) (a .m) (held (c .before .before .before .sound .ensures) (c .before .before .if2 .left)) in
     (v, row-room (now (a .atoms)) (now (a .bonds)) (a .n) (a .m) _ (held (c .before .before .before .before .before .before .before .roomy .ensures) (c .before .before .before .before .before .before .if1 .left)) v)
 
 same-length-5 : tie.Need-same-length-5
@@ -48,12 +48,12 @@ same-length-6 c = search needs
 returns-3 : tie.Need-returns-3
 returns-3 c =
     let a = c .before .before .before .before .before .before .before .before .before .before .before .before .before .args in
-    kekulize-wrong (now (a .atoms)) (now (a .bonds)) (a .n) (a .m) (now (a .row)) (held (c .before .before .before .before .before .before .before .before .before .roomy .ensures) (c .before .before .before .before .before .before .before .before .if1 .left)) (held (c .before .before .before .before .before .valid .ensures) (c .before .before .before .before .if2 .left)) (failed (c .before .is-matching-valid .ensures) (c .if3 .taken))
+    kekulize-wrong (now (a .atoms)) (now (a .bonds)) (a .n) (a .m) (now (a .row)) (held (c .before .before .before .before .before .before .before .before .before .roomy .ensures) (c .before .before .before .before .before .before .before .before .if1 .left)) (held (c .before .before .before .before .before .sound .ensures) (c .before .before .before .before .if2 .left)) (failed (c .before .is-matching-valid .ensures) (c .if3 .taken))
 
 kekulize-valid-requires : tie.Need-kekulize-valid-requires
 kekulize-valid-requires c κs =
     let a = c .before .before .before .before .before .before .before .before .before .before .before .before .before .before .before .args in
-    let v = facts (now (a .atoms)) (now (a .bonds)) (a .n) (a .m) (held (c .before .before .before .before .before .before .before .valid .ensures) (c .before .before .before .before .before .before .if2 .left)) in
+    let v = sound-valid (now (a .atoms)) (now (a .bonds)) (a .n) (a .m) (held (c .before .before .before .before .before .before .before .sound .ensures) (c .before .before .before .before .before .before .if2 .left)) in
     record { few-atoms = v .few-atoms; few-bonds = v .few-bonds; room = row-room (now (a .atoms)) (now (a .bonds)) (a .n) (a .m) _ (held (c .before .before .before .before .before .before .before .before .before .before .before .roomy .ensures) (c .before .before .before .before .before .before .before .before .before .before .if1 .left)) v }
 
 same-length-7 : tie.Need-same-length-7
@@ -65,7 +65,7 @@ same-length-8 c = search needs
 returns-4 : tie.Need-returns-4
 returns-4 c =
     let a = c .before .before .before .before .before .before .before .before .before .before .before .before .before .before .before .before .before .before .args in
-    kekulize-done (now (a .atoms)) (now (a .bonds)) (a .n) (a .m) (now (a .row)) (held (c .before .before .before .before .before .before .before .before .before .before .before .before .before .before .roomy .ensures) (c .before .before .before .before .before .before .before .before .before .before .before .before .before .if1 .left)) (held (c .before .before .before .before .before .before .before .before .before .before .valid .ensures) (c .before .before .before .before .before .before .before .before .before .if2 .left)) (held (c .before .before .before .before .before .before .is-matching-valid .ensures) (c .before .before .before .before .before .if3 .left)) (c .before .before .kekulize-valid .ensures)
+    kekulize-done (now (a .atoms)) (now (a .bonds)) (a .n) (a .m) (now (a .row)) (held (c .before .before .before .before .before .before .before .before .before .before .before .before .before .before .roomy .ensures) (c .before .before .before .before .before .before .before .before .before .before .before .before .before .if1 .left)) (held (c .before .before .before .before .before .before .before .before .before .before .sound .ensures) (c .before .before .before .before .before .before .before .before .before .if2 .left)) (held (c .before .before .before .before .before .before .is-matching-valid .ensures) (c .before .before .before .before .before .if3 .left)) (c .before .before .kekulize-valid .ensures)
 
 pub kekulize-spec : {M : Type 1} → statement M
 kekulize-spec =
@@ -75,7 +75,7 @@ kekulize-spec =
     same-length
     same-length-2
     returns
-    valid-requires
+    sound-requires
     same-length-3
     same-length-4
     returns-2

@@ -1,5 +1,5 @@
 use Rattle.writer.proofs.Answer.{zeroed, short1, short2, short3, told13, told-valid}
-use Rattle.table.proofs.Valid.{facts}
+use Rattle.table.proofs.Sound.{sound-valid}
 use borrow.Author.Tests.{not-true, not-false}
 use mathlib.Core.Path.{refl, sym, _∙_}
 use borrow.Author.Needs.{needs}
@@ -18,8 +18,8 @@ returns-2 c = short2 _ _ _ _ _ _ (sym (c .before .before .enough .ensures) ∙ n
 returns-3 : tie.Need-returns-3
 returns-3 c = short3 _ _ _ _ _ _ (sym (c .before .before .before .enough .ensures) ∙ not-false _ (c .before .before .if1 .left)) (c .before .if2 .left) (c .if3 .taken)
 
-valid-requires : tie.Need-valid-requires
-valid-requires c κs = search needs
+sound-requires : tie.Need-sound-requires
+sound-requires c κs = search needs
 
 clear-all-requires : tie.Need-clear-all-requires
 clear-all-requires c κs = search needs
@@ -31,10 +31,10 @@ same-length-2 : tie.Need-same-length-2
 same-length-2 c = search needs
 
 returns-4 : tie.Need-returns-4
-returns-4 c = let a = c .before .before .before .before .before .before .before .before .before .before .before .before .before .before .before .args in zeroed 13 (a .out .now) (a .ren .now) (a .out .now) (c .before .before .before .before .clear-all .last .0) (c .before .before .before .before .clear-all .last .1 .0) refl (c .before .before .before .before .clear-all .ensures .0) (c .before .before .before .before .clear-all .ensures .1) ∙ told13 _ _ _ _ _ _ (sym (c .before .before .before .before .before .before .before .before .before .before .before .before .enough .ensures) ∙ not-false _ (c .before .before .before .before .before .before .before .before .before .before .before .if1 .left)) (c .before .before .before .before .before .before .before .before .before .before .if2 .left) (c .before .before .before .before .before .before .before .before .before .if3 .left) (sym (c .before .before .before .before .before .before .before .before .valid .ensures) ∙ not-true _ (c .before .before .before .before .before .before .before .if4 .taken))
+returns-4 c = let a = c .before .before .before .before .before .before .before .before .before .before .before .before .before .before .before .args in zeroed 13 (a .out .now) (a .ren .now) (a .out .now) (c .before .before .before .before .clear-all .last .0) (c .before .before .before .before .clear-all .last .1 .0) refl (c .before .before .before .before .clear-all .ensures .0) (c .before .before .before .before .clear-all .ensures .1) ∙ told13 _ _ _ _ _ _ (sym (c .before .before .before .before .before .before .before .before .before .before .before .before .enough .ensures) ∙ not-false _ (c .before .before .before .before .before .before .before .before .before .before .before .if1 .left)) (c .before .before .before .before .before .before .before .before .before .before .if2 .left) (c .before .before .before .before .before .before .before .before .before .if3 .left) (sym (c .before .before .before .before .before .before .before .before .sound .ensures) ∙ not-true _ (c .before .before .before .before .before .before .before .if4 .taken))
 
 write-valid-requires : tie.Need-write-valid-requires
-write-valid-requires c κs = (facts _ _ _ _ (sym (c .before .before .before .valid .ensures) ∙ not-false _ (c .before .before .if4 .left)), (c .before .before .before .before .before .if2 .left, c .before .before .before .before .if3 .left))
+write-valid-requires c κs = (sound-valid _ _ _ _ (sym (c .before .before .before .sound .ensures) ∙ not-false _ (c .before .before .if4 .left)), (c .before .before .before .before .before .if2 .left, c .before .before .before .before .if3 .left))
 
 same-length-3 : tie.Need-same-length-3
 same-length-3 c = search needs
@@ -43,7 +43,7 @@ same-length-4 : tie.Need-same-length-4
 same-length-4 c = search needs
 
 returns-5 : tie.Need-returns-5
-returns-5 c = c .before .before .before .before .write-valid .ensures ∙ told-valid _ _ _ _ _ _ (sym (c .before .before .before .before .before .before .before .before .before .before .before .before .enough .ensures) ∙ not-false _ (c .before .before .before .before .before .before .before .before .before .before .before .if1 .left)) (c .before .before .before .before .before .before .before .before .before .before .if2 .left) (c .before .before .before .before .before .before .before .before .before .if3 .left) (sym (c .before .before .before .before .before .before .before .before .valid .ensures) ∙ not-false _ (c .before .before .before .before .before .before .before .if4 .left))
+returns-5 c = c .before .before .before .before .write-valid .ensures ∙ told-valid _ _ _ _ _ _ (sym (c .before .before .before .before .before .before .before .before .before .before .before .before .enough .ensures) ∙ not-false _ (c .before .before .before .before .before .before .before .before .before .before .before .if1 .left)) (c .before .before .before .before .before .before .before .before .before .before .if2 .left) (c .before .before .before .before .before .before .before .before .before .if3 .left) (sym (c .before .before .before .before .before .before .before .before .sound .ensures) ∙ not-false _ (c .before .before .before .before .before .before .before .if4 .left))
 
 pub write-spec : {M : Type 1} → statement M
 write-spec =
@@ -53,7 +53,7 @@ write-spec =
     returns
     returns-2
     returns-3
-    valid-requires
+    sound-requires
     clear-all-requires
     same-length
     same-length-2

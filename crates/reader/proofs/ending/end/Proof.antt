@@ -1,5 +1,6 @@
-use mathlib.Core.Path.{sym, _∙_}
-use Rattle.reader.proofs.Ends.{ended-open, ended-matched, ended-unmatched}
+use mathlib.Core.Path.{sym, ap, _∙_}
+use Rattle.table.specs.Valid.{checkCode}
+use Rattle.reader.proofs.Ends.{ended-open, ended-late, ended-placed}
 use borrow.Author.Needs.{needs}
 use Rattle.reader.proofs.ending.end.Statement.{statement}
 use Rattle.reader.proofs.ending.end.Tie as tie
@@ -7,11 +8,8 @@ use Rattle.reader.proofs.ending.end.Tie as tie
 leftmost-requires : tie.Need-leftmost-requires
 leftmost-requires c κs = search needs
 
-clear-requires : tie.Need-clear-requires
-clear-requires c κs = search needs
-
-clear-requires-2 : tie.Need-clear-requires-2
-clear-requires-2 c κs = search needs
+refuse-whole-requires : tie.Need-refuse-whole-requires
+refuse-whole-requires c κs = search needs
 
 same-length : tie.Need-same-length
 same-length c = search needs
@@ -20,10 +18,25 @@ same-length-2 : tie.Need-same-length-2
 same-length-2 c = search needs
 
 returns : tie.Need-returns
-returns c = ended-open _ _ _ (c .before .before .before .before .before .before .before .leftmost .ensures) (c .before .before .before .before .before .before .if1 .taken) (c .before .before .before .before .clear .ensures) (c .before .clear2 .ensures)
+returns c = ended-open _ _ _ (c .before .before .before .before .before .before .leftmost .ensures) (c .before .before .before .before .before .if1 .taken) (c .before .before .refuse-whole .ensures)
 
 complete-requires : tie.Need-complete-requires
 complete-requires c κs = search needs
+
+late-check-requires : tie.Need-late-check-requires
+late-check-requires c κs = rw (c .before .before .before .complete .ensures .hydrogens) (c .before .before .before .before .before .before .before .before .before .before .pre .1)
+
+enum-told : tie.Need-enum-told
+enum-told c = search needs
+
+place-requires : tie.Need-place-requires
+place-requires c κs = search needs
+
+enum-known-r : tie.Need-enum-known-r
+enum-known-r c = search needs
+
+refuse-whole-requires-2 : tie.Need-refuse-whole-requires-2
+refuse-whole-requires-2 c κs = search needs
 
 same-length-3 : tie.Need-same-length-3
 same-length-3 c = search needs
@@ -33,14 +46,9 @@ same-length-4 c = search needs
 
 returns-2 : tie.Need-returns-2
 returns-2 c =
-    let e = c .before .before .complete .ensures in
-    ended-matched _ _ _ (c .before .before .before .before .before .before .leftmost .ensures) (c .before .before .before .before .before .if1 .left) (e .hydrogens) (e .overfull) (sym (e .matched) ∙ c .if2 .taken)
-
-clear-requires-3 : tie.Need-clear-requires-3
-clear-requires-3 c κs = search needs
-
-clear-requires-4 : tie.Need-clear-requires-4
-clear-requires-4 c κs = search needs
+    let e = c .before .before .before .before .before .before .before .before .before .before .before .complete .ensures in
+    let k = c .before .before .before .before .before .before .before .late-check in
+    ended-placed _ _ _ (c .before .before .before .before .before .before .before .before .before .before .before .before .before .before .before .leftmost .ensures) (c .before .before .before .before .before .before .before .before .before .before .before .before .before .before .if1 .left) (e .hydrogens) (ap checkCode (sym (c .before .before .before .before .before .enum-told .given .1)) ∙ k .ensures) (e .overfull) (e .matched) (c .before .before .place .ensures)
 
 same-length-5 : tie.Need-same-length-5
 same-length-5 c = search needs
@@ -50,25 +58,28 @@ same-length-6 c = search needs
 
 returns-3 : tie.Need-returns-3
 returns-3 c =
-    let e = c .before .before .before .before .before .before .before .before .complete .ensures in
-    ended-unmatched _ _ _ (c .before .before .before .before .before .before .before .before .before .before .before .before .leftmost .ensures) (c .before .before .before .before .before .before .before .before .before .before .before .if1 .left) (e .hydrogens) (sym (e .matched) ∙ c .before .before .before .before .before .before .if2 .left) (c .before .before .before .before .clear3 .ensures) (c .before .clear4 .ensures)
+    let e = c .before .before .before .before .before .before .before .before .before .before .before .before .complete .ensures in
+    let k = c .before .before .before .before .before .before .before .before .late-check in
+    ended-late _ _ _ (c .before .before .before .before .before .before .before .before .before .before .before .before .before .before .before .before .leftmost .ensures) (c .before .before .before .before .before .before .before .before .before .before .before .before .before .before .before .if1 .left) (e .hydrogens) (c .before .before .before .before .before .before .r .given .0 .0) (ap checkCode (sym (c .before .before .before .before .before .before .r .given .1)) ∙ k .ensures) (c .before .before .refuse-whole2 .ensures)
 
 pub end-spec : {M : Type 1} → statement M
 end-spec =
     tie.close
     (tie.spec
     leftmost-requires
-    clear-requires
-    clear-requires-2
+    refuse-whole-requires
     same-length
     same-length-2
     returns
     complete-requires
+    late-check-requires
+    enum-told
+    place-requires
+    enum-known-r
+    refuse-whole-requires-2
     same-length-3
     same-length-4
     returns-2
-    clear-requires-3
-    clear-requires-4
     same-length-5
     same-length-6
     returns-3)

@@ -1,0 +1,47 @@
+-- 02, P6: the checks that come late, after 10 in reading, and that belong to soundness ("added to soundness"); sound tables
+use Prim.Native.Nat.{ℕ, _+_, _<_}
+use mathlib.Core.Path.{_≡_}
+use mathlib.Core.List.{List}
+use mathlib.Core.Bool.{Bool, _&&_, _||_, not}
+use lib.IntN.{ℤ}
+use lib.Dec.{eqb, ltb}
+use Rattle.loops.specs.Loop.{pick, each, run}
+use Rattle.table.specs.Cells.{selected, end1, end2}
+use Rattle.table.specs.Valid.{valid, enough}
+
+-- the atom a is an end of the bond b
+unfoldable pub touches : List ℤ → ℕ → ℕ → Bool
+touches bonds a b = eqb (end1 bonds b) a || eqb (end2 bonds b) a
+
+-- how many of m bonds an atom has, to any neighbour; its hydrogens are none
+abbrev pub countBond : List ℤ → ℕ → ℕ → ℕ → ℕ
+countBond bonds a b k = k + pick (touches bonds a b) 1 0
+
+unfoldable pub bondDegree : List ℤ → ℕ → ℕ → ℕ
+bondDegree bonds m a = run (countBond bonds a) 0 m 0
+
+-- 22: "a selected atom with fewer than two bonds"
+abbrev pub loose : List ℤ → List ℤ → ℕ → ℕ → Bool
+loose atoms bonds m a = eqb (selected atoms a) 1 && ltb (bondDegree bonds m a) 2
+
+unfoldable pub noneLoose : List ℤ → List ℤ → ℕ → ℕ → Bool
+noneLoose atoms bonds n m = each (λ a. not (loose atoms bonds m a)) 0 n
+
+-- the same in words: such an atom
+pub record LooseAtom (atoms bonds : List ℤ) (n m : ℕ) : Type 0 where
+  pub atom : ℕ
+  pub used : atom < n
+  pub is-selected : selected atoms atom ≡ 1
+  pub few-bonds : bondDegree bonds m atom < 2
+
+-- the late checks in their order: the code of the first that the molecule fails, 0 if it passes all
+unfoldable pub lateCode : List ℤ → List ℤ → ℕ → ℕ → ℕ
+lateCode atoms bonds n m = pick (noneLoose atoms bonds n m) 0 22
+
+-- 01's "sound": valid, and no late check fails
+unfoldable pub sound : List ℤ → List ℤ → ℕ → ℕ → Bool
+sound atoms bonds n m = valid atoms bonds n m && eqb (lateCode atoms bonds n m) 0
+
+-- 01, When a call says no: 1, then 13
+unfoldable pub checkOf : List ℤ → List ℤ → ℕ → ℕ → ℕ
+checkOf atoms bonds n m = pick (enough atoms bonds) (pick (sound atoms bonds n m) 0 13) 1
