@@ -195,7 +195,7 @@ module _ {o v u k o2 v2 u2 k2 o3 v3 u3 k3 : List ℕ} (a : Kept o v u k o2 v2 u2
         kind = ap length ek ∙ length-set k2 count q ∙ a .kind;
       }
 
-pub room-kept : {o v u k o2 v2 u2 k2 : List ℕ} → Room o v u k → Kept o v u k o2 v2 u2 k2 → Room o2 v2 u2 k2
+pub room-kept : {n : ℕ} {o v u k o2 v2 u2 k2 : List ℕ} → Room n o v u k → Kept o v u k o2 v2 u2 k2 → Room n o2 v2 u2 k2
 room-kept r e =
     record {
       order = omega (arith, r .order, e .order);
