@@ -18,7 +18,7 @@ pub record Word (n k : ℕ) (t : List ℕ) : Type 0 where
   pub size : length t ≡ k
   pub below : All (λ d. d < n) t
 
-words-all : (n k : ℕ) → All (Word n k) (words n k)
+pub words-all : (n k : ℕ) → All (Word n k) (words n k)
 unfolding words
 words-all n zero = more (record { size = refl; below = none }) none
 words-all n (suc k) =
