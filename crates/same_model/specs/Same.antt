@@ -28,6 +28,9 @@ pub record Molecule : Type 0 where
   pub n : ℕ
   pub m : ℕ
 
+abbrev pub molecule : List ℤ → List ℤ → ℕ → ℕ → Molecule
+molecule atoms bonds n m = record { atoms = atoms; bonds = bonds; n = n; m = m }
+
 -- the row is a matching ("placement") of the molecule, and all such rows in 01's order
 abbrev pub isPlacement : Molecule → Row → Bool
 isPlacement x = matchingOf (x .atoms) (x .bonds) (x .n) (x .m)
