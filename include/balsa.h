@@ -6,7 +6,7 @@
  * are valid for their lengths and aligned, and no slice that is written overlaps another one.
  *
  * Tables: 6 cells for an atom (element, selected, isotope, hydrogens, charge, extension), 3 for a bond
- * (first end, second end, kind). Least lengths: atoms 1200, bonds 750, row 250, out 4096, ren 200.
+ * (first end, second end, kind). Least lengths: atoms 6000, bonds 3300, row 1100, out 16384, ren 1000.
  * n and m are the numbers of atoms and bonds in the tables.
  *
  * Codes: 0 accepted, 1 to 22 the refusals of docs/RULES.md, 255 "end" (balsa_next, balsa_register_walk). Refusal 1 changes
@@ -22,11 +22,11 @@ extern "C" {
 #endif
 
 enum {
-    BALSA_ATOM_TABLE = 1200,
-    BALSA_BOND_TABLE = 750,
-    BALSA_ROW = 250,
-    BALSA_TEXT = 4096,
-    BALSA_RENUMBERING = 200,
+    BALSA_ATOM_TABLE = 6000,
+    BALSA_BOND_TABLE = 3300,
+    BALSA_ROW = 1100,
+    BALSA_TEXT = 16384,
+    BALSA_RENUMBERING = 1000,
     BALSA_END = 255
 };
 

@@ -8,13 +8,13 @@ use std::fmt;
 pub enum Code {
     /// A buffer is too short.
     Short = 1,
-    /// The text is over 4,096 bytes.
+    /// The text is over 16,384 bytes.
     LongText = 2,
     /// No text of the grammar continues so.
     Grammar = 3,
-    /// A 201st atom begins.
+    /// A 1,001st atom begins.
     ManyAtoms = 4,
-    /// A 251st bond is to be made.
+    /// A 1,101st bond is to be made.
     ManyBonds = 5,
     /// A 65th branch opens inside 64.
     DeepBranch = 6,
@@ -36,7 +36,7 @@ pub enum Code {
     ManyBridges = 14,
     /// The written branches would nest over 64 deep.
     DeepWriting = 15,
-    /// The written text would be over 4,096 bytes.
+    /// The written text would be over 16,384 bytes.
     LongWriting = 16,
     /// The layout of the register breaks a rule.
     InvalidRegister = 17,
