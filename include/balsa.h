@@ -13,8 +13,8 @@
  * nothing; any other zeroes what is named as output; an acceptance zeroes the unused rest.
  *
  * Threads: a call keeps nothing, allocates nothing and takes no lock; it works on what it is lent and on
- * its stack. Calls may run at once in any threads as long as none is lent what another one writes; a
- * call from a signal handler is welcome. Stack: a thread of 192 KiB is enough for every call (seen: 173 KB). */
+ * its stack. Calls may run at once in any threads as long as none is lent what another one writes.
+ * Stack: 192 KiB are enough for every call (docs/PERFORMANCE.md has what was seen). */
 #ifndef BALSA_H
 #define BALSA_H
 
