@@ -6,6 +6,8 @@ use crate::failure::{Failure, Verdict};
 use crate::lines;
 use crate::output;
 use crate::progress::Progress;
+use balsa::tables::{self, ATOM_TABLE, BOND_TABLE, RENUMBERING, ROW, TEXT};
+use balsa::Refusal;
 use std::io::{self, Write};
 
 pub static COMMAND: Command = Command {
@@ -17,86 +19,102 @@ pub static COMMAND: Command = Command {
     run,
 };
 
-/// Bytes of input that are reported at a time.
-const CHUNK: usize = 1 << 16;
-
 fn run(arguments: &Arguments) -> Result<Verdict, Failure> {
-    let mut report = Report::new();
+    let mut out = output::stdout();
     let mut progress = Progress::new();
-    report.out.write_all(b"balsa report\n")?;
+    let mut buffers = Buffers::new();
+    let mut line = Vec::new();
+    let (mut accepted, mut refused) = (0_u64, 0_u64);
+    out.write_all(b"balsa report\n")?;
     let texts = lines::each_text(arguments, |text| {
         progress.step();
-        report.add(text.bytes)?;
-        Ok(())
+        line.clear();
+        write!(line, "{}: ", accepted + refused + 1)?;
+        match buffers.answer(text.bytes) {
+            Ok(answer) => {
+                accepted += 1;
+                answer.print(&mut line)?;
+            }
+            Err(Refusal { code, place }) => {
+                refused += 1;
+                writeln!(line, "{} {place}", code.number())?;
+            }
+        }
+        Ok(out.write_all(&line)?)
     });
     progress.clear();
-    report.tell()?;
     if texts.is_ok() {
-        let [accepted, refused] = report.totals;
-        writeln!(report.out, "accepted {accepted} refused {refused}")?;
+        writeln!(out, "accepted {accepted} refused {refused}")?;
     }
-    report.out.flush()?;
+    out.flush()?;
     texts.map(|()| Verdict::Accepted)
 }
 
-/// A report of many lines, made of the reports of some of them at a time, numbered on.
-struct Report {
-    out: Box<dyn Write>,
-    lines: Vec<u8>,
-    room: Vec<u8>,
-    told: usize,
-    totals: [usize; 2],
+/// What the calls are lent, text after text.
+struct Buffers {
+    atoms: Vec<i32>,
+    bonds: Vec<i32>,
+    row: Vec<u8>,
+    text: Vec<u8>,
+    renumbering: Vec<u16>,
 }
 
-impl Report {
+/// What is said of an accepted text.
+struct Answer<'a> {
+    read: tables::Read,
+    row: &'a [u8],
+    text: &'a [u8],
+}
+
+impl Buffers {
     fn new() -> Self {
-        Report {
-            out: output::stdout(),
-            lines: Vec::with_capacity(2 * CHUNK),
-            room: vec![0; 4 * CHUNK],
-            told: 0,
-            totals: [0; 2],
+        Buffers {
+            atoms: vec![0; ATOM_TABLE],
+            bonds: vec![0; BOND_TABLE],
+            row: vec![0; ROW],
+            text: vec![0; TEXT],
+            renumbering: vec![0; RENUMBERING],
         }
     }
 
-    /// Adds a line. On a line of an argument a line feed is a byte like another: it is refused as one
-    /// that begins no text.
-    fn add(&mut self, text: &[u8]) -> io::Result<()> {
-        let text = text
-            .iter()
-            .map(|&byte| if byte == b'\n' { b'\r' } else { byte });
-        self.lines.extend(text);
-        self.lines.push(b'\n');
-        if self.lines.len() < CHUNK {
-            return Ok(());
-        }
-        self.tell()
+    /// Reads a text, kekulizes by the first matching and writes.
+    fn answer(&mut self, text: &[u8]) -> Result<Answer<'_>, Refusal> {
+        let Buffers {
+            atoms,
+            bonds,
+            row,
+            text: written,
+            renumbering,
+        } = self;
+        let read = tables::read(text, atoms, bonds)?;
+        let counts = read.counts;
+        tables::first(atoms, bonds, counts, row)?;
+        tables::kekulize(atoms, bonds, counts, row)?;
+        let length = tables::write(atoms, bonds, counts, written, renumbering)?;
+        Ok(Answer {
+            read,
+            row: &row[..counts.bonds],
+            text: &written[..length],
+        })
     }
+}
 
-    /// Reports the lines that were added since.
-    fn tell(&mut self) -> io::Result<()> {
-        let length = loop {
-            match balsa::report_into(&self.lines, &mut self.room) {
-                Ok(length) => break length,
-                Err(_) => self.room.resize(2 * self.room.len(), 0),
-            }
-        };
-        self.lines.clear();
-        let head = self.room[..length].split(|&byte| byte == b'\n').skip(1);
-        for line in head {
-            match line.iter().position(|&byte| byte == b':') {
-                Some(colon) => {
-                    self.told += 1;
-                    let line = &line[colon..];
-                    self.totals[usize::from(!line.starts_with(b": 0 "))] += 1;
-                    write!(self.out, "{}", self.told)?;
-                    self.out.write_all(line)?;
-                    self.out.write_all(b"\n")?;
-                }
-                // the totals of these lines
-                None => break,
-            }
-        }
+impl Answer<'_> {
+    fn print(&self, line: &mut Vec<u8>) -> io::Result<()> {
+        let tables::Read { counts, overfull } = self.read;
+        write!(line, "0 {} {} {overfull} ", counts.atoms, counts.bonds)?;
+        line.extend(self.row.iter().map(|cell| b'0' + cell));
+        line.extend(if self.row.is_empty() {
+            &b"- "[..]
+        } else {
+            b" "
+        });
+        line.extend(if self.text.is_empty() {
+            b"-"
+        } else {
+            self.text
+        });
+        line.push(b'\n');
         Ok(())
     }
 }
