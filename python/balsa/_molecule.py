@@ -1,0 +1,234 @@
+"""A molecule that was read."""
+
+import struct
+from typing import NamedTuple
+
+from . import _native
+from ._bytes import as_bytes
+from ._native import ATOM_TABLE, BOND_TABLE, PLACED, give, lib, take
+from ._refusal import Refusal
+
+_NOT_MATCHING = 12
+
+
+class Atom(NamedTuple):
+    """An atom: atomic number (0 for `*`), 1 if selected (aromatic), isotope, hydrogens, charge, extension."""
+
+    element: int
+    selected: int
+    isotope: int
+    hydrogens: int
+    charge: int
+    extension: int
+
+
+class Bond(NamedTuple):
+    """A bond: its ends, the lower atom number first, and its kind (0 elided, 1, 2, 3)."""
+
+    first: int
+    second: int
+    kind: int
+
+
+class Written(NamedTuple):
+    """A written molecule: the text, and each atom's number in it."""
+
+    text: str
+    renumbering: tuple
+
+
+_ATOM = struct.Struct(f"={len(Atom._fields)}i")
+_BOND = struct.Struct(f"={len(Bond._fields)}i")
+_ATOM_BYTES = _ATOM.size
+_BOND_BYTES = _BOND.size
+assert (_ATOM_BYTES, _BOND_BYTES) == (4 * _native.ATOM_CELLS, 4 * _native.BOND_CELLS)
+
+
+class Molecule:
+    """A molecule. It does not change; molecules with the same tables, number by number, are equal.
+
+    >>> from balsa import Molecule
+    >>> furan = Molecule("o1cccc1")
+    >>> furan.atoms[0]
+    Atom(element=8, selected=1, isotope=0, hydrogens=0, charge=0, extension=0)
+    >>> furan.bonds[-1]
+    Bond(first=0, second=4, kind=0)
+    >>> furan.kekulized()
+    Molecule('O1C=CC=C1')
+
+    A text is a str or bytes; Refusal is raised where it is refused.
+    """
+
+    __slots__ = ("_atoms", "_bonds", "_overfull")
+
+    def __init__(self, text):
+        if type(text) is not bytes:
+            text = as_bytes(text)
+        lent = take()
+        try:
+            reply = lib.balsa_read(text, len(text), *lent.tables_lent)
+            code = reply.code
+            if code:
+                raise Refusal(code, reply.place if code in PLACED else None, text)
+            self._keep(lent, reply.atoms, reply.bonds, reply.overfull)
+        finally:
+            give(lent)
+
+    def _keep(self, lent, atoms, bonds, overfull):
+        """Keeps the used rows of the tables."""
+        self._atoms = lent.atoms[: _ATOM_BYTES * atoms].tobytes()
+        self._bonds = lent.bonds[: _BOND_BYTES * bonds].tobytes()
+        self._overfull = overfull
+
+    def _lend(self, lent):
+        """Puts the tables in the buffers; the numbers of atoms and bonds."""
+        atoms, bonds = self._atoms, self._bonds
+        lent.atoms[: len(atoms)] = atoms
+        lent.bonds[: len(bonds)] = bonds
+        return len(atoms) // _ATOM_BYTES, len(bonds) // _BOND_BYTES
+
+    @property
+    def atoms(self):
+        """The atoms, a tuple of Atom."""
+        return tuple(map(Atom._make, _ATOM.iter_unpack(self._atoms)))
+
+    @property
+    def bonds(self):
+        """The bonds, a tuple of Bond."""
+        return tuple(map(Bond._make, _BOND.iter_unpack(self._bonds)))
+
+    @property
+    def overfull(self):
+        """How many atoms outside brackets were over-full in the text: their bond sum is above every
+        target valence.
+
+        >>> from balsa import Molecule
+        >>> Molecule("FC(F)(F)(F)F").overfull
+        1
+        """
+        return self._overfull
+
+    def matchings(self):
+        """All matchings in order: an iterator of rows, 1 for each bond that becomes double."""
+        step = lib.balsa_first
+        row = b""
+        while True:
+            lent = take()
+            try:
+                counts = self._lend(lent)
+                lent.row[: len(row)] = row
+                code = step(*lent.tables_lent, *counts, *lent.row_lent)
+                row = lent.row[: counts[1]].tobytes()
+            finally:
+                give(lent)
+            if code:
+                return
+            yield tuple(row)
+            step = lib.balsa_next
+
+    def kekulized(self, matching=None):
+        """The molecule with the bonds of a matching double and no atom selected: the first one where
+        none is given. Refusal 12 where the row is not a matching.
+
+        >>> from balsa import Molecule
+        >>> benzene = Molecule("c1ccccc1")
+        >>> [benzene.kekulized(row).text for row in benzene.matchings()]
+        ['C1=CC=CC=C1', 'C=1C=CC=CC1']
+        """
+        lent = take()
+        try:
+            atoms, bonds = self._lend(lent)
+            arguments = (*lent.tables_lent, atoms, bonds, *lent.row_lent)
+            if matching is None:
+                _accept(lib.balsa_first(*arguments))
+            else:
+                row = _row(matching)
+                if len(row) != bonds:
+                    raise Refusal(_NOT_MATCHING)
+                lent.row[:bonds] = row
+            _accept(lib.balsa_kekulize(*arguments))
+            made = object.__new__(type(self))
+            made._keep(lent, atoms, bonds, self._overfull)
+            return made
+        finally:
+            give(lent)
+
+    @property
+    def text(self):
+        """The molecule as text. Refusal 14, 15 or 16 where it cannot be written.
+
+        >>> from balsa import Molecule
+        >>> Molecule("C(C)(O)").text
+        'C(C)O'
+        """
+        lent = take()
+        try:
+            return self._write(lent)
+        finally:
+            give(lent)
+
+    def written(self):
+        """The text together with each atom's number in it.
+
+        >>> from balsa import Molecule
+        >>> Molecule("C1.O.C1").written()
+        Written(text='CC.O', renumbering=(0, 2, 1))
+        """
+        lent = take()
+        try:
+            text = self._write(lent)
+            count = len(self._atoms) // _ATOM_BYTES
+            return Written(text, struct.unpack_from(f"={count}H", lent.renumbering))
+        finally:
+            give(lent)
+
+    def _write(self, lent):
+        reply = lib.balsa_write(*lent.tables_lent, *self._lend(lent), *lent.out_lent)
+        _accept(reply.code)
+        return str(lent.text[: reply.length], "ascii")
+
+    def __eq__(self, other):
+        if not isinstance(other, Molecule):
+            return NotImplemented
+        return self._atoms == other._atoms and self._bonds == other._bonds
+
+    def __hash__(self):
+        return hash((self._atoms, self._bonds))
+
+    def __repr__(self):
+        try:
+            return f"Molecule({self.text!r})"
+        except Refusal:
+            counts = len(self._atoms) // _ATOM_BYTES, len(self._bonds) // _BOND_BYTES
+            return "<Molecule of %d atoms and %d bonds>" % counts
+
+    def __reduce__(self):
+        return _restored, (type(self), self._atoms, self._bonds, self._overfull)
+
+
+for _public in (Atom, Bond, Written, Molecule):
+    _public.__module__ = "balsa"
+
+
+def _restored(kind, atoms, bonds, overfull):
+    """A molecule out of a pickle."""
+    if len(atoms) > 4 * ATOM_TABLE or len(bonds) > 4 * BOND_TABLE:
+        raise ValueError("the tables are too long")
+    made = object.__new__(kind)
+    made._atoms, made._bonds, made._overfull = atoms, bonds, overfull
+    return made
+
+
+def _accept(code):
+    if code:
+        raise Refusal(code)
+
+
+def _row(matching):
+    """A matching as bytes; cells that no byte holds make it none."""
+    if isinstance(matching, (str, int)):
+        raise TypeError(f"a matching is a sequence of 0 and 1, not {type(matching).__name__}")
+    try:
+        return bytes(matching)
+    except ValueError:
+        raise Refusal(_NOT_MATCHING) from None
