@@ -29,7 +29,8 @@ TEXTS = CORPUS + [b"C11", b"C1CC", b"cc", b"", b"C\x00", b"c1cccc1", b"x" * (_na
 
 def load_tests(loader, tests, pattern):
     tests.addTests(doctest.DocTestSuite(balsa))
-    tests.addTests(doctest.DocFileSuite(os.path.join(ROOT, "python", "README.md"), module_relative=False))
+    for readme in ["README.md", os.path.join("python", "README.md")]:
+        tests.addTests(doctest.DocFileSuite(os.path.join(ROOT, readme), module_relative=False))
     return tests
 
 

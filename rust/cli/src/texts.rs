@@ -51,6 +51,8 @@ pub fn run(arguments: &Arguments, command: &impl Answering) -> Result<Verdict, F
                 if is_json {
                     out.write_all(refused(&text, refusal).line().as_bytes())?;
                 } else {
+                    // so that results and refusals stand in order where both go to one place
+                    out.flush()?;
                     progress.clear();
                     messages.refused(&text, refusal)?;
                 }
