@@ -29,7 +29,7 @@ impl Progress {
     /// Counts a text.
     pub fn step(&mut self) {
         self.count += 1;
-        if self.is_shown && self.count % STRIDE == 0 && self.last.elapsed() >= PAUSE {
+        if self.is_shown && self.count.is_multiple_of(STRIDE) && self.last.elapsed() >= PAUSE {
             self.last = Instant::now();
             self.is_standing = true;
             let _ = write!(io::stderr(), "{CLEAR}{} texts", self.count);
