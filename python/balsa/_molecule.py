@@ -5,7 +5,7 @@ from typing import NamedTuple
 
 from . import _native
 from ._bytes import as_bytes
-from ._native import ATOM_TABLE, BOND_TABLE, PLACED, give, lib, take
+from ._native import ATOM_TABLE, BOND_TABLE, PLACED, give, lib, size, take
 from ._refusal import Refusal
 
 _NOT_MATCHING = 12
@@ -66,26 +66,29 @@ class Molecule:
             text = as_bytes(text)
         lent = take()
         try:
-            reply = lib.balsa_read(text, len(text), *lent.tables_lent)
+            reply = lib.balsa_read(text, size(len(text)), *lent.tables_lent)
             code = reply.code
             if code:
                 raise Refusal(code, reply.place if code in PLACED else None, text)
-            self._keep(lent, reply.atoms, reply.bonds, reply.overfull)
+            self._keep(lent, _ATOM_BYTES * reply.atoms, _BOND_BYTES * reply.bonds, reply.overfull)
         finally:
             give(lent)
 
-    def _keep(self, lent, atoms, bonds, overfull):
-        """Keeps the used rows of the tables."""
-        self._atoms = lent.atoms[: _ATOM_BYTES * atoms].tobytes()
-        self._bonds = lent.bonds[: _BOND_BYTES * bonds].tobytes()
+    def _keep(self, lent, atom_bytes, bond_bytes, overfull):
+        """Keeps so many bytes of the tables: the used rows."""
+        self._atoms = lent.atoms[:atom_bytes].tobytes()
+        self._bonds = lent.bonds[:bond_bytes].tobytes()
         self._overfull = overfull
 
     def _lend(self, lent):
-        """Puts the tables in the buffers; the numbers of atoms and bonds."""
+        """Puts the tables in the buffers; the arguments that lend them, with their counts."""
         atoms, bonds = self._atoms, self._bonds
         lent.atoms[: len(atoms)] = atoms
         lent.bonds[: len(bonds)] = bonds
-        return len(atoms) // _ATOM_BYTES, len(bonds) // _BOND_BYTES
+        return (*lent.tables_lent, size(len(atoms) // _ATOM_BYTES), size(len(bonds) // _BOND_BYTES))
+
+    def _counts(self):
+        return len(self._atoms) // _ATOM_BYTES, len(self._bonds) // _BOND_BYTES
 
     @property
     def atoms(self):
@@ -111,14 +114,14 @@ class Molecule:
     def matchings(self):
         """All matchings in order: an iterator of rows, 1 for each bond that becomes double."""
         step = lib.balsa_first
-        row = b""
+        _, bonds = self._counts()
+        row = bytes(bonds)
         while True:
             lent = take()
             try:
-                counts = self._lend(lent)
-                lent.row[: len(row)] = row
-                code = step(*lent.tables_lent, *counts, *lent.row_lent)
-                row = lent.row[: counts[1]].tobytes()
+                lent.row[:bonds] = row
+                code = step(*self._lend(lent), *lent.row_lent)
+                row = lent.row[:bonds].tobytes()
             finally:
                 give(lent)
             if code:
@@ -137,18 +140,15 @@ class Molecule:
         """
         lent = take()
         try:
-            atoms, bonds = self._lend(lent)
-            arguments = (*lent.tables_lent, atoms, bonds, *lent.row_lent)
+            arguments = (*self._lend(lent), *lent.row_lent)
             if matching is None:
                 _accept(lib.balsa_first(*arguments))
             else:
-                row = _row(matching)
-                if len(row) != bonds:
-                    raise Refusal(_NOT_MATCHING)
-                lent.row[:bonds] = row
+                row = _row(matching, self._counts()[1])
+                lent.row[: len(row)] = row
             _accept(lib.balsa_kekulize(*arguments))
             made = object.__new__(type(self))
-            made._keep(lent, atoms, bonds, self._overfull)
+            made._keep(lent, len(self._atoms), len(self._bonds), self._overfull)
             return made
         finally:
             give(lent)
@@ -177,13 +177,12 @@ class Molecule:
         lent = take()
         try:
             text = self._write(lent)
-            count = len(self._atoms) // _ATOM_BYTES
-            return Written(text, struct.unpack_from(f"={count}H", lent.renumbering))
+            return Written(text, struct.unpack_from(f"={self._counts()[0]}H", lent.renumbering))
         finally:
             give(lent)
 
     def _write(self, lent):
-        reply = lib.balsa_write(*lent.tables_lent, *self._lend(lent), *lent.out_lent)
+        reply = lib.balsa_write(*self._lend(lent), *lent.out_lent)
         _accept(reply.code)
         return str(lent.text[: reply.length], "ascii")
 
@@ -199,8 +198,7 @@ class Molecule:
         try:
             return f"Molecule({self.text!r})"
         except Refusal:
-            counts = len(self._atoms) // _ATOM_BYTES, len(self._bonds) // _BOND_BYTES
-            return "<Molecule of %d atoms and %d bonds>" % counts
+            return "<Molecule of %d atoms and %d bonds>" % self._counts()
 
     def __reduce__(self):
         return _restored, (type(self), self._atoms, self._bonds, self._overfull)
@@ -224,11 +222,14 @@ def _accept(code):
         raise Refusal(code)
 
 
-def _row(matching):
-    """A matching as bytes; cells that no byte holds make it none."""
+def _row(matching, bonds):
+    """A matching as bytes; with another length, or with cells that no byte holds, it is none."""
     if isinstance(matching, (str, int)):
         raise TypeError(f"a matching is a sequence of 0 and 1, not {type(matching).__name__}")
     try:
-        return bytes(matching)
+        row = bytes(matching)
     except ValueError:
         raise Refusal(_NOT_MATCHING) from None
+    if len(row) != bonds:
+        raise Refusal(_NOT_MATCHING)
+    return row

@@ -63,16 +63,16 @@ def _open():
 
 
 def _declare(library):
-    """Gives each call its types."""
+    """Gives each call its types. The calls on molecules have no types for what they are handed: that is
+    always `bytes`, what `_lent` makes or a `size`, and to look at it anew takes as long as the call."""
     lent, size, code = ctypes.c_void_p, ctypes.c_size_t, ctypes.c_uint32
     read_only = ctypes.c_char_p
-    tables = [lent, size, lent, size, size, size]
     for name, answer, arguments in [
-        ("read", ReadReply, [read_only, size, lent, size, lent, size]),
-        ("write", LengthReply, tables + [lent, size, lent, size]),
-        ("first", code, tables + [lent, size]),
-        ("next", code, tables + [lent, size]),
-        ("kekulize", code, tables + [lent, size]),
+        ("read", ReadReply, None),
+        ("write", LengthReply, None),
+        ("first", code, None),
+        ("next", code, None),
+        ("kekulize", code, None),
         ("report", LengthReply, [read_only, size, lent, size]),
         ("report_length", size, [read_only, size]),
         ("register_empty", code, [lent, size]),
@@ -89,6 +89,16 @@ def _declare(library):
 
 
 lib = _declare(_open())
+
+
+# Usual counts and lengths, ready to be handed to a call.
+_READY = 1024
+_SIZES = tuple(map(ctypes.c_size_t, range(_READY)))
+
+
+def size(number):
+    """A count or a length as a call takes it."""
+    return _SIZES[number] if number < _READY else ctypes.c_size_t(number)
 
 
 def _lent(kind, length):
