@@ -42,7 +42,7 @@ def build_wheel(wheel_directory, config_settings=None, metadata_directory=None):
 def _module():
     folder = os.path.join(HERE, "balsa")
     for name in sorted(os.listdir(folder)):
-        if name.endswith(".py"):
+        if name.endswith(".py") or name == "py.typed":
             yield f"balsa/{name}", _bytes(os.path.join(folder, name))
 
 

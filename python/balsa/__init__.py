@@ -18,7 +18,7 @@ balsa.Refusal: refusal 7 at byte 2: a bridge joins an atom to itself
   C11
     ^
 
-Every call may be made from any thread.
+Molecules may be used from any threads at once, a register from one at a time.
 """
 
 from ._molecule import Atom, Bond, Molecule, Written

@@ -1,7 +1,9 @@
 """A molecule that was read."""
 
+from __future__ import annotations
+
 import struct
-from typing import NamedTuple
+from typing import Iterator, NamedTuple, Optional, Sequence, Tuple, Union
 
 from . import _native
 from ._bytes import as_bytes
@@ -34,7 +36,7 @@ class Written(NamedTuple):
     """A written molecule: the text, and each atom's number in it."""
 
     text: str
-    renumbering: tuple
+    renumbering: Tuple[int, ...]
 
 
 _ATOM = struct.Struct(f"={len(Atom._fields)}i")
@@ -61,7 +63,7 @@ class Molecule:
 
     __slots__ = ("_atoms", "_bonds", "_overfull")
 
-    def __init__(self, text):
+    def __init__(self, text: Union[str, bytes]) -> None:
         if type(text) is not bytes:
             text = as_bytes(text)
         lent = take()
@@ -91,17 +93,17 @@ class Molecule:
         return len(self._atoms) // _ATOM_BYTES, len(self._bonds) // _BOND_BYTES
 
     @property
-    def atoms(self):
+    def atoms(self) -> Tuple[Atom, ...]:
         """The atoms, a tuple of Atom."""
         return tuple(map(Atom._make, _ATOM.iter_unpack(self._atoms)))
 
     @property
-    def bonds(self):
+    def bonds(self) -> Tuple[Bond, ...]:
         """The bonds, a tuple of Bond."""
         return tuple(map(Bond._make, _BOND.iter_unpack(self._bonds)))
 
     @property
-    def overfull(self):
+    def overfull(self) -> int:
         """How many atoms outside brackets were over-full in the text: their bond sum is above every
         target valence.
 
@@ -111,7 +113,7 @@ class Molecule:
         """
         return self._overfull
 
-    def matchings(self):
+    def matchings(self) -> Iterator[Tuple[int, ...]]:
         """All matchings in order: an iterator of rows, 1 for each bond that becomes double."""
         step = lib.balsa_first
         _, bonds = self._counts()
@@ -129,7 +131,7 @@ class Molecule:
             yield tuple(row)
             step = lib.balsa_next
 
-    def kekulized(self, matching=None):
+    def kekulized(self, matching: Optional[Sequence[int]] = None) -> Molecule:
         """The molecule with the bonds of a matching double and no atom selected: the first one where
         none is given. Refusal 12 where the row is not a matching.
 
@@ -154,7 +156,7 @@ class Molecule:
             give(lent)
 
     @property
-    def text(self):
+    def text(self) -> str:
         """The molecule as text. Refusal 14, 15 or 16 where it cannot be written.
 
         >>> from balsa import Molecule
@@ -167,7 +169,7 @@ class Molecule:
         finally:
             give(lent)
 
-    def written(self):
+    def written(self) -> Written:
         """The text together with each atom's number in it.
 
         >>> from balsa import Molecule

@@ -1,5 +1,9 @@
 """Why a call says no."""
 
+from __future__ import annotations
+
+from typing import Optional
+
 from . import _native
 
 # The most bytes of a text that a message shows, and what stands where it is cut.
@@ -19,7 +23,7 @@ class Refusal(ValueError):
     10 1 a bridge is open at the end
     """
 
-    def __init__(self, code, place=None, text=None):
+    def __init__(self, code: int, place: Optional[int] = None, text: Optional[bytes] = None) -> None:
         super().__init__(code, place, text)
         self.code = code
         self.place = place

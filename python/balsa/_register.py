@@ -1,6 +1,9 @@
 """A register of entries, each a tag and a body."""
 
+from __future__ import annotations
+
 import ctypes
+from typing import Optional, Union
 
 from ._bytes import as_bytes
 from ._native import REGISTER, lib
@@ -15,33 +18,31 @@ class Register:
     >>> register.add(7, "c1ccccc1")
     >>> list(register)
     [(7, b'c1ccccc1')]
-    >>> Register(register.bytes) == register
+    >>> Register(bytes(register)) == register
     True
 
-    For a register in a file that survives a power cut see `balsa register` or Rust's RegisterFile.
+    It is for one thread at a time. For a register in a file that survives a power cut see `balsa register` or Rust's RegisterFile.
     """
 
     __hash__ = None
 
-    def __init__(self, data=None):
+    def __init__(self, data: Optional[bytes] = None) -> None:
         if data is None:
             self._cells = (ctypes.c_uint8 * REGISTER)()
             self.empty()
         else:
             data = as_bytes(data)
             self._cells = (ctypes.c_uint8 * len(data)).from_buffer_copy(data)
-            self._entry(0)
+            self._look_up(0)
 
-    @property
-    def bytes(self):
-        """The register's bytes, a copy."""
+    def __bytes__(self) -> bytes:
         return bytes(self._cells)
 
-    def empty(self):
+    def empty(self) -> None:
         """Takes all entries away."""
         _accept(lib.balsa_register_empty(self._cells, len(self._cells)))
 
-    def add(self, tag, body):
+    def add(self, tag: int, body: Union[str, bytes]) -> None:
         """Adds an entry: a tag from 0 to 65535 and a body. Refusal 18 where there is no room."""
         if not isinstance(tag, int):
             raise TypeError(f"a tag is an int, not {type(tag).__name__}")
@@ -50,15 +51,13 @@ class Register:
         body = as_bytes(body)
         _accept(lib.balsa_register_add(self._cells, len(self._cells), tag, body, len(body)))
 
-    def _entry(self, place):
-        """The entry at a place, or None."""
+    def _look_up(self, place):
+        """What the library says of the entry at a place."""
         reply = lib.balsa_register_entry(self._cells, len(self._cells), place)
         _accept(reply.code)
-        if not reply.found:
-            return None
-        return reply.tag, ctypes.string_at(ctypes.addressof(self._cells) + reply.start, reply.length)
+        return reply
 
-    def __len__(self):
+    def __len__(self) -> int:
         return self._cells[1]
 
     def __getitem__(self, place):
@@ -66,10 +65,10 @@ class Register:
         count = len(self)
         if isinstance(place, slice):
             return [self[i] for i in range(*place.indices(count))]
-        found = self._entry(place + count if place < 0 else place) if -count <= place < count else None
-        if found is None:
+        if not -count <= place < count:
             raise IndexError("no such entry")
-        return found
+        found = self._look_up(place % count)
+        return found.tag, bytes(self._cells[found.start : found.start + found.length])
 
     def __eq__(self, other):
         if not isinstance(other, Register):
@@ -80,7 +79,7 @@ class Register:
         return f"<Register of {len(self)} entries>"
 
     def __reduce__(self):
-        return type(self), (self.bytes,)
+        return type(self), (bytes(self),)
 
 
 Register.__module__ = "balsa"

@@ -1,13 +1,16 @@
 """The report of the lines of an input."""
 
+from __future__ import annotations
+
 import ctypes
+from typing import Union
 
 from ._bytes import as_bytes
 from ._native import lib
 from ._refusal import Refusal
 
 
-def report(lines):
+def report(lines: Union[str, bytes]) -> bytes:
     r"""The report of the lines of a str or bytes, as the proved program `report` writes it, as bytes.
 
     >>> import balsa
