@@ -168,7 +168,7 @@ fn add(
     kind[count] = k as u8;
 }
 
-// The part of the walk at an atom, from one of its bonds on (m for none): each atom not yet visited, with all that is reached from it first. The number of atoms visited then.
+// The part of the walk at an atom, from one of its bonds on (m for none): each atom not yet visited, with all that is reached from it first. The number of atoms visited then. Behind the last bond of an atom the walk goes on in the same turn, so that it calls itself only where it comes back.
 fn visit(
     ea: &[u16],
     eb: &[u16],
@@ -196,13 +196,14 @@ fn visit(
     ensures { λ r. ⌜ Grown n (suc (hub .0)) (grow (wires (now (ea .entry)) (now (eb .entry)) (now (ks .entry))) n m (v .0) (from .0)) (walkArrays (now (order .entry)) (now (number .entry)) (now (up .entry)) (now (kind .entry)) count) (walkArrays (now (order .exit)) (now (number .exit)) (now (up .exit)) (now (kind .exit)) r) ⌝ }
     ensures { λ _. ⌜ Kept (now (order .entry)) (now (number .entry)) (now (up .entry)) (now (kind .entry)) (now (order .exit)) (now (number .exit)) (now (up .exit)) (now (kind .exit)) ⌝ }
 {
+    let mut here = v.0;
+    let mut parent = hub.0;
     let mut b = from.0;
     let mut next = count;
     while b < m {
         let i = b;
-        let seen = follow(ea, eb, after, behind, BondId(i), v);
-        let w = seen.other;
-        let a = w.0;
+        let seen = follow(ea, eb, after, behind, BondId(i), AtomId(here));
+        let a = seen.other.0;
         b = seen.next.0;
         if number[a] != 0 {
             continue;
@@ -211,8 +212,15 @@ fn visit(
             return next;
         }
         let k = ks[i] as usize;
-        add(order, number, up, kind, w, hub.0 + 1, k, next);
+        add(order, number, up, kind, AtomId(a), parent + 1, k, next);
         let start = head[a] as usize;
+        if m <= b {
+            here = a;
+            parent = next;
+            b = start;
+            next += 1;
+            continue;
+        }
         next = visit(
             ea,
             eb,
@@ -226,7 +234,7 @@ fn visit(
             number,
             up,
             kind,
-            w,
+            AtomId(a),
             WalkNumber(next),
             BondId(start),
             next + 1,

@@ -11,7 +11,7 @@ use std::time::{Duration, Instant};
 /// The times of a call are of this many runs, of which the quickest counts.
 const RUNS: usize = 3;
 /// The matchings that are asked for after the first.
-const NEXTS: usize = 30;
+const NEXTS: usize = 10;
 
 /// What a call answers, and how long it takes.
 fn timed<T>(mut call: impl FnMut() -> T) -> (T, Duration) {
@@ -43,12 +43,21 @@ impl Times {
             format!(" {call} {milliseconds:.2}")
         });
         let times: String = times.collect();
-        println!("{name} ({} atoms, {} bonds), ms:{times}", counts.atoms, counts.bonds);
+        println!(
+            "{name} ({} atoms, {} bonds), ms:{times}",
+            counts.atoms, counts.bonds
+        );
     }
 }
 
 /// Writes the tables, if they can be written, and reads the text.
-fn write_and_read(atoms: &[i32], bonds: &[i32], counts: Counts, is_matchable: bool, times: &mut Times) {
+fn write_and_read(
+    atoms: &[i32],
+    bonds: &[i32],
+    counts: Counts,
+    is_matchable: bool,
+    times: &mut Times,
+) {
     let mut text = vec![0; TEXT];
     let mut numbers = vec![0; RENUMBERING];
     let written = timed(|| tables::write(atoms, bonds, counts, &mut text, &mut numbers));
@@ -97,7 +106,10 @@ fn families_near_the_limits() {
         write_and_read(&atoms, &bonds, counts, is_matchable, &mut times);
         if is_matchable {
             let start = Instant::now();
-            assert_eq!(tables::kekulize(&mut atoms, &mut bonds, counts, &row), Ok(()));
+            assert_eq!(
+                tables::kekulize(&mut atoms, &mut bonds, counts, &row),
+                Ok(())
+            );
             times.add("kekulize", ((), start.elapsed()));
             write_and_read(&atoms, &bonds, counts, true, &mut times);
         }
@@ -139,12 +151,20 @@ fn texts_near_the_limits() {
     let dotted = |part: &str, count: usize| vec![part; count].join(".");
     let texts = [
         ("500 pairs joined by bridges", dotted("C1.C1", 500), 500),
-        ("a chain joined by bridges", format!("C1.{}.C1", dotted("C11", 998)), 999),
+        (
+            "a chain joined by bridges",
+            format!("C1.{}.C1", dotted("C11", 998)),
+            999,
+        ),
         ("5 complete graphs of 20", dotted(&complete(20), 5), 950),
         ("12 complete graphs of 14", dotted(&complete(14), 12), 1092),
         ("73 complete graphs of 6", dotted(&complete(6), 73), 1095),
         ("a chain of 1,000", "C".repeat(1000), 999),
-        ("a text of 16,384 bytes", "C".repeat(13) + &"-[999CoH9-9:9999]".repeat(963), 975),
+        (
+            "a text of 16,384 bytes",
+            "C".repeat(13) + &"-[999CoH9-9:9999]".repeat(963),
+            975,
+        ),
     ];
     for (name, text, count) in texts {
         let mut times = Times::default();

@@ -90,7 +90,10 @@ fn compare_on(name: &str, texts: &[&[u8]]) {
     row("reference", molecules.map(figure));
     row("reference on tables", tables.map(figure));
     row("proved on tables", proved.map(figure));
-    row("zeroing its buffers", measure_zeroing(texts.len()).map(figure));
+    row(
+        "zeroing its buffers",
+        measure_zeroing(texts.len()).map(figure),
+    );
     let ratio = |others: [f64; 5]| [0, 1, 2, 3, 4].map(|call| figure(proved[call] / others[call]));
     row("ratio to reference", ratio(molecules));
     row("ratio on tables", ratio(tables));

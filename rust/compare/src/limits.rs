@@ -68,8 +68,10 @@ pub fn nested(random: &mut Random) -> Molecule {
 /// A chain of atoms with the longest spellings but for some bytes: about 16,384 of them. It perhaps
 /// begins with a delocalized ring and ends with short atoms.
 pub fn longest(random: &mut Random) -> Molecule {
-    let (ring, short) = *random.pick(&[(0, 0), (6, random.below(9))]);
-    let long = if ring == 0 { 964 } else { 963 };
+    let (ring, long, short) = match random.percent(50) {
+        true => (6, 963, random.below(9)),
+        false => (0, 964, 0),
+    };
     let atoms = ring + long + short;
     let chain = (1..atoms).map(|atom| (atom - 1, atom));
     let mut molecule = of_ends(atoms, chain, Kind::Single);

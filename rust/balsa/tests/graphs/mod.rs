@@ -169,20 +169,34 @@ pub fn families() -> Vec<(String, Graph, Option<bool>)> {
     let mut families = vec![
         ("acene of 219 rings", Graph::flake(219, 1), Some(true)),
         ("flake of 18 by 19", Graph::flake(18, 19), Some(true)),
-        ("flake, descending", Graph::flake(18, 19).descending(), Some(true)),
+        (
+            "flake, descending",
+            Graph::flake(18, 19).descending(),
+            Some(true),
+        ),
         ("triangulene of 25", Graph::triangulene(25), Some(false)),
         ("tube of 10 by 34", Graph::tube(10, 34), Some(true)),
         ("tube of 30 by 11", Graph::tube(30, 11), Some(true)),
         ("166 benzenes", mixture.clone(), Some(true)),
         ("benzenes, descending", mixture.descending(), Some(true)),
-        ("165 benzenes and a ring of 5", Graph::rings(&benzenes), Some(false)),
+        (
+            "165 benzenes and a ring of 5",
+            Graph::rings(&benzenes),
+            Some(false),
+        ),
         ("ring of 1,000", Graph::rings(&[1000]), Some(true)),
     ]
     .into_iter()
     .map(|(name, graph, known)| (name.to_string(), graph, known))
     .collect::<Vec<_>>();
     for seed in 1..=4 {
-        for (most, is_even) in [(20, true), (60, true), (1000, true), (20, false), (60, false)] {
+        for (most, is_even) in [
+            (20, true),
+            (60, true),
+            (1000, true),
+            (20, false),
+            (60, false),
+        ] {
             let known = is_even.then_some(true);
             let kind = if is_even { "even" } else { "any" };
             let name = format!("random {seed}, {kind} rings up to {most}");
