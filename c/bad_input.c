@@ -9,7 +9,7 @@
 
 static int32_t atoms[BALSA_ATOM_TABLE], bonds[BALSA_BOND_TABLE];
 static uint8_t row[BALSA_ROW], out[BALSA_TEXT];
-static uint16_t ren[BALSA_RENUMBERING];
+static uint16_t ren[BALSA_RENUMBERING], pairs[BALSA_ROW];
 static unsigned checks;
 
 static void expect(int holds, const char *what) {
@@ -51,6 +51,11 @@ static void short_buffers(void) {
     expect(all(atoms, sizeof atoms, 7) && all(bonds, sizeof bonds, 7), "1 leaves the tables");
     memset(row, 7, sizeof row);
     expect(first(1, 0, BALSA_ROW - 1) == 1 && all(row, sizeof row, 7), "a short row");
+    memset(pairs, 7, sizeof pairs);
+    balsa_forced_reply f = balsa_first_forced(atoms, BALSA_ATOM_TABLE, bonds, BALSA_BOND_TABLE, 1, 0,
+                                              row, BALSA_ROW, pairs, BALSA_ROW - 1);
+    expect(f.code == 1 && f.forced == 0, "a short list");
+    expect(all(row, sizeof row, 7) && all(pairs, sizeof pairs, 7), "1 leaves the row and the list");
     memset(out, 7, sizeof out);
     memset(ren, 7, sizeof ren);
     balsa_write_reply w = balsa_write(atoms, BALSA_ATOM_TABLE, bonds, BALSA_BOND_TABLE, 1, 0, out,
@@ -121,6 +126,27 @@ static void rubbish_rows(void) {
     expect(memcmp(codes, told, sizeof told) == 0, "12, two matchings, the end, 12");
     expect(balsa_replay(calls, sizeof calls, atoms, BALSA_ATOM_TABLE, bonds, BALSA_BOND_TABLE, r.atoms,
                         r.bonds, row, BALSA_ROW, codes, sizeof codes - 1) == 1, "too few codes");
+}
+
+/* The second engine: the forced list with its number and the zeros behind it, and its refusals. */
+static void forced_pairs(void) {
+    static const uint16_t listed[] = {1, 3, 5};
+    balsa_read_reply r = read_text("CccccccC");
+    memset(pairs, 7, sizeof pairs);
+    balsa_forced_reply f = balsa_first_forced(atoms, BALSA_ATOM_TABLE, bonds, BALSA_BOND_TABLE, r.atoms,
+                                              r.bonds, row, BALSA_ROW, pairs, BALSA_ROW);
+    expect(f.code == 0 && f.forced == 3, "three pairs are forced");
+    expect(memcmp(pairs, listed, sizeof listed) == 0, "the bonds 1, 3 and 5");
+    expect(all(pairs + 3, sizeof pairs - sizeof listed, 0), "zeros behind the list");
+    expect(balsa_next_forced(atoms, BALSA_ATOM_TABLE, bonds, BALSA_BOND_TABLE, r.atoms, r.bonds, row,
+                             BALSA_ROW) == BALSA_END && all(row, sizeof row, 0), "the end");
+    expect(balsa_next_forced(atoms, BALSA_ATOM_TABLE, bonds, BALSA_BOND_TABLE, r.atoms, r.bonds, row,
+                             BALSA_ROW) == 12, "zeros are no matching");
+    bonds[1] = -1;
+    memset(pairs, 7, sizeof pairs);
+    f = balsa_first_forced(atoms, BALSA_ATOM_TABLE, bonds, BALSA_BOND_TABLE, r.atoms, r.bonds, row,
+                           BALSA_ROW, pairs, BALSA_ROW);
+    expect(f.code == 13 && f.forced == 0 && all(pairs, sizeof pairs, 0), "13 zeroes the list");
 }
 
 /* The register: too short, any bytes, gaps, full at 64 entries and at byte 32,767; a refusal changes nothing. */
@@ -202,6 +228,7 @@ int main(void) {
     texts();
     invalid_tables();
     rubbish_rows();
+    forced_pairs();
     registers();
     reports();
     printf("%u checks hold\n", checks);

@@ -90,6 +90,12 @@ typedef struct {
     size_t length;
 } balsa_write_reply;
 
+/* code 0 with the number of pairs forced before any choice, or a refusal's code with 0 */
+typedef struct {
+    uint32_t code;
+    size_t forced;
+} balsa_forced_reply;
+
 /* code 0 with the symbol's bytes, atomic number (0 for '*') and 1 for a selected letter; or code 3 with
  * the place of the byte with which no symbol goes on */
 typedef struct {
@@ -145,6 +151,19 @@ uint32_t balsa_kekulize(int32_t *atoms, size_t atoms_len, int32_t *bonds, size_t
 uint32_t balsa_replay(const uint8_t *calls, size_t calls_len, const int32_t *atoms, size_t atoms_len,
                       const int32_t *bonds, size_t bonds_len, size_t n, size_t m, uint8_t *row,
                       size_t row_len, uint8_t *codes, size_t codes_len);
+
+/* The second engine: while an atom without a partner has exactly one neighbour without one along the
+ * bonds that may become double, the lowest such atom is paired; only what is left is searched. */
+
+/* As balsa_first; pairs, which is as long as a row, gets the bonds of the pairs forced before any choice, in
+ * turn. Each is in every matching. Output: row, pairs. Refusals 1 (also for a short pairs), 13, 11. */
+balsa_forced_reply balsa_first_forced(const int32_t *atoms, size_t atoms_len, const int32_t *bonds,
+                                      size_t bonds_len, size_t n, size_t m, uint8_t *row,
+                                      size_t row_len, uint16_t *pairs, size_t pairs_len);
+
+/* As balsa_next. Output: row. Refusals 1, 13, 12. */
+uint32_t balsa_next_forced(const int32_t *atoms, size_t atoms_len, const int32_t *bonds,
+                           size_t bonds_len, size_t n, size_t m, uint8_t *row, size_t row_len);
 
 /* The report of the lines of an input, as the program `report` writes it (docs/RULES.md). Output: out; the
  * bytes after the report are zeroed. Refusal 1 where the report does not fit: nothing changes. */

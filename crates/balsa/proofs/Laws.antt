@@ -5,6 +5,7 @@ use mathlib.Core.List.{List}
 use lib.IntN.{ℤ}
 use Rattle.kekule.specs.Kekule.{CallReply, callReply, KekulizeReply, kekulizeReply}
 use Rattle.kekule.specs.Calls.{Replayed, replayOut}
+use Rattle.kekule_forced.specs.Forced.{ForcedCallReply, forcedCallReply}
 use Rattle.reader.specs.declared.ending.ReadAnswer.{ReadAnswer}
 use Rattle.reader.specs.declared.ending.ReadAnswer.the-variants.{Molecule, Refused}
 use Rattle.reader.specs.Ending.{told}
@@ -33,3 +34,6 @@ tables-law {atoms = atoms} {bonds} e g = ap (λ (k : ℕ). kekulizeReply k atoms
 
 pub replay-law : {c d : ℕ} {row codes : List ℕ} {r : Replayed} → c ≡ d → replayOut d row codes ≡ r → replayOut c row codes ≡ r
 replay-law {row = row} {codes} e g = ap (λ (k : ℕ). replayOut k row codes) e ∙ g
+
+pub forced-law : {c d k : ℕ} {row pairs : List ℕ} {o : ForcedCallReply} → c ≡ d → forcedCallReply d row k pairs ≡ o → forcedCallReply c row k pairs ≡ o
+forced-law {k = k} {row} {pairs} e g = ap (λ (x : ℕ). forcedCallReply x row k pairs) e ∙ g

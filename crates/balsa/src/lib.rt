@@ -14,6 +14,7 @@ use reader::ending::ReadAnswer;
 use table::Check;
 use writer::Written;
 
+pub mod forced;
 mod register_calls;
 pub mod reporting;
 pub mod symbol;

@@ -4,10 +4,11 @@ use mathlib.Core.Bool.{Bool, true, false, _&&_, _||_, not}
 use mathlib.Core.List.{List, [], _∷_, map}
 use Prim.Native.Nat.{ℕ}
 use lib.IntN.{ℤ, pos, negsuc}
+use Rattle.kinds.specs.Kind.{order, symbolKind, bondSymbol}
 use Rattle.loops.specs.Loop.{each, run, upTo}
 use Rattle.element.specs.Symbols.{among, listed, starts, sameBytes, symbols, letters, marks}
 use Rattle.element.specs.Lookup.{indexFrom, numberOf, selectedOf, letterOf, bare, bytesOf, selectedBytes}
-use Rattle.valence.specs.Valence.{order, targets, firstTarget, firstFitting, reachedIn, hydrogensOf, shiftedTarget, delocalized}
+use Rattle.valence.specs.Valence.{targets, firstTarget, firstFitting, reachedIn, hydrogensOf, shiftedTarget, delocalized}
 use Rattle.reading_grammar.specs.Grammar.{nonzero, digits, several, bondSymbols, signs}
 use Rattle.reading_grammar.specs.Machine.{step, next, accepting, resting, atomOr, bridgeOr, closing, extending, charging, hydrating, symbolOr}
 use Rattle.reading_grammar.specs.Fold.{feed, read}
@@ -19,7 +20,7 @@ use Rattle.table.specs.Valid.{enough}
 use Rattle.table.specs.Sound.{touches, bondDegree, noneLoose, lateCode}
 use Rattle.table_graph.specs.Graph.{share, bondSum, matchable}
 use Rattle.reading_state.specs.State.{started, opened, closed, joined}
-use Rattle.reading.specs.Memory.{symbolKind, begun, joins, joinedAlready, closeRefusal}
+use Rattle.reading.specs.Memory.{begun, joins, joinedAlready, closeRefusal}
 use Rattle.reading.specs.Bracket.{symbolled}
 use Rattle.reading.specs.Act.{atomAct, bridgeAct, branchAct, modeAct, act}
 use Rattle.reading.specs.Read.{hydrogenated, overfullAtoms, leftmost, ended, readFrom, readOf}
@@ -70,5 +71,5 @@ expected =
     []
 
 pub marked-texts : map said texts ≡ expected
-unfolding texts expected bondDegree noneLoose lateCode each run upTo among listed starts sameBytes symbols letters marks indexFrom numberOf selectedOf letterOf bare bytesOf selectedBytes order targets firstTarget firstFitting reachedIn hydrogensOf shiftedTarget delocalized nonzero digits several bondSymbols signs step next accepting resting atomOr bridgeOr closing extending charging hydrating symbolOr feed read rows passing isMatching eachOnce degree chosenInduced number withAtom withBond enough touches share bondSum started opened closed joined symbolKind begun joins joinedAlready closeRefusal symbolled atomAct bridgeAct branchAct modeAct act hydrogenated overfullAtoms leftmost matchable ended readFrom readOf forestOf renumbered unused write decimal hydrogenBytes sizeBytes bracketBytes withoutBrackets spelledAtom kindBytes bridgeBytes restBytes tokensBytes tokens textOf
+unfolding texts expected bondDegree noneLoose lateCode each run upTo among listed starts sameBytes symbols letters marks indexFrom numberOf selectedOf letterOf bare bytesOf selectedBytes order bondSymbol targets firstTarget firstFitting reachedIn hydrogensOf shiftedTarget delocalized nonzero digits several bondSymbols signs step next accepting resting atomOr bridgeOr closing extending charging hydrating symbolOr feed read rows passing isMatching eachOnce degree chosenInduced number withAtom withBond enough touches share bondSum started opened closed joined symbolKind begun joins joinedAlready closeRefusal symbolled atomAct bridgeAct branchAct modeAct act hydrogenated overfullAtoms leftmost matchable ended readFrom readOf forestOf renumbered unused write decimal hydrogenBytes sizeBytes bracketBytes withoutBrackets spelledAtom kindBytes bridgeBytes restBytes tokensBytes tokens textOf
 marked-texts = refl

@@ -7,6 +7,7 @@ use mathlib.Core.List.{List, [], _∷_}
 use lib.ListN.{length, getD, replicate}
 use lib.IntN.{ℤ, pos}
 use lib.Dec.{eqb, leb}
+use Rattle.kinds.specs.Kind.{elided, double, maxKind}
 use Rattle.loops.specs.Loop.{pick, upTo}
 use Rattle.loops.proofs.Loops.{and-right, each-all, each-same, length-upTo}
 use Rattle.table.specs.Limits.{maxBonds, atomCells, ELEMENT, SELECTED, ISOTOPE, HYDROGENS, CHARGE, EXTENSION, FIRST, SECOND, KIND}
@@ -69,7 +70,7 @@ module _ {atoms bonds : List ℤ} {n m : ℕ} (v : Valid atoms bonds n m) (r : E
   second : (b : ℕ) → bondCell bonds′ b SECOND ≡ bondCell bonds b SECOND
   second b = doubled-field row m b SECOND bonds (omega arith) (λ e. omega arith)
 
-  kind-ok : (z : ℤ) (x : Bool) → inRange z (pos 0) (pos 3) ≡ true → inRange (pick x (pos 2) z) (pos 0) (pos 3) ≡ true
+  kind-ok : (z : ℤ) (x : Bool) → inRange z (pos elided) (pos maxKind) ≡ true → inRange (pick x (pos double) z) (pos elided) (pos maxKind) ≡ true
   unfolding inRange
   kind-ok z true h = refl
   kind-ok z false h = h

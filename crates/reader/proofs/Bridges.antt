@@ -21,7 +21,8 @@ use Rattle.table.specs.declared.Bond.{Bond}
 use Rattle.reading_state.specs.declared.Fields.{Fields}
 use Rattle.reading_state.specs.declared.Opening.{Opening}
 use Rattle.reading_state.specs.State.{Steering, joined, bridged, openingOf}
-use Rattle.reading.specs.Memory.{Memory, nothing, symbol, kindOf, joins, joinedAlready, clash, meet, between, closeRefusal, moved}
+use Rattle.kinds.specs.Kind.{meet, clash}
+use Rattle.reading.specs.Memory.{Memory, nothing, symbol, kindOf, joins, joinedAlready, between, closeRefusal, moved}
 use Rattle.reading.specs.Act.{Acts, orRefuse, bridgeAct, bridgeBond}
 use Rattle.reading_fields.specs.Rest.{memory}
 use Rattle.reader.specs.declared.bridge.Why.{Why}

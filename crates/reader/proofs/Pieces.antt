@@ -23,7 +23,8 @@ use Rattle.reading_grammar.specs.Fold.{keeps, refuses}
 use Rattle.reading_grammar.proofs.Ends.{each}
 use Rattle.reading_state.specs.declared.Fields.{Fields}
 use Rattle.reading_state.specs.State.{Steering, joined, bridged}
-use Rattle.reading.specs.Memory.{Memory, nothing, dotted, symbol, symbolKind, counting, moved, kindOf, closeRefusal}
+use Rattle.kinds.specs.Kind.{elided, single, double, triple, symbolKind}
+use Rattle.reading.specs.Memory.{Memory, nothing, dotted, symbol, counting, moved, kindOf, closeRefusal}
 use Rattle.reading.specs.Bracket.{digit}
 use Rattle.reading.specs.Act.{Acts, modeAct, bridgeAct, orRefuse, bridgeBond}
 use Rattle.reading_fields.specs.Rest.{rest, memory}
@@ -84,7 +85,7 @@ pub no-kind : (b : ℕ) → symbolKind b ≡ 0 → among b bondSymbols ≡ false
 unfolding symbolKind bondSymbols among
 no-kind b h = split (eqb b 45) (eqb b 61) (eqb b 35) h
   where
-    split : (t u v : Bool) → _≡_ {A = ℕ} (pick t 1 (pick u 2 (pick v 3 0))) 0 → pick t true (pick u true (pick v true false)) ≡ false
+    split : (t u v : Bool) → _≡_ {A = ℕ} (pick t single (pick u double (pick v triple elided))) 0 → pick t true (pick u true (pick v true false)) ≡ false
     split true u v h = absurd (omega arith)
     split false true v h = absurd (omega arith)
     split false false true h = absurd (omega arith)
@@ -94,7 +95,7 @@ kind-symbol : (b : ℕ) → (symbolKind b ≡ 0 → ⊥) → among b bondSymbols
 unfolding symbolKind bondSymbols among
 kind-symbol b h = split (eqb b 45) (eqb b 61) (eqb b 35) h
   where
-    split : (t u v : Bool) → (_≡_ {A = ℕ} (pick t 1 (pick u 2 (pick v 3 0))) 0 → ⊥) → pick t true (pick u true (pick v true false)) ≡ true
+    split : (t u v : Bool) → (_≡_ {A = ℕ} (pick t single (pick u double (pick v triple elided))) 0 → ⊥) → pick t true (pick u true (pick v true false)) ≡ true
     split true u v h = refl
     split false true v h = refl
     split false false true h = refl

@@ -11,7 +11,8 @@ use Rattle.reading_grammar.specs.Fold.{keeps, refuses}
 use Rattle.table.specs.Limits.{maxBonds}
 use Rattle.reading_state.specs.State.{Steering, joined}
 use Rattle.reading_state.specs.declared.Fields.{Fields}
-use Rattle.reading.specs.Memory.{Memory, nothing, between, meet, closeRefusal}
+use Rattle.kinds.specs.Kind.{meet}
+use Rattle.reading.specs.Memory.{Memory, nothing, between, closeRefusal}
 use Rattle.reading.specs.Act.{orRefuse, bridgeAct}
 use Rattle.reading_fields.specs.Rest.{memory}
 use Rattle.reader.specs.declared.bridge.Why.{Why}

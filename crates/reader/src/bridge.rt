@@ -5,7 +5,7 @@ ghost use Prim.Native.Nat.{ℕ, _≤_, _<_};
 ghost use Rattle.table.specs.Limits.{maxBonds};
 ghost use Rattle.ids.specs.Limits.{bridges, maxText};
 ghost use Rattle.reading_state.specs.State.{steering};
-ghost use Rattle.reading.specs.Memory.{joins, joinedAlready, meet, between};
+ghost use Rattle.reading.specs.Memory.{joins, joinedAlready, between};
 ghost use Rattle.reader.specs.Outcome.{Bounded, outcome, refusedAt};
 ghost use Rattle.reader.specs.Bridge.{Closes, Bridges};
 use crate::atom::bond_of;
@@ -88,16 +88,6 @@ fn between(a: AtomId, b: AtomId, k: u8) -> Bond
     bond_of(b, a, k)
 }
 
-// "A symbol at one end counts": j at the opening, k at the closing.
-fn meet(j: u8, k: u8) -> u8
-    ensures { λ r. ⌜ r ≡ meet j k ⌝ }
-{
-    if k == 0 {
-        return j;
-    }
-    k
-}
-
 // The bridge that was opened at the atom u with the symbol j, and closes at the hub with k; m is the number that its bond gets.
 fn close_at(bonds: &[i32], m: BondId, u: AtomId, hub: AtomId, j: u8, k: u8) -> Closing
     requires { ⌜ (u .0 < 65536) × (hub .0 < 65536) ⌝ }
@@ -112,10 +102,10 @@ fn close_at(bonds: &[i32], m: BondId, u: AtomId, hub: AtomId, j: u8, k: u8) -> C
     if joined_already(bonds, m, u, hub) {
         return Closing::Refused(Refusal::RepeatedBond);
     }
-    if (j != 0) & (k != 0) & (j != k) {
+    if kinds::clash(j, k) {
         return Closing::Refused(Refusal::SymbolClash);
     }
-    Closing::Bond(between(u, hub, meet(j, k)))
+    Closing::Bond(between(u, hub, kinds::meet(j, k)))
 }
 
 // internal: before a bridge joins, with its number, the kind of its symbol, and the offset of its digit or `%`: the offset of one that opens, the bond of one that closes, or its refusal.

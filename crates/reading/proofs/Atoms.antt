@@ -5,6 +5,7 @@ use mathlib.Core.Path.{_≡_, refl}
 use mathlib.Core.Bool.{Bool, true, false, _&&_, not}
 use lib.Dec.{eqb, leb}
 use borrow.Author.Tests.{eqb-false, leb-false, not-true}
+use Rattle.kinds.specs.Kind.{maxKind}
 use Rattle.loops.specs.Loop.{pick}
 use Rattle.loops.proofs.Loops.{and-left}
 use Rattle.element.specs.declared.Letter.{Letter}
@@ -35,7 +36,7 @@ use Rattle.reading.proofs.Letters.{Begins}
 pub record Ready (p q d i : ℕ) (μ : Memory) : Type 0 where
   pub tables : Tables p q (μ .st .atoms) (μ .st .bonds) (μ .atoms) (μ .bonds)
   pub steering : Steers i (μ .st)
-  pub kind : kindOf (μ .pending) ≤ 3
+  pub kind : kindOf (μ .pending) ≤ maxKind
   pub depth : μ .st .depth ≡ d
   pub hub : (μ .st .atoms ≡ 0 → ⊥) → μ .st .hub .0 < μ .st .atoms
 
@@ -43,7 +44,7 @@ pub record Ready (p q d i : ℕ) (μ : Memory) : Type 0 where
 pub record Held (p q d i : ℕ) (μ : Memory) : Type 0 where
   pub tables : Tables p q (μ .st .atoms) (μ .st .bonds) (μ .atoms) (μ .bonds)
   pub steering : Steers i (μ .st)
-  pub kind : kindOf (μ .pending) ≤ 3
+  pub kind : kindOf (μ .pending) ≤ maxKind
   pub depth : μ .st .depth ≡ d
   pub hub : μ .st .hub .0 < μ .st .atoms
 

@@ -9,6 +9,8 @@ use lib.Dec.{eqb, leb}
 use borrow.Author.Tests.{eqb-false, eq-eqb, leb-false, ltb-true, ltb-false, not-true, not-false}
 use Rattle.loops.specs.Loop.{pick, each}
 use Rattle.loops.proofs.Loops.{each-at}
+use Rattle.kinds.specs.Kind.{maxKind, symbolKind, meet, clash}
+use Rattle.kinds.proofs.Kind.{symbol-small, meet-small}
 use Rattle.reading_grammar.specs.declared.Last.the-variants.{Plain as plain}
 use Rattle.reading_grammar.specs.declared.Mode.the-variants.{Seq as seq, Inside as inside}
 use Rattle.reading_grammar.specs.declared.MachineState.the-variants.{At as at}
@@ -16,7 +18,7 @@ use Rattle.reading_grammar.specs.Fold.{keeps}
 use Rattle.reading_grammar.proofs.Ends.{never}
 use Rattle.table.specs.Limits.{maxBonds}
 use Rattle.table.specs.Cells.{end1, end2}
-use Rattle.reading.specs.Memory.{Memory, dotted, symbol, symbolKind, kindOf, between, awaiting, moved, counting, meet, clash, joins, joinedAlready, closeRefusal}
+use Rattle.reading.specs.Memory.{Memory, dotted, symbol, kindOf, between, awaiting, moved, counting, joins, joinedAlready, closeRefusal}
 use Rattle.reading.specs.Act.{bridgeBond, orRefuse, bridgeAct, branchAct}
 use Rattle.reading.proofs.Cases.{by-test}
 use Rattle.reading.proofs.Sane.{Tables, Sane, SaneAct}
@@ -62,10 +64,7 @@ no-way-back bonds u h j f a b = never (sym f ∙ rw (eq-eqb (end1 bonds j) h a, 
     or-true true = refl
     or-true false = refl
 
-met : (j k : ℕ) → j ≤ 3 → k ≤ 3 → meet j k ≤ 3
-met j k a b = by-test (λ x. x ≤ 3) (eqb k 0) j k (λ e. a) (λ e. b)
-
-bridge-tables : {p q n m : ℕ} {atoms bonds : List ℤ} (u h k : ℕ) → Tables p q n m atoms bonds → Allowed bonds m u h → u < n → h < n → k ≤ 3
+bridge-tables : {p q n m : ℕ} {atoms bonds : List ℤ} (u h k : ℕ) → Tables p q n m atoms bonds → Allowed bonds m u h → u < n → h < n → k ≤ maxKind
     → Tables p q n (m + 1) atoms (withBond bonds m (between u h k))
 bridge-tables {p} {q} {n} {m} {atoms} {bonds} u h k w a un hn k3 =
     by-test (λ x. Tables p q n (m + 1) atoms (withBond bonds m x)) _ _ _
@@ -107,7 +106,7 @@ module _ {p q d i : ℕ} {μ : Memory} (h : Held p q d i μ) where
               → SaneAct p q (at (seq plain) d) (suc i) (orRefuse c o (moved (bridged (μ .st) r 0 0 0 (μ .st .bonds + 1)) (bridgeBond r μ)))
           refusal zero z =
               record {
-                tables = bridge-tables u (μ .st .hub .0) (meet (getD (μ .st .symbol) r 0) k) (h .tables) (allowed (μ .bonds) (μ .st .bonds) u (μ .st .hub .0) (getD (μ .st .symbol) r 0) k z) below (h .hub) (met (getD (μ .st .symbol) r 0) k (h .steering .symbol r) (h .kind));
+                tables = bridge-tables u (μ .st .hub .0) (meet (getD (μ .st .symbol) r 0) k) (h .tables) (allowed (μ .bonds) (μ .st .bonds) u (μ .st .hub .0) (getD (μ .st .symbol) r 0) k z) below (h .hub) (meet-small (getD (μ .st .symbol) r 0) k (h .steering .symbol r) (h .kind));
                 steering = bridged-steering (h .steering) r 0 0 0 (μ .st .bonds + 1) hr (omega arith) (omega arith) (omega arith);
                 kind = omega arith;
                 stands = record { hub = h .hub; depth = h .depth; half = tt };
@@ -138,16 +137,8 @@ module _ {p q d i : ℕ} {μ : Memory} (h : Held p q d i μ) where
       }
 
   -- ---- a bond symbol or a dot
-  joint-kind : (b : ℕ) → kindOf (pick (eqb b 46) dotted (symbol (symbolKind b))) ≤ 3
-  unfolding symbolKind
-  joint-kind b = split (eqb b 46) (eqb b 45) (eqb b 61) (eqb b 35)
-    where
-      split : (t u v w : Bool) → kindOf (pick t dotted (symbol (pick u 1 (pick v 2 (pick w 3 0))))) ≤ 3
-      split true u v w = omega arith
-      split false true v w = omega arith
-      split false false true w = omega arith
-      split false false false true = omega arith
-      split false false false false = omega arith
+  joint-kind : (b : ℕ) → kindOf (pick (eqb b 46) dotted (symbol (symbolKind b))) ≤ maxKind
+  joint-kind b = by-test (λ x. kindOf x ≤ maxKind) (eqb b 46) dotted (symbol (symbolKind b)) (λ e. omega arith) (λ e. symbol-small b)
 
   pub joint-held : (b : ℕ) → Held p q d (suc i) (awaiting (pick (eqb b 46) dotted (symbol (symbolKind b))) μ)
   joint-held b = record { tables = h .tables; steering = later (h .steering); kind = joint-kind b; depth = h .depth; hub = h .hub }

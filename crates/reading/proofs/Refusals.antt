@@ -28,7 +28,8 @@ use Rattle.reading_grammar.proofs.Ends.{never}
 use Rattle.table.specs.Limits.{maxAtoms, maxBonds}
 use Rattle.ids.specs.Limits.{maxDepth}
 use Rattle.reading_state.specs.State.{opened, joined}
-use Rattle.reading.specs.Memory.{Memory, kindOf, bonded, moved, clash, joinedAlready, closeRefusal}
+use Rattle.kinds.specs.Kind.{clash}
+use Rattle.reading.specs.Memory.{Memory, kindOf, bonded, moved, joinedAlready, closeRefusal}
 use Rattle.reading.specs.Bracket.{digit}
 use Rattle.reading.specs.Act.{Acts, bridgeBond, chargeAct, hydrogenAct, jointAct, orAtom, atomAct, orRefuse, bridgeAct, branchAct, letterAct, modeAct, act}
 use Rattle.reading.specs.Conditions.{AtomMayBegin, BridgeMayStand, Open, openerOf}

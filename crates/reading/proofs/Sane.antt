@@ -7,6 +7,7 @@ use lib.ListN.{length, getD}
 use lib.IntN.{ℤ, pos, negsuc}
 use lib.Signed.{leZ}
 use lib.Dec.{eqb}
+use Rattle.kinds.specs.Kind.{maxKind}
 use Rattle.reading_grammar.specs.declared.Mode.{Mode}
 use Rattle.reading_grammar.specs.declared.Mode.the-variants.{Seq as seq, Bond as bond, AtomNext as atomNext, Inside as inside, Percent as percent, Percent1 as percent1, LetterA as letterA, LetterT as letterT, Bracket as bracket, Isotope as isotope, Symbol1 as symbol1, Symbolled as symbolled, Hydrogen as hydrogen, Hydrogens as hydrogens, Sign as sign, Charged as charged, Colon as colon, Extension as extension}
 use Rattle.reading_grammar.specs.declared.MachineState.{MachineState}
@@ -55,7 +56,7 @@ pub record Steers (i : ℕ) (s : Steering) : Type 0 where
   pub depth : s .depth ≤ maxDepth
   pub stack : (k : ℕ) → k < s .depth → getD (s .stack) k 0 < s .atoms
   pub opener : (r : ℕ) → getD (s .opener) r 0 ≤ s .atoms
-  pub symbol : (r : ℕ) → getD (s .symbol) r 0 ≤ 3
+  pub symbol : (r : ℕ) → getD (s .symbol) r 0 ≤ maxKind
   pub offset : (r : ℕ) → 0 < getD (s .opener) r 0 → getD (s .offset) r 0 < i
 
 -- ---- the bracket being read
@@ -128,7 +129,7 @@ Stands (at m d) μ = Standing m d μ
 pub record Sane (p q : ℕ) (σ : MachineState) (i : ℕ) (μ : Memory) : Type 0 where
   pub tables : Tables p q (μ .st .atoms) (μ .st .bonds) (μ .atoms) (μ .bonds)
   pub steering : Steers i (μ .st)
-  pub kind : kindOf (μ .pending) ≤ 3
+  pub kind : kindOf (μ .pending) ≤ maxKind
   pub stands : Stands σ μ
 
 -- a reading that goes on does so with a sane memory

@@ -6,6 +6,7 @@ use mathlib.Core.Path.{_≡_, refl, _∙_}
 use mathlib.Core.List.{List}
 use lib.ListN.{length, getD, set, replicate, length-set, length-replicate}
 use lib.Seq.{getD-set-same, getD-set-other}
+use Rattle.kinds.specs.Kind.{maxKind}
 use Rattle.table.specs.Limits.{maxAtoms}
 use Rattle.ids.specs.Limits.{maxDepth, bridges}
 use Rattle.reading_state.specs.State.{Steering, started, opened, closed, bridged}
@@ -121,7 +122,7 @@ module _ {i : ℕ} {s : Steering} (w : Steers i s) where
   closed-hub d = w .stack (s .depth - 1) (omega arith)
 
   -- another opener, symbol and offset of a bridge number
-  pub bridged-steering : (r a k p m : ℕ) → r < bridges → a ≤ s .atoms → k ≤ 3 → p ≤ i → Steers (suc i) (bridged s r a k p m)
+  pub bridged-steering : (r a k p m : ℕ) → r < bridges → a ≤ s .atoms → k ≤ maxKind → p ≤ i → Steers (suc i) (bridged s r a k p m)
   bridged-steering r a k p m h ha hk hp =
       record {
         stack-length = w .stack-length;
@@ -132,7 +133,7 @@ module _ {i : ℕ} {s : Steering} (w : Steers i s) where
         depth = w .depth;
         stack = w .stack;
         opener = set-each (λ v. v ≤ s .atoms) (s .opener) r a (omega (arith, w .opener-length)) ha (w .opener);
-        symbol = set-each (λ v. v ≤ 3) (s .symbol) r k (omega (arith, w .symbol-length)) hk (w .symbol);
+        symbol = set-each (λ v. v ≤ maxKind) (s .symbol) r k (omega (arith, w .symbol-length)) hk (w .symbol);
         offset = offset;
       }
     where

@@ -10,6 +10,7 @@ use lib.ListN.{length, getD}
 use lib.IntN.{ℤ, pos}
 use lib.Signed.{leZ}
 use borrow.Author.Tests.{le-leb}
+use Rattle.kinds.specs.Kind.{elided, maxKind}
 use Rattle.table.specs.declared.Atom.{Atom}
 use Rattle.table.specs.declared.Bond.{Bond}
 use Rattle.table.specs.Limits.{maxAtoms, maxBonds, atomCells, bondCells}
@@ -95,7 +96,7 @@ module _ {p q n m : ℕ} {atoms bonds : List ℤ} (w : Tables p q n m atoms bond
 
 -- whether a bond's row is valid is told by the row
 record RowFine (x : Bond) (n : ℕ) : Type 0 where
-  pub kind : inRange (x .kind) (pos 0) (pos 3) ≡ true
+  pub kind : inRange (x .kind) (pos elided) (pos maxKind) ≡ true
   pub natural : leZ (pos 0) (x .first) ≡ true
   pub order : number (x .first) < number (x .second)
   pub second : number (x .second) < n
@@ -106,13 +107,13 @@ of-row r = record { kind = r .kind; natural = r .natural; order = r .order; seco
 to-row : {t : List ℤ} {n b : ℕ} → BondRow t n b → RowFine (bondRow t b) n
 to-row r = record { kind = r .kind; natural = r .natural; order = r .order; second = r .second }
 
-new-row : {n u h k : ℕ} → u < h → h < n → k ≤ 3 → RowFine (memory.newBond u h k) n
+new-row : {n u h k : ℕ} → u < h → h < n → k ≤ maxKind → RowFine (memory.newBond u h k) n
 unfolding inRange number
-new-row {u = u} {k = k} a b c = record { kind = within k 3 c; natural = le-leb 0 u (omega arith); order = a; second = b }
+new-row {u = u} {k = k} a b c = record { kind = within k maxKind c; natural = le-leb 0 u (omega arith); order = a; second = b }
 
 module _ {p q n m : ℕ} {atoms bonds : List ℤ} (w : Tables p q n m atoms bonds) where
   -- a bond more, between two atoms that no bond joins yet
-  pub bond-added : (u h k : ℕ) → m < maxBonds → u < h → h < n → k ≤ 3
+  pub bond-added : (u h k : ℕ) → m < maxBonds → u < h → h < n → k ≤ maxKind
       → ((j : ℕ) → j < m → end1 bonds j ≡ u → end2 bonds j ≡ h → ⊥)
       → Tables p q n (m + 1) atoms (withBond bonds m (memory.newBond u h k))
   unfolding number

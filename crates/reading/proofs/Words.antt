@@ -12,7 +12,8 @@ use Rattle.loops.specs.Loop.{each}
 use Rattle.loops.proofs.Loops.{and-left, and-right, each-at}
 use Rattle.reading_grammar.proofs.Ends.{never}
 use Rattle.table.specs.Cells.{end1, end2}
-use Rattle.reading.specs.Memory.{Memory, Pending, nothing, dotted, symbol, afterDot, bonded, clash, joins, joinedAlready}
+use Rattle.kinds.specs.Kind.{clash}
+use Rattle.reading.specs.Memory.{Memory, Pending, nothing, dotted, symbol, afterDot, bonded, joins, joinedAlready}
 use Rattle.reading.specs.Conditions.{ToBeBonded, HaveBond, Differ}
 
 not-dotted : (q : Pending) → not (afterDot q) ≡ true → q ≢ dotted

@@ -21,7 +21,8 @@ use Rattle.table.specs.Limits.{maxAtoms, maxBonds}
 use Rattle.table.specs.Rows.{withBond}
 use Rattle.ids.specs.Limits.{maxDepth}
 use Rattle.reading_state.specs.State.{opened, closed, joined}
-use Rattle.reading.specs.Memory.{Memory, Pending, nothing, dotted, symbol, symbolKind, kindOf, blank, rowOf, bareRow, between, bonded, begun, described, awaiting, moved, counting, drafted, meet, closeRefusal}
+use Rattle.kinds.specs.Kind.{symbolKind, meet}
+use Rattle.reading.specs.Memory.{Memory, Pending, nothing, dotted, symbol, kindOf, blank, rowOf, bareRow, between, bonded, begun, described, awaiting, moved, counting, drafted, closeRefusal}
 use Rattle.reading.specs.Bracket.{digit, isotoped, elemented, hydrogened, signed, positive}
 use Rattle.reading.specs.Bracket as fields
 

@@ -6,6 +6,7 @@ use lib.ListN.{getD, set}
 use lib.IntN.{ℤ, pos}
 use lib.Dec.{eqb, leb, ltb}
 use Rattle.loops.specs.Loop.{pick, each}
+use Rattle.kinds.specs.Kind.{elided, clash}
 use Rattle.table.specs.declared.Atom.{Atom}
 use Rattle.table.specs.declared.Bond.{Bond}
 use Rattle.table.specs.Limits.{maxAtoms, maxBonds}
@@ -30,14 +31,10 @@ pub record Memory : Type 0 where
   pub tens : ℕ
   pub draft : Fields
 
--- "Bond symbols: `-` 1, `=` 2, `#` 3"; 0 for another byte
-unfoldable pub symbolKind : ℕ → ℕ
-symbolKind b = pick (eqb b 45) 1 (pick (eqb b 61) 2 (pick (eqb b 35) 3 0))
-
 -- the kind of a bond that is made now: "none (elided)" is 0
 abbrev pub kindOf : Pending → ℕ
-kindOf nothing = 0
-kindOf dotted = 0
+kindOf nothing = elided
+kindOf dotted = elided
 kindOf (symbol k) = k
 
 abbrev pub afterDot : Pending → Bool
@@ -114,14 +111,6 @@ abbrev pub drafted : Fields → Memory → Memory
 drafted f μ = record { st = μ .st; atoms = μ .atoms; bonds = μ .bonds; pending = μ .pending; tens = μ .tens; draft = f }
 
 -- ---- a bridge
-
--- "A symbol at one end counts"; j at the opening, k at the closing
-abbrev pub meet : ℕ → ℕ → ℕ
-meet j k = pick (eqb k 0) j k
-
--- "at both ends they must be equal"
-abbrev pub clash : ℕ → ℕ → Bool
-clash j k = not (eqb j 0) && not (eqb k 0) && not (eqb j k)
 
 -- the bond i joins the atoms a and b
 unfoldable pub joins : List ℤ → ℕ → ℕ → ℕ → Bool

@@ -6,7 +6,6 @@ ghost use lib.ListN.{length};
 ghost use Rattle.element.specs.Symbols.{among};
 ghost use Rattle.reading_grammar.specs.Grammar.{nonzero, digits, several, signs};
 ghost use Rattle.reading.specs.Bracket.{digit};
-ghost use Rattle.reading.specs.Memory.{symbolKind};
 ghost use Rattle.reading_fields.specs.Field.{Peeked, Grown};
 
 // A number of digits that were read, and the offset after them.
@@ -56,22 +55,6 @@ pub fn value(b: u8) -> u16
     ensures { λ r. ⌜ (r ≡ digit b) × (r < 10) ⌝ }
 {
     (b - b'0') as u16
-}
-
-// internal: the kind of a bond symbol; 0 for another byte.
-pub fn symbol_kind(b: u8) -> u8
-    ensures { λ r. ⌜ r ≡ symbolKind b ⌝ }
-{
-    if b == b'-' {
-        return 1;
-    }
-    if b == b'=' {
-        return 2;
-    }
-    if b == b'#' {
-        return 3;
-    }
-    0
 }
 
 // internal: one digit more of a number, where a digit stands.

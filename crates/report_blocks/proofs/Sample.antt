@@ -2,10 +2,11 @@
 use mathlib.Core.Path.{_≡_, refl}
 use mathlib.Core.List.{List, [], _∷_}
 use Prim.Native.Nat.{ℕ}
+use Rattle.kinds.specs.Kind.{order, symbolKind, bondSymbol}
 use Rattle.loops.specs.Loop.{each, run, upTo}
 use Rattle.element.specs.Symbols.{among, listed, starts, sameBytes, symbols, letters, marks}
 use Rattle.element.specs.Lookup.{indexFrom, numberOf, selectedOf, letterOf, bare, bytesOf, selectedBytes}
-use Rattle.valence.specs.Valence.{order, targets, firstTarget, firstFitting, reachedIn, hydrogensOf, shiftedTarget, delocalized}
+use Rattle.valence.specs.Valence.{targets, firstTarget, firstFitting, reachedIn, hydrogensOf, shiftedTarget, delocalized}
 use Rattle.reading_grammar.specs.Grammar.{nonzero, digits, several, bondSymbols, signs}
 use Rattle.reading_grammar.specs.Machine.{step, next, accepting, resting, atomOr, bridgeOr, closing, extending, charging, hydrating, symbolOr}
 use Rattle.reading_grammar.specs.Fold.{feed, read}
@@ -18,7 +19,7 @@ use Rattle.table.specs.Valid.{selectedOk, sameEnds, fresh, distinct, atomOk, bo
 use Rattle.table.specs.Sound.{touches, bondDegree, noneLoose, lateCode, sound}
 use Rattle.table_graph.specs.Graph.{share, bondSum, matchable}
 use Rattle.reading_state.specs.State.{started, opened, closed, joined}
-use Rattle.reading.specs.Memory.{symbolKind, begun, joins, joinedAlready, closeRefusal}
+use Rattle.reading.specs.Memory.{begun, joins, joinedAlready, closeRefusal}
 use Rattle.reading.specs.Bracket.{symbolled}
 use Rattle.reading.specs.Act.{atomAct, bridgeAct, branchAct, modeAct, act}
 use Rattle.reading.specs.Read.{hydrogenated, overfullAtoms, leftmost, ended, readFrom, readOf}
@@ -48,5 +49,5 @@ output =
     []
 
 pub sample : reportOf input ≡ output
-unfolding input output bondDegree noneLoose lateCode sound each run upTo among listed starts sameBytes symbols letters marks indexFrom numberOf selectedOf letterOf bare bytesOf selectedBytes order targets firstTarget firstFitting reachedIn hydrogensOf shiftedTarget delocalized nonzero digits several bondSymbols signs step next accepting resting atomOr bridgeOr closing extending charging hydrating symbolOr feed read rows passing isRow rowCall isMatching eachOnce degree chosenInduced number inRange withAtom withBond doubled doubledBonds unselectedAtoms selectedOk sameEnds fresh distinct atomOk bondOk valid enough touches share bondSum started opened closed joined symbolKind begun joins joinedAlready closeRefusal symbolled atomAct bridgeAct branchAct modeAct act hydrogenated overfullAtoms leftmost matchable ended readFrom readOf callOn kekulizedOf forestOf renumbered unused write decimal hydrogenBytes sizeBytes bracketBytes withoutBrackets spelledAtom kindBytes bridgeBytes restBytes tokensBytes tokens textOf renumbering fewBridges writeValid writeOf firstRow kekuleOf writtenOf ofMolecule entryOf linesAfter decBy decOf acceptedLine refusedLine totalsLine lineOf acceptedOf reportFrom reportOf
+unfolding input output bondDegree noneLoose lateCode sound each run upTo among listed starts sameBytes symbols letters marks indexFrom numberOf selectedOf letterOf bare bytesOf selectedBytes order bondSymbol targets firstTarget firstFitting reachedIn hydrogensOf shiftedTarget delocalized nonzero digits several bondSymbols signs step next accepting resting atomOr bridgeOr closing extending charging hydrating symbolOr feed read rows passing isRow rowCall isMatching eachOnce degree chosenInduced number inRange withAtom withBond doubled doubledBonds unselectedAtoms selectedOk sameEnds fresh distinct atomOk bondOk valid enough touches share bondSum started opened closed joined symbolKind begun joins joinedAlready closeRefusal symbolled atomAct bridgeAct branchAct modeAct act hydrogenated overfullAtoms leftmost matchable ended readFrom readOf callOn kekulizedOf forestOf renumbered unused write decimal hydrogenBytes sizeBytes bracketBytes withoutBrackets spelledAtom kindBytes bridgeBytes restBytes tokensBytes tokens textOf renumbering fewBridges writeValid writeOf firstRow kekuleOf writtenOf ofMolecule entryOf linesAfter decBy decOf acceptedLine refusedLine totalsLine lineOf acceptedOf reportFrom reportOf
 sample = refl

@@ -8,9 +8,10 @@ use lib.Dec.{eqb, ltb}
 use lib.ListN.{length, getD}
 use lib.IntN.{ℤ, pos}
 use borrow.Author.Tests.{ltb-true, eqb-true, eqb-false}
+use Rattle.kinds.specs.Kind.{maxKind, order}
 use Rattle.loops.specs.Loop.{pick}
 use Rattle.loops.proofs.Loops.{and-left, and-right}
-use Rattle.valence.specs.Valence.{order, implied}
+use Rattle.valence.specs.Valence.{implied}
 use Rattle.table_graph.specs.Graph.{bondSum, matchable}
 use Rattle.table.specs.Limits.{maxAtoms, maxBonds, atomCells, bondCells, ELEMENT, SELECTED, ISOTOPE, HYDROGENS, CHARGE, EXTENSION}
 use Rattle.table.specs.Cells.{number, atomCell, bondCell, element, selected, hydrogens}
@@ -50,7 +51,7 @@ use Rattle.roundtrip.proofs.Bonds.{small-kinds, distinct, many, listed}
 use Rattle.roundtrip.proofs.Ending.{none-left, hydrogens-cell, other-cell, rest-cell, hydrogenated-length}
 
 -- ---- tokens of valid tables with few bridges
-good-tokens : (n : ℕ) (ts : List Tok) → fewBridges ts ≡ true → All (Made (λ v. v < n) (λ k. k ≤ 3)) ts → All (Good n) ts
+good-tokens : (n : ℕ) (ts : List Tok) → fewBridges ts ≡ true → All (Made (λ v. v < n) (λ k. k ≤ maxKind)) ts → All (Good n) ts
 unfolding fewBridges
 good-tokens n [] h none = none
 good-tokens n (apart w ∷ ts) h (more g a) = more {b = apart w} g (good-tokens n ts h a)
@@ -180,7 +181,7 @@ module _ (atoms bonds : List ℤ) (n m : ℕ) (v : Valid atoms bonds n m) where
     held : Held atoms bonds n m (length A) (length B) rows-fine (lent .atoms-room) (lent .bonds-room) A B refl refl (textOf atoms bonds n m) end-state
     unfolding textOf tokens
     held = text-read atoms bonds n m (length A) (length B) rows-fine (lent .atoms-room) (lent .bonds-room) A B refl refl (tokens bonds n m) end-state (written-grammar n (λ a. a) bs) tokens-read
-        (good-tokens n (tokens bonds n m) few (written-made (λ w. w < n) (λ k. k ≤ 3) (omega arith) n (λ a. a) bs (inside v) (λ w l. l) (small-kinds v)))
+        (good-tokens n (tokens bonds n m) few (written-made (λ w. w < n) (λ k. k ≤ maxKind) (omega arith) n (λ a. a) bs (inside v) (λ w l. l) (small-kinds v)))
 
     abbrev μ : Memory
     μ = held .memory

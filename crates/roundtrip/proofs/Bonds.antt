@@ -8,6 +8,7 @@ use lib.Dec.{eqb}
 use lib.ListN.{length, getD}
 use lib.IntN.{ℤ, pos}
 use borrow.Author.Tests.{eqb-true, eq-eqb}
+use Rattle.kinds.specs.Kind.{maxKind}
 use Rattle.loops.specs.Loop.{upTo}
 use Rattle.loops.proofs.Loops.{and-left, and-right, length-upTo}
 use Rattle.table.specs.Cells.{number, end1, end2, kind, bondCell}
@@ -60,8 +61,8 @@ module _ {A : Type 0} where
   upTo-list d f l h = upTo-from d f l 0 (λ i g. let e : 0 + i ≡ i = omega arith in rw e (h i g))
 
 module _ {atoms bonds : List ℤ} {n m : ℕ} (v : Valid atoms bonds n m) where
-  pub small-kinds : All (λ b. b .kind ≤ 3) (bondList bonds m)
-  small-kinds = all-upTo (λ b. b .kind ≤ 3) (walkBond bonds) 0 m (λ j a b. kind-small v j (omega arith))
+  pub small-kinds : All (λ b. b .kind ≤ maxKind) (bondList bonds m)
+  small-kinds = all-upTo (λ b. b .kind ≤ maxKind) (walkBond bonds) 0 m (λ j a b. kind-small v j (omega arith))
 
   pub distinct : Distinct (bondList bonds m)
   unfolding sameEnds

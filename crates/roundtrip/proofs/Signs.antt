@@ -7,6 +7,7 @@ use native.Mathlib.Omega.{arith}
 use lib.Dec.{ltb}
 use lib.ListN.{length}
 use borrow.Author.Tests.{ltb-true, ltb-false, le-ltb, lt-ltb}
+use Rattle.kinds.specs.Kind.{maxKind, symbolKind, bondSymbol}
 use Rattle.loops.specs.Loop.{pick}
 use Rattle.element.specs.Symbols.{among, letters}
 use Rattle.element.specs.Lookup.{letterOf, selectedOf}
@@ -24,7 +25,7 @@ use Rattle.reading_grammar.specs.Machine.{turn, step, next, atomOr, bridgeOr}
 use Rattle.reading_grammar.specs.Fold.{keeps}
 use Rattle.table.specs.declared.Atom.{Atom}
 use Rattle.ids.specs.Limits.{bridges}
-use Rattle.reading.specs.Memory.{Memory, Pending, nothing, dotted, symbol, symbolKind, kindOf, afterDot, awaiting, counting}
+use Rattle.reading.specs.Memory.{Memory, Pending, nothing, dotted, symbol, kindOf, afterDot, awaiting, counting}
 use Rattle.reading.specs.Bracket.{digit}
 use Rattle.reading.specs.Act.{act, modeAct, bridgeAct}
 use Rattle.writing_walk.specs.Reading.{St}
@@ -59,8 +60,8 @@ record Symbol (k : ℕ) : Type 0 where
   fresh-goes : next inside sign ≡ to atomNext
   fresh-does : (i : ℕ) (μ : Memory) → modeAct inside sign i μ ≡ keeps (awaiting (symbol k) μ)
 
-symbol-of : (k : ℕ) → 0 < k → k ≤ 3 → Symbol k
-unfolding kindBytes symbolKind next atomOr bridgeOr among letters nonzero bondSymbols modeAct letterOf selectedOf
+symbol-of : (k : ℕ) → 0 < k → k ≤ maxKind → Symbol k
+unfolding kindBytes bondSymbol symbolKind next atomOr bridgeOr among letters nonzero bondSymbols modeAct letterOf selectedOf
 symbol-of zero h l = absurd (omega arith)
 symbol-of (suc zero) h l = record { sign = 45; bytes = refl; after-goes = λ x. refl; after-does = λ x i μ. refl; fresh-goes = refl; fresh-does = λ i μ. refl }
 symbol-of (suc (suc zero)) h l = record { sign = 61; bytes = refl; after-goes = λ x. refl; after-does = λ x i μ. refl; fresh-goes = refl; fresh-does = λ i μ. refl }
@@ -83,8 +84,8 @@ stance-begins (fresh {d}) = begins-inside d
 waits-still : (μ : Memory) → μ .pending ≡ nothing → μ ≡ awaiting nothing μ
 waits-still μ e = ap (λ (k : Pending). awaiting k μ) e
 
-pub takes-kind : {f : Bool} {d : ℕ} {σ : MachineState} (i : ℕ) (μ : Memory) (k : ℕ) → k ≤ 3 → μ .pending ≡ nothing → Stance f d σ → Jointed i σ d μ (kindBytes k) (waiting k)
-unfolding kindBytes step act
+pub takes-kind : {f : Bool} {d : ℕ} {σ : MachineState} (i : ℕ) (μ : Memory) (k : ℕ) → k ≤ maxKind → μ .pending ≡ nothing → Stance f d σ → Jointed i σ d μ (kindBytes k) (waiting k)
+unfolding kindBytes bondSymbol step act
 takes-kind {σ = σ} i μ zero l e v = record { state = σ; begins = stance-begins v; takes = subst (Takes i σ μ [] σ) (waits-still μ e) stays }
 takes-kind i μ (suc k) l e v = go v (symbol-of (suc k) (omega arith) l)
   where
@@ -124,8 +125,8 @@ record Tied (i : ℕ) (x : Last) (d : ℕ) (μ : Memory) (k : ℕ) : Type 0 wher
   rings : Rings mode
   takes : Takes i (at (seq x) d) μ (kindBytes k) (at mode d) (awaiting (waiting k) μ)
 
-takes-tie : (i : ℕ) (x : Last) (d : ℕ) (μ : Memory) (k : ℕ) → k ≤ 3 → μ .pending ≡ nothing → Tied i x d μ k
-unfolding kindBytes step act
+takes-tie : (i : ℕ) (x : Last) (d : ℕ) (μ : Memory) (k : ℕ) → k ≤ maxKind → μ .pending ≡ nothing → Tied i x d μ k
+unfolding kindBytes bondSymbol step act
 takes-tie i x d μ zero l e = record { mode = seq x; rings = rings-seq x; takes = subst (Takes i (at (seq x) d) μ [] (at (seq x) d)) (waits-still μ e) stays }
 takes-tie i x d μ (suc k) l e =
     let y = symbol-of (suc k) (omega arith) l in
@@ -175,7 +176,7 @@ module _ (row : ℕ → Atom) (flag : ℕ → ℕ) (p q : ℕ) (s : St) (r : ℕ
           })
 
   -- THE BRIDGE: the bytes of its kind and its number
-  pub takes-ring : (i : ℕ) (x : Last) (d : ℕ) (μ : Memory) (k : ℕ) → k ≤ 3 → μ .pending ≡ nothing → ((o t : ℕ) → Bridged row flag p q s r o (counting t (awaiting (waiting k) μ))) → Ringed row flag p q s i (at (seq x) d) d μ (kindBytes k ++ bridgeBytes r)
+  pub takes-ring : (i : ℕ) (x : Last) (d : ℕ) (μ : Memory) (k : ℕ) → k ≤ maxKind → μ .pending ≡ nothing → ((o t : ℕ) → Bridged row flag p q s r o (counting t (awaiting (waiting k) μ))) → Ringed row flag p q s i (at (seq x) d) d μ (kindBytes k ++ bridgeBytes r)
   takes-ring i x d μ k g e h =
       let y = takes-tie i x d μ k g e in
       let z = takes-number (i + length (kindBytes k)) (y .mode) d (awaiting (waiting k) μ) (y .rings) h in

@@ -7,6 +7,7 @@ use native.Mathlib.Omega.{arith}
 use lib.Dec.{eqb, ltb}
 use lib.ListN.{length, getD, set, length-append}
 use borrow.Author.Tests.{eqb-true, eqb-false, eq-eqb, ne-eqb, ltb-true, ltb-false, lt-leb}
+use Rattle.kinds.specs.Kind.{meet, clash}
 use Rattle.loops.specs.Loop.{pick}
 use Rattle.loops.proofs.Loops.{each-all}
 use Rattle.reading_grammar.specs.Fold.{keeps}
@@ -21,9 +22,9 @@ use Rattle.reading.specs.Memory.{Memory, nothing, kindOf, between, bonded, begu
 use Rattle.reading.specs.Memory as bytes
 use Rattle.reading.specs.Act.{bridgeBond, bridgeAct}
 use Rattle.writing_walk.specs.Token.{Bond, bond, bondBetween}
-use Rattle.writing_walk.specs.Reading.{Closure, vacant, at, closureAt, setClosure, meet, St, st, bridge}
+use Rattle.writing_walk.specs.Reading.{Closure, vacant, at, closureAt, setClosure, St, st, bridge}
 use Rattle.writing_walk.specs.Reading as token
-use Rattle.writing_walk.specs.Check.{ends, some, clash, refusedBridge}
+use Rattle.writing_walk.specs.Check.{ends, some, refusedBridge}
 use Rattle.writing_walk.proofs.Count.{All, more, all-map, all-at}
 use Rattle.roundtrip.proofs.Held.{openerOf, symbolOf, Bridging, bridging-set, Branching, branching-push, branching-pop, AtomTable, atom-add, nobond, rowOfBond, BondTable, bond-add}
 
@@ -52,23 +53,6 @@ some-at : (f : Bond → Bool) (bs : List Bond) (i : ℕ) → some f bs ≡ false
 some-at f [] i h l = absurd (omega arith)
 some-at f (b ∷ bs) zero h l = or-false (f b) (some f bs) h .0
 some-at f (b ∷ bs) (suc i) h l = some-at f bs i (or-false (f b) (some f bs) h .1) (omega arith)
-
-clash-same : (j k : ℕ) → clash j k ≡ false → bytes.clash j k ≡ false
-clash-same j zero h = go (not (eqb j 0))
-  where
-    go : (x : Bool) → (x && false && not (eqb j 0)) ≡ false
-    go true = refl
-    go false = refl
-clash-same zero (suc k) h = refl
-clash-same (suc j) (suc k) h = rw (ne-eqb (suc j) 0 (λ q. omega arith), ne-eqb (suc k) 0 (λ q. omega arith)) (go (eqb j k) refl h)
-  where
-    go : (x : Bool) → eqb j k ≡ x → not x ≡ false → not (eqb (suc j) (suc k)) ≡ false
-    go true e h = rw (eq-eqb (suc j) (suc k) (ap suc (eqb-true j k e)))
-    go false e h = absurd (let z : _≡_ {A = ℕ} 0 1 = cc in omega arith)
-
-meet-same : (j k : ℕ) → bytes.meet j k ≡ meet j k
-meet-same j zero = refl
-meet-same j (suc k) = rw (ne-eqb (suc k) 0 (λ q. omega arith))
 
 between-same : (u h k : ℕ) → between u h k ≡ rowOfBond (bondBetween u h k)
 between-same u h k = go (ltb u h)
@@ -251,10 +235,10 @@ module _ (row : ℕ → Atom) (flag : ℕ → ℕ) (p q : ℕ) (proom : atomCell
       let f : getD (μ .st .opener) (suc r) 0 ≡ u + 1 = s .bridging .openers r l ∙ ap openerOf e in
       let g : getD (μ .st .symbol) (suc r) 0 ≡ j = s .bridging .symbols r l ∙ ap symbolOf e in
       let d : u + 1 - 1 ≡ u = omega arith in
-      let row-is : between (u + 1 - 1) h (bytes.meet j k) ≡ rowOfBond (bondBetween u h (meet j k)) = rw (d, meet-same j k) (between-same u h (meet j k)) in
+      let row-is : between (u + 1 - 1) h (meet j k) ≡ rowOfBond (bondBetween u h (meet j k)) = rw d (between-same u h (meet j k)) in
       record {
         memory = moved (bridged (μ .st) (suc r) 0 0 0 (μ .st .bonds + 1)) (bridgeBond (suc r) μ);
-        is = rw (f, g, ne-eqb (u + 1) 0 (λ y. omega arith), d, s .bonds, s .hub, c, lt-leb maxBonds (length bs) m, w .1 .0, not-already u (w .1 .1 .0), clash-same j k (w .1 .1 .1));
+        is = rw (f, g, ne-eqb (u + 1) 0 (λ y. omega arith), d, s .bonds, s .hub, c, lt-leb maxBonds (length bs) m, w .1 .0, not-already u (w .1 .1 .0), w .1 .1 .1);
         waits = refl;
         holds = record {
           hub = s .hub;

@@ -8,6 +8,7 @@ use lib.Dec.{eqb, leb}
 use lib.ListN.{length}
 use lib.IntN.{ℤ}
 use borrow.Author.Tests.{ne-eqb, lt-leb}
+use Rattle.kinds.specs.Kind.{maxKind}
 use Rattle.element.specs.Symbols.{among, letters}
 use Rattle.element.specs.Lookup.{letterOf, selectedOf}
 use Rattle.reading_grammar.specs.Grammar.{nonzero, bondSymbols}
@@ -37,8 +38,8 @@ use Rattle.roundtrip.proofs.Signs.{Stance, after, fresh, takes-dot, wai
 -- a token that the writer may emit for valid tables of n atoms
 abbrev pub Good : ℕ → Tok → Type 0
 Good n (apart w) = w < n
-Good n (along k w) = (k ≤ 3) × (w < n)
-Good n (ring k r) = (k ≤ 3) × (suc r < bridges)
+Good n (along k w) = (k ≤ maxKind) × (w < n)
+Good n (ring k r) = (k ≤ maxKind) × (suc r < bridges)
 Good n branch = Unit {0}
 Good n back = Unit {0}
 
@@ -113,7 +114,7 @@ module _ (atoms bonds : List ℤ) (N m p q : ℕ) (fine-atoms : (v : ℕ) → v 
       let a = atom-apart (i + 1) (j .state) d xs bs h n hs stk ν w g (j .begins) (sim-await (draftRow atoms bonds m) (outsideFlag atoms bonds m) p q proom qroom xs bs h n hs stk μ s dotted) l (and-false (not (eqb (μ .st .atoms) 0))) in
       record { state = a .state; memory = a .memory; takes = joins (46 ∷ []) (f w) (j .takes) (a .takes); stance = a .stance; waits = a .waits; holds = a .holds }
 
-  pub step-along : (i : ℕ) (σ : MachineState) (μ : Memory) (x : Bool) (d : ℕ) (xs : List ℕ) (bs : List Bond) (h n : ℕ) (hs : List Closure) (stk : List ℕ) (k w : ℕ) → k ≤ 3 → w < N → Stance x d σ → μ .pending ≡ nothing → Is (st xs bs h n hs stk) μ → n < maxAtoms → length bs < maxBonds → 0 < n
+  pub step-along : (i : ℕ) (σ : MachineState) (μ : Memory) (x : Bool) (d : ℕ) (xs : List ℕ) (bs : List Bond) (h n : ℕ) (hs : List Closure) (stk : List ℕ) (k w : ℕ) → k ≤ maxKind → w < N → Stance x d σ → μ .pending ≡ nothing → Is (st xs bs h n hs stk) μ → n < maxAtoms → length bs < maxBonds → 0 < n
       → Stepped i σ μ (kindBytes k ++ f w) (token.stepToken (along k w) (st xs bs h n hs stk)) false d
   step-along i σ μ x d xs bs h n hs stk k w kk g v e s l c z =
       let j = takes-kind i μ k kk e v in
@@ -123,7 +124,7 @@ module _ (atoms bonds : List ℤ) (N m p q : ℕ) (fine-atoms : (v : ℕ) → v 
       let a = atom-along (i + length (kindBytes k)) (j .state) d xs bs h n hs stk ν k w g (j .begins) (sim-await (draftRow atoms bonds m) (outsideFlag atoms bonds m) p q proom qroom xs bs h n hs stk μ s (waiting k)) l c z u (waiting-kind k .0) in
       record { state = a .state; memory = a .memory; takes = joins (kindBytes k) (f w) (j .takes) (a .takes); stance = a .stance; waits = a .waits; holds = a .holds }
 
-  pub step-ring : (i : ℕ) (x : Last) (μ : Memory) (d : ℕ) (xs : List ℕ) (bs : List Bond) (h n : ℕ) (hs : List Closure) (stk : List ℕ) (k r : ℕ) → k ≤ 3 → suc r < bridges → μ .pending ≡ nothing → Is (st xs bs h n hs stk) μ
+  pub step-ring : (i : ℕ) (x : Last) (μ : Memory) (d : ℕ) (xs : List ℕ) (bs : List Bond) (h n : ℕ) (hs : List Closure) (stk : List ℕ) (k r : ℕ) → k ≤ maxKind → suc r < bridges → μ .pending ≡ nothing → Is (st xs bs h n hs stk) μ
       → refusedBridge maxAtoms maxBonds maxDepth (closureAt hs r) k bs h ≡ 0 → Stepped i (at (seq x) d) μ (kindBytes k ++ bridgeBytes r) (token.stepToken (ring k r) (st xs bs h n hs stk)) false d
   step-ring i x μ d xs bs h n hs stk k r kk g e s z =
       let R = draftRow atoms bonds m in

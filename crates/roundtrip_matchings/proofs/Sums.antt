@@ -11,7 +11,8 @@ use Rattle.loops.specs.Loop.{pick, run, upTo}
 use Rattle.loops.proofs.Loops.{length-upTo, upTo-at}
 use Rattle.table.specs.Limits.{CHARGE}
 use Rattle.table.specs.Cells.{atomCell, element, selected, hydrogens, end1, end2, kind}
-use Rattle.valence.specs.Valence.{order, delocalized}
+use Rattle.kinds.specs.Kind.{order}
+use Rattle.valence.specs.Valence.{delocalized}
 use Rattle.table.specs.Sound.{touches, countBond, bondDegree}
 use Rattle.table_graph.specs.Graph.{share, addShare, bondSum, flag, delocalizedFlag, delocalizedFlags, graphOf}
 use Rattle.writing_walk.specs.Token.{bond}

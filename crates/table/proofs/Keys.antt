@@ -12,6 +12,7 @@ use mir.Syntax.{w32}
 use mir.Val.{ofZ}
 use borrow.Author.Count.{below-more}
 use borrow.Author.Tests.{eq-eqb, ne-eqb, eqb-true, ltb-true, ltb-false, not-true, not-false}
+use Rattle.kinds.specs.Kind.{elided, maxKind}
 use Rattle.loops.specs.Loop.{each}
 use Rattle.loops.proofs.Loops.{and-left, and-right, each-all}
 use Rattle.table.specs.Limits.{FIRST, SECOND}
@@ -118,7 +119,7 @@ module _ {t : List ℤ} {n m i last : ℕ} (a : Sorted t n m i last) where
 pub short-row : (e f k : ℤ) (n : ℕ) → n < 65536 → bondRowOk e f k n ≡ true → (number e < 65536) × (number f < 65536)
 unfolding bondRowOk
 short-row e f k n h ok =
-    let a = inRange k (pos 0) (pos 3) in
+    let a = inRange k (pos elided) (pos maxKind) in
     let s = leZ (pos 0) e in
     let o = ltb (number e) (number f) in
     let q = ltb-true (number f) n (and-right (a && (s && o)) (ltb (number f) n) ok) in

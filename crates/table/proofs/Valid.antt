@@ -9,6 +9,7 @@ use lib.IntN.{ℤ, pos, negsuc}
 use lib.Signed.{leZ}
 use lib.Dec.{leb, ltb}
 use borrow.Author.Tests.{leb-true, ltb-true, le-leb, lt-ltb, not-true}
+use Rattle.kinds.specs.Kind.{elided, maxKind}
 use Rattle.loops.specs.Loop.{each}
 use Rattle.loops.proofs.Loops.{and-left, and-right, each-at}
 use Rattle.table.specs.Limits.{maxAtoms, maxBonds, atomCells, bondCells, HYDROGENS, FIRST, KIND}
@@ -123,8 +124,8 @@ module _ {atoms bonds : List ℤ} {n m : ℕ} (v : Valid atoms bonds n m) where
   pub hydrogens-small : (a : ℕ) → a < n → hydrogens atoms a ≤ 9
   hydrogens-small a l = range-high (atomCell atoms a HYDROGENS) 9 (atom-row a l .hydrogens)
 
-  pub kind-small : (b : ℕ) → b < m → kind bonds b ≤ 3
-  kind-small b l = range-high (bondCell bonds b KIND) 3 (bond-row b l .kind)
+  pub kind-small : (b : ℕ) → b < m → kind bonds b ≤ maxKind
+  kind-small b l = range-high (bondCell bonds b KIND) maxKind (bond-row b l .kind)
 
   pub second-end : (b : ℕ) → b < m → end2 bonds b < n
   second-end b l = bond-row b l .second

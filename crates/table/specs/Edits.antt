@@ -5,12 +5,13 @@ use lib.ListN.{getD, set}
 use lib.IntN.{ℤ, pos}
 use lib.Dec.{eqb}
 use Rattle.loops.specs.Loop.{pick, run}
+use Rattle.kinds.specs.Kind.{double}
 use Rattle.table.specs.Limits.{SELECTED, KIND}
 use Rattle.table.specs.Cells.{atomPlace, bondPlace}
 
 -- the bond b becomes kind 2 if its number x in the row is 1
 unfoldable pub doubled : ℕ → ℕ → List ℤ → List ℤ
-doubled x b t = pick (eqb x 1) (set t (bondPlace b KIND) (pos 2)) t
+doubled x b t = pick (eqb x 1) (set t (bondPlace b KIND) (pos double)) t
 
 abbrev pub doubledBy : List ℕ → ℕ → List ℤ → List ℤ
 doubledBy row b t = doubled (getD row b 0) b t

@@ -8,6 +8,7 @@ use lib.IntN.{ℤ, pos, negsuc}
 use lib.Signed.{leZ}
 use lib.Dec.{eqb, leb, ltb}
 use Rattle.loops.specs.Loop.{each}
+use Rattle.kinds.specs.Kind.{elided, maxKind}
 use Rattle.refusal.specs.Code.{codeOf}
 use Rattle.table.specs.declared.Check.{Check}
 use Rattle.table.specs.declared.Check.the-variants.{Fine, Refused}
@@ -41,9 +42,9 @@ selectable e = eqb e 6 || eqb e 7 || eqb e 8 || eqb e 15 || eqb e 16
 unfoldable pub selectedOk : List ℤ → ℕ → Bool
 selectedOk t a = inRange (atomCell t a SELECTED) (pos 0) (pos 1) && (eqb (selected t a) 0 || selectable (element t a))
 
--- 4: kind is 0 to 3
+-- 4: kind is 0 to 3, the largest
 abbrev pub kindOk : List ℤ → ℕ → Bool
-kindOk t b = inRange (bondCell t b KIND) (pos 0) (pos 3)
+kindOk t b = inRange (bondCell t b KIND) (pos elided) (pos maxKind)
 
 -- 5: the first end, an atom number and so not negative, is below the second
 abbrev pub orderOk : List ℤ → ℕ → Bool
@@ -78,7 +79,7 @@ unfoldable pub atomRowOk : ℤ → ℤ → ℤ → ℤ → ℤ → ℤ → Bool
 atomRowOk e s i h c x = inRange e (pos 0) (pos 118) && inRange i (pos 0) (pos 999) && inRange h (pos 0) (pos 9) && inRange c (negsuc 8) (pos 9) && inRange x (pos 0) (pos 9999) && selectionOk e s
 
 unfoldable pub bondRowOk : ℤ → ℤ → ℤ → ℕ → Bool
-bondRowOk e f k n = inRange k (pos 0) (pos 3) && (leZ (pos 0) e && ltb (number e) (number f)) && ltb (number f) n
+bondRowOk e f k n = inRange k (pos elided) (pos maxKind) && (leZ (pos 0) e && ltb (number e) (number f)) && ltb (number f) n
 
 -- the tables pass all; cells after the used rows are not looked at
 unfoldable pub valid : List ℤ → List ℤ → ℕ → ℕ → Bool

@@ -18,7 +18,7 @@ fn double_bond(bonds: &mut [i32], b: BondId, x: u8)
     if x != 1 {
         return;
     }
-    cell::put_bond_cell(bonds, b, KIND, 2);
+    cell::put_bond_cell(bonds, b, KIND, kinds::DOUBLE);
 }
 
 // internal: the bonds that the matching row has become kind 2.

@@ -20,7 +20,8 @@ use Rattle.table.specs.declared.Bond.{Bond}
 use Rattle.table.specs.Limits.{maxBonds}
 use Rattle.table.specs.Cells.{number, end1, end2, kind}
 use Rattle.table.specs.Rows.{bondAt, bondRow, BondFits}
-use Rattle.valence.specs.Valence.{order}
+use Rattle.kinds.specs.Kind.{order}
+use Rattle.kinds.proofs.Kind.{order-small}
 use Rattle.table.specs.Sound.{touches}
 use Rattle.table_graph.specs.Graph.{share, addShare, bondSum}
 use Rattle.table_graph.specs.Built.{bump, sumsWithBond}
@@ -49,15 +50,6 @@ sum-suc bonds b a = let e : 0 + b ≡ b = omega arith in run-last (addShare bond
 
 pub sum-more : (bonds : List ℤ) (b a : ℕ) → bondSum bonds (b + 1) a ≡ bondSum bonds b a + share bonds a b
 sum-more bonds b a = rw (add-one b) (sum-suc bonds b a)
-
-pub order-small : (k : ℕ) → order k ≤ 3
-unfolding order
-order-small k = go (eqb k 0) (leb k 3) refl
-  where
-    go : (x y : Bool) → leb k 3 ≡ y → pick x 1 (pick y k 0) ≤ 3
-    go true y e = omega arith
-    go false true e = leb-true k 3 e
-    go false false e = omega arith
 
 pub share-small : (bonds : List ℤ) (a b : ℕ) → share bonds a b ≤ 3
 unfolding share

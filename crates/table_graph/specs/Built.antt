@@ -9,7 +9,8 @@ use Rattle.loops.specs.Loop.{pick, upTo}
 use Rattle.table.specs.Limits.{maxAtoms, maxBonds, CHARGE}
 use Rattle.table.specs.Cells.{atomCell, element, selected, hydrogens, end1, end2, kind}
 use Rattle.table.specs.Valid.{Valid}
-use Rattle.valence.specs.Valence.{order, delocalized}
+use Rattle.kinds.specs.Kind.{order}
+use Rattle.valence.specs.Valence.{delocalized}
 use Rattle.table_graph.specs.Graph.{bondSum, flag, delocalizedFlags, elidedFlag}
 
 -- one bond sum raised

@@ -5,10 +5,11 @@ use mathlib.Core.Bool.{Bool, true, false, not}
 use lib.IntN.{ℤ}
 use lib.Dec.{eqb}
 use Rattle.loops.specs.Loop.{pick, each, run, upTo}
+use Rattle.kinds.specs.Kind.{elided, order}
 use Rattle.table.specs.Limits.{CHARGE}
 use Rattle.table.specs.Cells.{atomCell, element, selected, hydrogens, end1, end2, kind}
 use Rattle.table.specs.Sound.{touches}
-use Rattle.valence.specs.Valence.{order, delocalized}
+use Rattle.valence.specs.Valence.{delocalized}
 use Rattle.matching.specs.Enumeration.{Row, matchings}
 use Rattle.matching.specs.Graph.{Bond, isMatching}
 use Rattle.matching.specs.Model.{some?}
@@ -36,7 +37,7 @@ abbrev pub delocalizedFlag : List ℤ → List ℤ → ℕ → ℕ → ℕ
 delocalizedFlag atoms bonds m a = flag (delocalizedAt atoms bonds m a)
 
 abbrev pub elidedFlag : List ℤ → ℕ → ℕ
-elidedFlag bonds b = flag (eqb (kind bonds b) 0)
+elidedFlag bonds b = flag (eqb (kind bonds b) elided)
 
 -- none of n atoms is selected
 abbrev pub notSelected : List ℤ → ℕ → Bool
@@ -50,7 +51,7 @@ abbrev pub delocalizedFlags : List ℤ → List ℤ → ℕ → ℕ → List ℕ
 delocalizedFlags atoms bonds n m = upTo (delocalizedFlag atoms bonds m) 0 n
 
 abbrev pub bondOf : List ℤ → ℕ → Bond
-bondOf bonds b = record { end1 = end1 bonds b; end2 = end2 bonds b; elided = eqb (kind bonds b) 0 }
+bondOf bonds b = record { end1 = end1 bonds b; end2 = end2 bonds b; elided = eqb (kind bonds b) elided }
 
 abbrev pub graphOf : List ℤ → ℕ → List Bond
 graphOf bonds m = upTo (bondOf bonds) 0 m

@@ -89,7 +89,7 @@ pub fn wire(
         let first = cell::number(row.first);
         let second = cell::number(row.second);
         let kind = cell::number(row.kind);
-        let x = valence::order(kind) as u16;
+        let x = kinds::order(kind) as u16;
         ea[i] = first as u16;
         eb[i] = second as u16;
         el[i] = flag(kind == 0);

@@ -121,7 +121,7 @@ fn bond_row_ok(first: i32, second: i32, kind: i32, n: usize) -> bool
     let e = cell::number(first);
     let f = cell::number(second);
     let natural = 0 <= first;
-    cell::within(kind, 0, 3) & (natural & (e < f)) & (f < n)
+    cell::within(kind, 0, kinds::MAX_KIND) & (natural & (e < f)) & (f < n)
 }
 
 // The row of a bond that the table may end before is valid, with n atoms.

@@ -9,20 +9,11 @@ use lib.ListN.{length, take, getD}
 use borrow.Author.Tests.{eq-eqb, ne-eqb, le-leb, lt-leb, leb-true, ltb-true, ltb-false}
 use Rattle.loops.specs.Loop.{pick}
 use Rattle.loops.proofs.Loops.{and-left, and-right}
-use Rattle.valence.specs.Valence.{order, targets, targetRow, headOr0, firstTarget, targetsFor, firstFitting, reachedIn, valuesOf, hydrogensOf, implied}
+use Rattle.valence.specs.Valence.{targets, targetRow, headOr0, firstTarget, targetsFor, firstFitting, reachedIn, valuesOf, hydrogensOf, implied}
 use Rattle.valence.specs.declared.Targets.{Targets}
 use Rattle.valence.specs.declared.Reached.{Reached}
 use Rattle.valence.specs.declared.Reached.the-variants.{Target, NoTarget, AboveAll}
 use Rattle.valence.specs.declared.Hydrogens.{Hydrogens}
-
-order-step : (t u : Bool) (k : ℕ) → leb k 3 ≡ u → pick t 1 (pick u k 0) ≤ 3
-order-step true u k e = omega arith
-order-step false true k e = leb-true k 3 e
-order-step false false k e = omega arith
-
-pub order-within : (k : ℕ) → order k ≤ 3
-unfolding order
-order-within k = order-step (eqb k 0) (leb k 3) k refl
 
 -- at most three targets, the first at most 4, all at most 6
 abbrev few : List ℕ → Bool

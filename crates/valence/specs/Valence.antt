@@ -12,10 +12,6 @@ use Rattle.valence.specs.declared.Reached.{Reached}
 use Rattle.valence.specs.declared.Reached.the-variants.{Target, NoTarget, AboveAll}
 use Rattle.valence.specs.declared.Hydrogens.{Hydrogens}
 
--- what a bond of a kind adds to a bond sum: its kind, an elided bond counting 1
-unfoldable pub order : ℕ → ℕ
-order k = pick (eqb k 0) 1 (pick (leb k 3) k 0)
-
 -- target valences (000, table 1): B 3; C 4; N 3, 5; O 2; F 1; P 3, 5; S 2, 4, 6; Cl, Br, I, At, Ts 1
 unfoldable pub targets : ℕ → List ℕ
 targets e =

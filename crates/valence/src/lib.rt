@@ -1,10 +1,10 @@
-// Valence: what a bond adds to a bond sum, target valences, implied hydrogens, and the delocalization rule.
+// Valence: target valences, implied hydrogens, and the delocalization rule.
 ghost use mathlib.Core.Path.{_≡_};
 ghost use Prim.Native.Nat.{_-_, _<_};
 ghost use lib.IntN.{pos, natAbs};
 ghost use mir.Syntax.{w64};
 ghost use mir.Val.{SFits};
-ghost use Rattle.valence.specs.Valence.{order, targets, targetRow, firstTarget, targetsFor, firstFitting, reachedIn, valuesOf, hydrogensOf, shiftedTarget, delocalized};
+ghost use Rattle.valence.specs.Valence.{targets, targetRow, firstTarget, targetsFor, firstFitting, reachedIn, valuesOf, hydrogensOf, shiftedTarget, delocalized};
 
 // The target valences of an element in their order; 0 for each that it lacks.
 struct Targets(usize, usize, usize);
@@ -20,19 +20,6 @@ pub enum Reached {
 pub struct Hydrogens {
     pub count: usize,
     pub reached: Reached,
-}
-
-// What a bond of a kind adds to a bond sum; 0 where there is no such kind.
-pub fn order(kind: usize) -> usize
-    ensures { λ r. ⌜ r ≡ order kind ⌝ }
-{
-    if kind == 0 {
-        return 1;
-    }
-    if kind <= 3 {
-        return kind;
-    }
-    0
 }
 
 // The target valences of an element.

@@ -8,6 +8,7 @@ use lib.ListN.{length, getD, drop, drop-of-length-le}
 use lib.Seq.{drop-cons}
 use lib.Dec.{eqb, ltb}
 use borrow.Author.Tests.{eq-eqb, ne-eqb, eqb-true, eqb-false, lt-ltb, le-ltb, ltb-true, ltb-false}
+use Rattle.kinds.specs.Kind.{bondSymbol}
 use Rattle.loops.specs.Loop.{pick, upTo}
 use Rattle.ids.specs.Limits.{bridges}
 use Rattle.writing_walk.specs.Token.{Bond, Tok, apart, along, ring, branch, back}
@@ -30,7 +31,7 @@ module _ (g : ℕ → List ℕ) where
   rest-append (x ∷ a) b = ap (λ (l : List ℕ). tokenBytes g x ++ l) (rest-append a b) ∙ sym (append-assoc (tokenBytes g x) (restBytes g a) (restBytes g b))
 
   close-rest : (l : List Bond) (t : List Slot) → restBytes g (closeToks l t) ≡ closeBytes l t
-  unfolding restBytes closeBytes kindBytes
+  unfolding restBytes closeBytes kindBytes bondSymbol
   close-rest [] t = refl
   close-rest (b ∷ l) t = ap (λ (y : List ℕ). bridgeBytes (find b t) ++ y) (close-rest l (release b t))
 

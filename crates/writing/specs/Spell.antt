@@ -4,6 +4,7 @@ use mathlib.Core.Bool.{Bool, true, false, _&&_, not}
 use mathlib.Core.List.{List, [], _∷_, _++_}
 use lib.IntN.{ℤ, pos, negsuc}
 use lib.Dec.{eqb, leb, ltb}
+use Rattle.kinds.specs.Kind.{bondSymbol}
 use Rattle.loops.specs.Loop.{pick}
 use Rattle.element.specs.Lookup.{bare, bytesOf, selectedBytes}
 use Rattle.valence.specs.Valence.{implied}
@@ -72,7 +73,7 @@ atomBytes atoms bonds m a = spelledAtom atoms a (bondSum bonds m a)
 
 -- "kind 0 is written as nothing"
 unfoldable pub kindBytes : ℕ → List ℕ
-kindBytes k = pick (eqb k 1) (45 ∷ []) (pick (eqb k 2) (61 ∷ []) (pick (eqb k 3) (35 ∷ []) []))
+kindBytes k = pick (eqb (bondSymbol k) 0) [] (bondSymbol k ∷ [])
 
 -- "a digit 1 to 9, or `%` and two digits 10 to 99"; r is the number less one
 unfoldable pub bridgeBytes : ℕ → List ℕ

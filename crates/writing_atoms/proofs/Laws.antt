@@ -11,6 +11,7 @@ use mir.Val.{SFits}
 use mir.Syntax.{w32}
 use lib.Dec.{T, eqb, leb}
 use borrow.Author.Tests.{ne-eqb, lt-ltb, le-ltb, not-true, ltb-true, leb-true, eqb-true, eqb-false, le-leb, lt-leb}
+use Rattle.kinds.specs.Kind.{bondSymbol}
 use Rattle.loops.specs.Loop.{pick}
 use Rattle.loops.proofs.Loops.{and-left, and-right}
 use Rattle.element.specs.Symbols.{symbols}
@@ -43,22 +44,14 @@ digits4 x h =
     let j : 100 ≤ x = omega arith in
     simp (le-ltb x 10 i, le-ltb x 100 j, le-ltb x 1000 h)
 
--- the symbols of kinds
-pub no-symbol : (k : ℕ) → (k ≡ 1 → ⊥) → (k ≡ 2 → ⊥) → (k ≡ 3 → ⊥) → kindBytes k ≡ []
+-- the symbol of a kind
+pub no-symbol : (k b : ℕ) → b ≡ bondSymbol k → b ≡ 0 → kindBytes k ≡ []
 unfolding kindBytes
-no-symbol k e f g = simp (ne-eqb k 1 e, ne-eqb k 2 f, ne-eqb k 3 g)
+no-symbol k b e z = rw (sym e ∙ z)
 
-pub symbol1 : (k : ℕ) → k ≡ 1 → kindBytes k ≡ 45 ∷ []
+pub one-symbol : (k b : ℕ) → b ≡ bondSymbol k → (b ≡ 0 → ⊥) → kindBytes k ≡ b ∷ []
 unfolding kindBytes
-symbol1 k e = simp e
-
-pub symbol2 : (k : ℕ) → k ≡ 2 → kindBytes k ≡ 61 ∷ []
-unfolding kindBytes
-symbol2 k e = simp e
-
-pub symbol3 : (k : ℕ) → k ≡ 3 → kindBytes k ≡ 35 ∷ []
-unfolding kindBytes
-symbol3 k e = simp e
+one-symbol k b e n = rw (← e, ne-eqb b 0 n)
 
 -- the numbers of bridges
 pub low-bridge : (r : ℕ) → r < 9 → bridgeBytes r ≡ digitByte (r + 1) ∷ []

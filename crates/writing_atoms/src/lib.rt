@@ -42,16 +42,11 @@ pub fn decimal(out: &mut [u8], at: usize, x: usize) -> usize
 pub fn bond_symbol(out: &mut [u8], at: usize, k: usize) -> usize
     ensures { λ r. ⌜ Wrote (kindBytes k) (bufferAt (now (out .entry)) at) (bufferAt (now (out .exit)) r) ⌝ }
 {
-    if k == 1 {
-        return buffer::put(out, at, b'-');
+    let b = kinds::symbol(k);
+    if b == 0 {
+        return at;
     }
-    if k == 2 {
-        return buffer::put(out, at, b'=');
-    }
-    if k == 3 {
-        return buffer::put(out, at, b'#');
-    }
-    at
+    buffer::put(out, at, b)
 }
 
 // internal: the number of a bridge; r is the number less one.

@@ -8,6 +8,7 @@ use mathlib.Core.List.{List, [], _∷_, _++_}
 use lib.ListN.{length, getD, set}
 use lib.Dec.{eqb, ltb}
 use borrow.Author.Tests.{eqb-true, eqb-false, lt-ltb, le-ltb}
+use Rattle.kinds.specs.Kind.{bondSymbol}
 use Rattle.writing_walk.specs.Token.{Bond, eqBond}
 use Rattle.writing_walk.specs.Emit.{Slot, find, release, lowest, insert, closeAll, openAll}
 use Rattle.writing_walk.proofs.Count.{count}
@@ -133,7 +134,7 @@ released-lost i a p r e g =
     }
 
 pub released : (i : ℕ) (a c : List ℕ) (p q : BufferAt) (r : ℕ) → r ≡ indexOf (i + 1) a → c ≡ set a r 0 → Wrote (kindBytes 0 ++ bridgeBytes r) p q → Released i a c p q
-unfolding kindBytes
+unfolding kindBytes bondSymbol
 released i a c p q r e g w =
     record {
       told = λ f n k los his t b h s o.

@@ -3,6 +3,7 @@ ghost use mathlib.Core.Path.{_≡_};
 ghost use Prim.Native.Nat.{_-_, _<_, _≤_};
 ghost use lib.ListN.{length, replicate};
 ghost use Rattle.loops.specs.Loop.{run, upTo};
+ghost use Rattle.kinds.specs.Kind.{maxKind};
 ghost use Rattle.table.specs.Limits.{maxAtoms, maxBonds};
 ghost use Rattle.writing_walk.specs.Token.{bond};
 ghost use Rattle.writing_visit.specs.Visit.{BondsFit};
@@ -43,7 +44,7 @@ fn add_bond(
     requires { ⌜ Marked (now marks) (now los) (now his) used ⌝ }
     requires { ⌜ (0 < p) × (p < q) ⌝ }
     requires { ⌜ (q ≤ maxAtoms) × (used < maxBonds) ⌝ }
-    requires { ⌜ kind < 4 ⌝ }
+    requires { ⌜ kind ≤ maxKind ⌝ }
     ensures { λ r. ⌜ bondArrays (now (los .exit)) (now (his .exit)) (now (kinds .exit)) r ≡ addBond (now (up .entry)) (bond (p - 1) (q - 1) kind) (bondArrays (now (los .entry)) (now (his .entry)) (now (kinds .entry)) used) ⌝ }
     ensures { λ r. ⌜ Marked (now (marks .exit)) (now (los .exit)) (now (his .exit)) r ⌝ }
 {

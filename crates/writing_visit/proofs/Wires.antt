@@ -17,7 +17,7 @@ use Rattle.table_graph.specs.Graph.{share, addShare, bondSum}
 use Rattle.table_graph.specs.Built.{bump, sumsWithBond}
 use Rattle.table_graph.proofs.Graph.{upTo-ext}
 use Rattle.table_graph.proofs.Sums.{share-small, bond-at, bond-length, two-ends}
-use Rattle.valence.specs.Valence.{order}
+use Rattle.kinds.specs.Kind.{maxKind, order}
 use Rattle.writing_walk.specs.Token.{Bond, bond}
 use Rattle.writing.specs.Write.{walkBond, bondList}
 use Rattle.writing_visit.specs.Visit.{touching, firstFrom, BondsFit, Linked, Walked}
@@ -32,7 +32,7 @@ module _ {f g : ℕ → Bond} {m : ℕ} (same : (b : ℕ) → b < m → f b ≡ 
         few-atoms = fit .few-atoms;
         few-bonds = fit .few-bonds;
         ends = λ b h. subst (λ (x : Bond). (x .lo < x .hi) × (x .hi < n)) (same b h) (fit .ends b h);
-        kinds = λ b h. subst (λ (x : Bond). x .kind < 4) (same b h) (fit .kinds b h);
+        kinds = λ b h. subst (λ (x : Bond). x .kind ≤ maxKind) (same b h) (fit .kinds b h);
       }
 
   first-same : (v w k d : ℕ) → v ≡ w → k + d ≤ m → firstFrom (touching f v) k d ≡ firstFrom (touching g w) k d

@@ -5,6 +5,7 @@ use mathlib.Core.Bool.{Bool, _||_}
 use mathlib.Core.List.{List, [], _∷_, _++_}
 use lib.ListN.{length, getD, set}
 use lib.Dec.{eqb}
+use Rattle.kinds.specs.Kind.{maxKind}
 use Rattle.loops.specs.Loop.{pick, upTo}
 use Rattle.table.specs.Limits.{maxAtoms, maxBonds}
 use Rattle.writing_walk.specs.Token.{Bond}
@@ -57,7 +58,7 @@ pub record BondsFit (bonds : ℕ → Bond) (n m : ℕ) : Type 0 where
   pub few-atoms : n ≤ maxAtoms
   pub few-bonds : m ≤ maxBonds
   pub ends : (b : ℕ) → b < m → (bonds b .lo < bonds b .hi) × (bonds b .hi < n)
-  pub kinds : (b : ℕ) → b < m → bonds b .kind < 4
+  pub kinds : (b : ℕ) → b < m → bonds b .kind ≤ maxKind
 
 -- the bonds from b on as lists: the first one at each atom, and behind each bond the next one at either end; m where there is none
 pub record Linked (bonds : ℕ → Bond) (m b : ℕ) (head after behind : List ℕ) : Type 0 where

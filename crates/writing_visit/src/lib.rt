@@ -7,7 +7,7 @@ ghost use lib.Dec.{eqb};
 ghost use Rattle.loops.specs.Loop.{pick, upTo};
 ghost use Rattle.table.specs.Limits.{maxAtoms, maxBonds};
 ghost use Rattle.table.specs.Cells.{end1, end2, kind};
-ghost use Rattle.valence.specs.Valence.{order};
+ghost use Rattle.kinds.specs.Kind.{maxKind, order};
 ghost use Rattle.table_graph.specs.Graph.{bondSum};
 ghost use Rattle.table_graph.specs.Built.{bump};
 ghost use Rattle.writing.specs.Write.{walkBond, bondList};
@@ -53,7 +53,7 @@ fn note_bond(
 )
     requires { ⌜ b .0 < maxBonds ⌝ }
     requires { ⌜ (x .first .0 < x .second .0) × (x .second .0 < maxAtoms) ⌝ }
-    requires { ⌜ x .kind < 4 ⌝ }
+    requires { ⌜ x .kind ≤ maxKind ⌝ }
     requires { ⌜ ((a : ℕ) → getD (now sums) a 0 ≤ 3 * maxBonds) ⌝ }
     ensures { λ _. ⌜ now (ea .exit) ≡ set (now (ea .entry)) (b .0) (x .first .0) ⌝ }
     ensures { λ _. ⌜ now (eb .exit) ≡ set (now (eb .entry)) (b .0) (x .second .0) ⌝ }
@@ -66,7 +66,7 @@ fn note_bond(
     ea[i] = e as u16;
     eb[i] = f as u16;
     ks[i] = x.kind as u8;
-    let order = valence::order(x.kind) as u16;
+    let order = kinds::order(x.kind) as u16;
     sums[e] += order;
     sums[f] += order;
 }
@@ -172,7 +172,7 @@ fn add(
     count: usize,
 )
     requires { ⌜ (v .0 < maxAtoms) × (count < maxAtoms) ⌝ }
-    requires { ⌜ (parent ≤ maxAtoms) × (k < 4) ⌝ }
+    requires { ⌜ (parent ≤ maxAtoms) × (k ≤ maxKind) ⌝ }
     ensures { λ _. ⌜ now (order .exit) ≡ set (now (order .entry)) count (v .0) ⌝ }
     ensures { λ _. ⌜ now (number .exit) ≡ set (now (number .entry)) (v .0) (count + 1) ⌝ }
     ensures { λ _. ⌜ now (up .exit) ≡ set (now (up .entry)) count parent ⌝ }

@@ -7,11 +7,13 @@ use native.Mathlib.Omega.{arith}
 use lib.Dec.{eqb, ltb}
 use lib.ListN.{length}
 use borrow.Author.Tests.{eq-eqb, ne-eqb, eqb-true, lt-ltb}
+use Rattle.kinds.specs.Kind.{meet, clash}
+use Rattle.kinds.proofs.Kind.{clash-none}
 use Rattle.writing_walk.specs.Token.{Bond, bond, bondBetween, Tok, apart, along, ring, branch, back}
-use Rattle.writing_walk.specs.Reading.{Closure, vacant, at, closureAt, meet, bridge, stepToken, St, st, runTokens, startTokens}
+use Rattle.writing_walk.specs.Reading.{Closure, vacant, at, closureAt, bridge, stepToken, St, st, runTokens, startTokens}
 use Rattle.writing_walk.specs.Emit.{Forest, leaf, node, size, pre, Slot, lowest, insert, find, release, closeAll, closeToks, openToks, wrap, rings, ringToks, after, text, toks, done, hubAfter, endHub}
 use Rattle.writing_walk.specs.Walk.{forestOf, renumber, closingBonds, openingBonds, relabel, renumbered, unused, write}
-use Rattle.writing_walk.specs.Check.{ends, some, clash, refusedBridge, refusal, fine, orNumber, reading}
+use Rattle.writing_walk.specs.Check.{ends, some, refusedBridge, refusal, fine, orNumber, reading}
 use Rattle.writing_walk.specs.Depth.{nests}
 use Rattle.writing_walk.proofs.Count.{bit, count, count-append, and-left, and-right, never, All, none, more, all-map, nobody}
 use Rattle.writing_walk.proofs.Read.{Back, Inv, hooks, hang-at, lowest-vacant, bridged, read-closes, read-rings, read-body, read-wrap, read-kids, inv-rings, inv-after, closes-at, closes-within, opens-at}
@@ -45,7 +47,7 @@ clean-on b s s′ e h = ap (clean b) e ∙ h
 
 no-symbol : (x : Closure) → agrees x 0 ≡ true
 no-symbol vacant = refl
-no-symbol (at u j) = refl
+no-symbol (at u j) = ap not (clash-none j)
 
 clean-closes : (c : List Bond) (t : List Slot) (s : St) → clean (closeToks c t) s ≡ true
 clean-closes [] t s = refl

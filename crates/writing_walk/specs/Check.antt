@@ -4,6 +4,7 @@ use mathlib.Core.List.{List, [], _∷_}
 use Prim.Native.Nat.{ℕ, zero, suc}
 use lib.Dec.{eqb, ltb}
 use lib.ListN.{length}
+use Rattle.kinds.specs.Kind.{clash}
 use Rattle.writing_walk.specs.Token.{Bond, Tok, apart, along, ring, branch, back, bondBetween}
 use Rattle.writing_walk.specs.Reading.{Closure, vacant, at, closureAt, St, st, stepToken}
 
@@ -13,12 +14,6 @@ ends a c b = eqb (b .lo) a && eqb (b .hi) c
 abbrev pub some : (Bond → Bool) → List Bond → Bool
 some p [] = false
 some p (b ∷ l) = p b || some p l
-
--- 9: "the symbols at a bridge's ends differ"
-abbrev pub clash : ℕ → ℕ → Bool
-clash j zero = false
-clash zero (suc k) = false
-clash (suc j) (suc k) = not (eqb j k)
 
 pub data Res : Type 0 where
   fine : St → Res

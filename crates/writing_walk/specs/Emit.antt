@@ -2,6 +2,7 @@
 use mathlib.Core.Bool.{cond}
 use mathlib.Core.List.{List, [], _∷_, _++_}
 use Prim.Native.Nat.{ℕ, suc, _+_}
+use Rattle.kinds.specs.Kind.{elided}
 use Rattle.writing_walk.specs.Token.{Bond, bond, eqBond, Tok, apart, along, ring, branch, back}
 
 -- first child and next sibling: an atom, the kind of the bond to its parent, its children, its later siblings
@@ -51,7 +52,7 @@ closeAll (b ∷ c) t = closeAll c (release b t)
 -- closings bear no symbol: "the symbol stands at the opening end only"
 abbrev pub closeToks : List Bond → List Slot → List Tok
 closeToks [] t = []
-closeToks (b ∷ c) t = ring 0 (find b t) ∷ closeToks c (release b t)
+closeToks (b ∷ c) t = ring elided (find b t) ∷ closeToks c (release b t)
 
 abbrev pub openAll : List Bond → List Slot → List Slot
 openAll [] t = t

@@ -2,6 +2,7 @@
 use mathlib.Core.Bool.{Bool, true, false, cond}
 use mathlib.Core.List.{List, [], _∷_, _++_}
 use Prim.Native.Nat.{ℕ, zero, suc}
+use Rattle.kinds.specs.Kind.{meet}
 use Rattle.writing_walk.specs.Token.{Bond, bond, bondBetween, Tok, apart, along, ring, branch, back}
 
 -- "A number that is not open opens at the hub; an open one joins its opening atom to the hub and is free again":
@@ -20,11 +21,6 @@ setClosure [] zero y = y ∷ []
 setClosure [] (suc m) y = vacant ∷ setClosure [] m y
 setClosure (x ∷ l) zero y = y ∷ l
 setClosure (x ∷ l) (suc m) y = x ∷ setClosure l m y
-
--- "A symbol at one end counts": the kind of a bridge from those at its ends
-abbrev pub meet : ℕ → ℕ → ℕ
-meet a zero = a
-meet a (suc b) = suc b
 
 -- what steers the reading: atoms, bonds, hub, number of atoms, bridges, open branches
 pub data St : Type 0 where

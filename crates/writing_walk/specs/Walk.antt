@@ -3,6 +3,7 @@ use mathlib.Core.Bool.{Bool, true, false, _||_, cond}
 use mathlib.Core.List.{List, [], _∷_, _++_, map}
 use Prim.Native.Nat.{ℕ, zero, suc}
 use lib.Dec.{eqb}
+use Rattle.kinds.specs.Kind.{elided}
 use Rattle.writing_walk.specs.Token.{Bond, eqBond, Tok, bondBetween}
 use Rattle.writing_walk.specs.Emit.{Forest, leaf, node, pre, text, trees}
 
@@ -39,7 +40,7 @@ walk bs (suc d) v s = visitInTurn (walk bs d) (neighbours v bs) s
 -- "The walk begins at the lowest atom not yet visited, and for each further piece of the molecule .. begins again"
 abbrev pub roots : ℕ → ℕ → List Neighbour
 roots a zero = []
-roots a (suc n) = neighbour a 0 ∷ roots (suc a) n
+roots a (suc n) = neighbour a elided ∷ roots (suc a) n
 
 unfoldable pub forestOf : ℕ → List Bond → Forest
 forestOf n bs = visitInTurn (walk bs n) (roots 0 n) []

@@ -20,6 +20,13 @@ pub struct WriteReply {
     pub length: usize,
 }
 
+/// What `balsa_first_forced` hands back.
+#[repr(C)]
+pub struct ForcedReply {
+    pub code: u32,
+    pub forced: usize,
+}
+
 /// What `balsa_symbol` hands back.
 #[repr(C)]
 pub struct SymbolReply {
@@ -58,7 +65,9 @@ pub struct WalkReply {
 }
 
 mod linked {
-    use super::{EntryReply, ReadReply, ReportReply, SymbolReply, WalkReply, WriteReply};
+    use super::{
+        EntryReply, ForcedReply, ReadReply, ReportReply, SymbolReply, WalkReply, WriteReply,
+    };
 
     extern "C" {
         pub fn balsa_symbol(first: u8, second: u8) -> SymbolReply;
@@ -101,6 +110,28 @@ mod linked {
             row_len: usize,
         ) -> u32;
         pub fn balsa_next(
+            atoms: *const i32,
+            atoms_len: usize,
+            bonds: *const i32,
+            bonds_len: usize,
+            n: usize,
+            m: usize,
+            row: *mut u8,
+            row_len: usize,
+        ) -> u32;
+        pub fn balsa_first_forced(
+            atoms: *const i32,
+            atoms_len: usize,
+            bonds: *const i32,
+            bonds_len: usize,
+            n: usize,
+            m: usize,
+            row: *mut u8,
+            row_len: usize,
+            pairs: *mut u16,
+            pairs_len: usize,
+        ) -> ForcedReply;
+        pub fn balsa_next_forced(
             atoms: *const i32,
             atoms_len: usize,
             bonds: *const i32,
@@ -250,6 +281,47 @@ pub fn next(atoms: &[i32], bonds: &[i32], n: usize, m: usize, row: &mut [u8]) ->
     // SAFETY: as for `read`.
     unsafe {
         linked::balsa_next(
+            atoms.as_ptr(),
+            atoms.len(),
+            bonds.as_ptr(),
+            bonds.len(),
+            n,
+            m,
+            row.as_mut_ptr(),
+            row.len(),
+        )
+    }
+}
+
+pub fn first_forced(
+    atoms: &[i32],
+    bonds: &[i32],
+    n: usize,
+    m: usize,
+    row: &mut [u8],
+    pairs: &mut [u16],
+) -> ForcedReply {
+    // SAFETY: as for `read`.
+    unsafe {
+        linked::balsa_first_forced(
+            atoms.as_ptr(),
+            atoms.len(),
+            bonds.as_ptr(),
+            bonds.len(),
+            n,
+            m,
+            row.as_mut_ptr(),
+            row.len(),
+            pairs.as_mut_ptr(),
+            pairs.len(),
+        )
+    }
+}
+
+pub fn next_forced(atoms: &[i32], bonds: &[i32], n: usize, m: usize, row: &mut [u8]) -> u32 {
+    // SAFETY: as for `read`.
+    unsafe {
+        linked::balsa_next_forced(
             atoms.as_ptr(),
             atoms.len(),
             bonds.as_ptr(),

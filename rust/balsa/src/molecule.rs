@@ -94,6 +94,24 @@ impl Molecule {
         }
     }
 
+    /// The bonds of the pairs that are forced before any choice, in turn: each is in every matching.
+    ///
+    /// ```
+    /// use balsa::Molecule;
+    ///
+    /// assert_eq!(Molecule::read(b"o1cccc1")?.forced(), [1, 3]);
+    /// assert_eq!(Molecule::read(b"c1ccccc1")?.forced(), []);
+    /// # Ok::<(), balsa::Refusal>(())
+    /// ```
+    pub fn forced(&self) -> Vec<u16> {
+        let mut row = vec![0; ROW];
+        let mut pairs = vec![0; ROW];
+        let forced =
+            tables::first_forced(&self.atoms, &self.bonds, self.counts, &mut row, &mut pairs);
+        pairs.truncate(forced.unwrap_or(0));
+        pairs
+    }
+
     /// Makes the bonds of a matching double and every atom unselected.
     ///
     /// # Errors

@@ -90,7 +90,47 @@ pub fn first(atoms: &[i32], bonds: &[i32], counts: Counts, row: &mut [u8]) -> Re
 /// # Errors
 /// 1 leaves the row as it was; 13 and 12 zero it.
 pub fn next(atoms: &[i32], bonds: &[i32], counts: Counts, row: &mut [u8]) -> Result<Step, Code> {
-    match ffi::next(atoms, bonds, counts.atoms, counts.bonds, row) {
+    step(ffi::next(atoms, bonds, counts.atoms, counts.bonds, row))
+}
+
+/// Stores the first matching in the row, by the engine that pairs atoms as long as a pair is forced,
+/// and the pairs that are forced before any choice in the list: their bond numbers in turn, which are
+/// in every matching. Gives their number.
+///
+/// # Errors
+/// 1 leaves the row and the list, which is as long as a row, as they were; 13 and 11 zero them.
+pub fn first_forced(
+    atoms: &[i32],
+    bonds: &[i32],
+    counts: Counts,
+    row: &mut [u8],
+    pairs: &mut [u16],
+) -> Result<usize, Code> {
+    let reply = ffi::first_forced(atoms, bonds, counts.atoms, counts.bonds, row, pairs);
+    accepted(reply.code).map(|()| reply.forced)
+}
+
+/// As [`next`], by the engine of [`first_forced`].
+///
+/// # Errors
+/// 1 leaves the row as it was; 13 and 12 zero it.
+pub fn next_forced(
+    atoms: &[i32],
+    bonds: &[i32],
+    counts: Counts,
+    row: &mut [u8],
+) -> Result<Step, Code> {
+    step(ffi::next_forced(
+        atoms,
+        bonds,
+        counts.atoms,
+        counts.bonds,
+        row,
+    ))
+}
+
+fn step(code: u32) -> Result<Step, Code> {
+    match code {
         0 => Ok(Step::Given),
         255 => Ok(Step::End),
         number => Err(Code::of(number)),

@@ -81,6 +81,7 @@ impl<I: Implementation> Subject for OnTables<I> {
             counts: Counts::default(),
             row: vec![0; ROW],
             text: vec![0; TEXT],
+            pairs: vec![0; ROW],
             renumbering: vec![0; RENUMBERING],
             calls: Vec::new(),
             codes: Vec::new(),

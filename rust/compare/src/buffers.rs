@@ -17,6 +17,8 @@ pub struct Buffers {
     pub counts: Counts,
     /// The row of a matching.
     pub row: Vec<u8>,
+    /// The list of forced pairs.
+    pub pairs: Vec<u16>,
     /// The output of a text.
     pub text: Vec<u8>,
     /// The output of a renumbering.
@@ -39,6 +41,7 @@ impl Buffers {
         };
         let (atoms, bonds) = (length(ATOM_TABLE), length(BOND_TABLE));
         let (row, text, renumbering) = (length(ROW), length(TEXT), length(RENUMBERING));
+        let pairs = length(ROW);
         let calls = calls(random);
         let codes = match random.below(8) {
             0 => calls.len().saturating_sub(1),
@@ -51,6 +54,7 @@ impl Buffers {
             bonds: vec![dirt as i32 | 1; bonds],
             counts: Counts::default(),
             row: vec![dirt as u8; row],
+            pairs: vec![dirt as u16 | 1; pairs],
             text: vec![dirt as u8 | 1; text],
             renumbering: vec![dirt as u16; renumbering],
             calls,

@@ -11,8 +11,8 @@ pub struct Answer {
     pub code: u8,
     /// The place of the refusal.
     pub place: usize,
-    /// Atoms, bonds and over-full atoms read; 1 for the end of a list; 1 for a matching; the length
-    /// written.
+    /// Atoms, bonds and over-full atoms read; 1 for the end of a list; 1 for a matching; the pairs
+    /// forced; the length written.
     pub numbers: [usize; 3],
 }
 
@@ -65,6 +65,10 @@ pub trait Implementation {
     fn first(&self, buffers: &mut Buffers) -> Answer;
     /// Stores the matching after the row in the row.
     fn next(&self, buffers: &mut Buffers) -> Answer;
+    /// Stores the first matching in the row, and the forced pairs in the list.
+    fn first_forced(&self, buffers: &mut Buffers) -> Answer;
+    /// Stores the matching after the row in the row, by the engine that forces pairs.
+    fn next_forced(&self, buffers: &mut Buffers) -> Answer;
     /// Makes the list of calls on the row and stores their codes.
     fn replay(&self, buffers: &mut Buffers) -> Answer;
     /// Tells whether the row is a matching.
@@ -119,6 +123,18 @@ impl Implementation for Reference {
         let result = tables::next(tables_of(buffers), &mut row);
         buffers.row = row;
         answer(result, |step| Answer::of(usize::from(step == Step::End)))
+    }
+
+    fn first_forced(&self, buffers: &mut Buffers) -> Answer {
+        let mut row = std::mem::take(&mut buffers.row);
+        let mut pairs = std::mem::take(&mut buffers.pairs);
+        let result = tables::first_forced(tables_of(buffers), &mut row, &mut pairs);
+        (buffers.row, buffers.pairs) = (row, pairs);
+        answer(result, |forced| Answer::of(forced))
+    }
+
+    fn next_forced(&self, buffers: &mut Buffers) -> Answer {
+        self.next(buffers)
     }
 
     fn replay(&self, buffers: &mut Buffers) -> Answer {

@@ -62,6 +62,8 @@ impl<'a> Pair<'a> {
         self.call("replay", |it, buffers| it.replay(buffers))?;
         self.buffers = start.clone();
         self.call("kekulize by the row", |it, buffers| it.kekulize(buffers))?;
+        self.buffers = start.clone();
+        self.forced_matchings()?;
         self.buffers = start;
         self.later_matchings()?;
         self.call("first", |it, buffers| it.first(buffers))?;
@@ -70,6 +72,20 @@ impl<'a> Pair<'a> {
         self.buffers = first;
         self.call("kekulize by the first", |it, buffers| it.kekulize(buffers))?;
         self.call("write kekulized", |it, buffers| it.write(buffers))?;
+        Ok(())
+    }
+
+    /// The calls of the engine that forces pairs: the next from the row at hand, the first with the
+    /// forced list, and the next from there.
+    fn forced_matchings(&mut self) -> Result<(), Difference> {
+        self.call("next_forced", |it, buffers| it.next_forced(buffers))?;
+        self.call("first_forced", |it, buffers| it.first_forced(buffers))?;
+        for _ in 0..MOST_MATCHINGS {
+            let answer = self.call("next_forced", |it, buffers| it.next_forced(buffers))?;
+            if !answer.is_accepted() || answer.numbers[0] == 1 {
+                break;
+            }
+        }
         Ok(())
     }
 
@@ -91,6 +107,7 @@ fn different(one: &Buffers, other: &Buffers) -> Vec<&'static str> {
         ("bonds", one.bonds != other.bonds),
         ("counts", one.counts != other.counts),
         ("row", one.row != other.row),
+        ("pairs", one.pairs != other.pairs),
         ("text", one.text != other.text),
         ("renumbering", one.renumbering != other.renumbering),
         ("codes", one.codes != other.codes),

@@ -66,6 +66,24 @@ impl Implementation for Proved {
         answer(found, |step| Answer::of(usize::from(step == Step::End)))
     }
 
+    fn first_forced(&self, buffers: &mut Buffers) -> Answer {
+        let counts = counts(buffers);
+        let found = tables::first_forced(
+            &buffers.atoms,
+            &buffers.bonds,
+            counts,
+            &mut buffers.row,
+            &mut buffers.pairs,
+        );
+        answer(found, |forced| Answer::of(forced))
+    }
+
+    fn next_forced(&self, buffers: &mut Buffers) -> Answer {
+        let counts = counts(buffers);
+        let found = tables::next_forced(&buffers.atoms, &buffers.bonds, counts, &mut buffers.row);
+        answer(found, |step| Answer::of(usize::from(step == Step::End)))
+    }
+
     fn replay(&self, buffers: &mut Buffers) -> Answer {
         let counts = counts(buffers);
         let made = tables::replay(

@@ -173,6 +173,21 @@ impl Implementation for Faulty {
         answer
     }
 
+    fn first_forced(&self, buffers: &mut Buffers) -> Answer {
+        let before = buffers.pairs.clone();
+        let answer = Reference.first_forced(buffers);
+        if self.has("the highest first") && answer.is_accepted() {
+            buffers.pairs[..answer.numbers[0]].reverse();
+        } else if self.has("list kept") && answer.code == 11 {
+            buffers.pairs = before;
+        }
+        answer
+    }
+
+    fn next_forced(&self, buffers: &mut Buffers) -> Answer {
+        Reference.next_forced(buffers)
+    }
+
     fn is_matching(&self, buffers: &mut Buffers) -> Answer {
         Reference.is_matching(buffers)
     }
@@ -225,6 +240,8 @@ fn faults_are_seen() {
         "early end",
         "13 as 1",
         "dirty codes",
+        "the highest first",
+        "list kept",
         "row cleared",
         "15 before 14",
         "renumbering",

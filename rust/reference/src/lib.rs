@@ -7,6 +7,7 @@
 
 mod blossom;
 pub mod element;
+mod forced;
 mod matching;
 mod molecule;
 mod read;
@@ -19,6 +20,7 @@ mod valence;
 mod write;
 
 pub use element::{number_of, symbol_of};
+pub use forced::forced;
 pub use matching::{first, has_matching, is_matching, kekulize, next};
 pub use molecule::{Atom, Bond, Kind, Molecule, Neighbour, Neighbours};
 pub use read::{read, reading, Reading};

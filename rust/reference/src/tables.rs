@@ -100,6 +100,17 @@ pub fn first(tables: Tables, row: &mut [u8]) -> Result<(), Code> {
     matching.map(|_| ())
 }
 
+/// The first matching, stored in the row, and the bonds of the pairs that are forced before any
+/// choice, stored in the list. Gives their number.
+pub fn first_forced(tables: Tables, row: &mut [u8], pairs: &mut [u16]) -> Result<usize, Code> {
+    if tables.is_short() || row.len() < ROW || pairs.len() < ROW {
+        return Err(Code::ShortBuffer);
+    }
+    let forced = molecule(tables).map_or_else(|_| Vec::new(), |molecule| crate::forced(&molecule));
+    store(pairs, &forced);
+    first(tables, row).map(|()| forced.len())
+}
+
 /// The matching after the one in the row, stored in the row.
 pub fn next(tables: Tables, row: &mut [u8]) -> Result<Step, Code> {
     if tables.is_short() || row.len() < ROW {

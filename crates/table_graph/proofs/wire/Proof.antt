@@ -6,7 +6,8 @@ use Rattle.loops.proofs.Loops.{Edited, fills, edited-start, filled-step, filled
 use Rattle.table.specs.Limits.{maxAtoms}
 use Rattle.table.specs.Cells.{end1, end2}
 use Rattle.table_graph.specs.Graph.{elidedFlag}
-use Rattle.table_graph.proofs.Sums.{row-cells, order-small, sumsTo, sums-none, sums-bound, second-bound, sums-step, two-ends}
+use Rattle.kinds.proofs.Kind.{order-small}
+use Rattle.table_graph.proofs.Sums.{row-cells, sumsTo, sums-none, sums-bound, second-bound, sums-step, two-ends}
 use Rattle.table_graph.proofs.wire.Statement.{statement}
 use Rattle.table_graph.proofs.wire.Tie as tie
 

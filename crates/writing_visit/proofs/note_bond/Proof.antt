@@ -2,7 +2,8 @@ use Prim.Native.Nat.{_*_}
 use native.Mathlib.Omega.{arith}
 use mathlib.Core.Path.{refl}
 use Rattle.table.specs.Limits.{maxBonds}
-use Rattle.table_graph.proofs.Sums.{order-small, second-bound}
+use Rattle.kinds.proofs.Kind.{order-small}
+use Rattle.table_graph.proofs.Sums.{second-bound}
 use borrow.Author.Needs.{needs}
 use Rattle.writing_visit.proofs.note_bond.Statement.{statement}
 use Rattle.writing_visit.proofs.note_bond.Tie as tie

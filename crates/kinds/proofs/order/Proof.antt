@@ -1,7 +1,7 @@
 use borrow.Author.Tests.{eq-eqb, ne-eqb, le-leb, lt-leb}
-use Rattle.valence.specs.Valence.{order}
-use Rattle.valence.proofs.order.Statement.{statement}
-use Rattle.valence.proofs.order.Tie as tie
+use Rattle.kinds.specs.Kind.{order}
+use Rattle.kinds.proofs.order.Statement.{statement}
+use Rattle.kinds.proofs.order.Tie as tie
 
 returns : tie.Need-returns
 unfolding order

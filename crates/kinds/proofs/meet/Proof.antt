@@ -1,6 +1,6 @@
 use borrow.Author.Tests.{eq-eqb, ne-eqb}
-use Rattle.reader.proofs.bridge.meet.Statement.{statement}
-use Rattle.reader.proofs.bridge.meet.Tie as tie
+use Rattle.kinds.proofs.meet.Statement.{statement}
+use Rattle.kinds.proofs.meet.Tie as tie
 
 returns : tie.Need-returns
 returns c = simp (eq-eqb _ _ (c .if1 .taken))

@@ -1,0 +1,23 @@
+use borrow.Author.Tests.{ne-eqb}
+use Rattle.kinds.specs.Kind.{symbolKind}
+use Rattle.kinds.proofs.symbol_kind.Statement.{statement}
+use Rattle.kinds.proofs.symbol_kind.Tie as tie
+
+returns : tie.Need-returns
+unfolding symbolKind
+returns c = rw (c .match .keys1)
+
+returns-2 : tie.Need-returns-2
+unfolding symbolKind
+returns-2 c = rw (c .match .keys2)
+
+returns-3 : tie.Need-returns-3
+unfolding symbolKind
+returns-3 c = rw (c .match .keys3)
+
+returns-4 : tie.Need-returns-4
+unfolding symbolKind
+returns-4 c = simp (ne-eqb _ _ (c .match .rest .0 .0 .1), ne-eqb _ _ (c .match .rest .0 .1), ne-eqb _ _ (c .match .rest .1))
+
+pub symbol-kind-spec : {M : Type 1} → statement M
+symbol-kind-spec = tie.close (tie.spec returns returns-2 returns-3 returns-4)
