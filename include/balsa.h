@@ -14,7 +14,7 @@
  *
  * Threads: a call keeps nothing, allocates nothing and takes no lock; it works on what it is lent and on
  * its stack. Calls may run at once in any threads as long as none is lent what another one writes.
- * Stack: 192 KiB are enough for every call (docs/PERFORMANCE.md has what was seen). */
+ * Stack: 192 KiB were enough for every call that was tried (docs/PERFORMANCE.md has what was seen). */
 #ifndef BALSA_H
 #define BALSA_H
 
