@@ -14,7 +14,7 @@
  *
  * Threads: a call keeps nothing, allocates nothing and takes no lock; it works on what it is lent and on
  * its stack. Calls may run at once in any threads as long as none is lent what another one writes.
- * Stack: 192 KiB were enough for every call that was tried (docs/PERFORMANCE.md has what was seen). */
+ * Stack: each call is held to 512 KiB of a thread's stack by a test (docs/PERFORMANCE.md has what was seen). */
 #ifndef BALSA_H
 #define BALSA_H
 
