@@ -54,7 +54,7 @@ returns-2 c =
     let r = now (g .row1) in
     let s = now (g .row2) in
     let t = now (g .ren) in
-    say-invalid x y r s t (c .before .before .before .before .before .before .before .before .before .before .before .before .before .before .roomy .ensures) (c .before .before .before .before .before .before .before .before .before .before .before .before .before .if1 .left) (c .before .before .before .before .before .before .before .before .before .before .before .before .sound .ensures) (c .before .before .before .before .before .before .before .before .before .before .before .valid2 .ensures) (c .before .before .before .before .before .before .before .before .before .before .if2 .taken) (c .before .before .before .before .before .before .clear-all .ensures .0) (c .before .before .before .before .before .before .clear-all .ensures .1 .0) (c .before .before .before .before .before .before .clear-all .ensures .1 .1)
+    say-invalid x y r s t (c .before .before .before .before .before .before .before .before .before .before .before .before .before .before .roomy .ensures) (c .before .before .before .before .before .before .before .before .before .before .before .before .before .if1 .left) (c .before .before .before .before .before .before .before .before .before .before .before .before .sound .ensures) (c .before .before .before .before .before .before .before .before .before .before .before .sound2 .ensures) (c .before .before .before .before .before .before .before .before .before .before .if2 .taken) (c .before .before .before .before .before .before .clear-all .ensures .0) (c .before .before .before .before .before .before .clear-all .ensures .1 .0) (c .before .before .before .before .before .before .clear-all .ensures .1 .1)
 
 clear-all-requires-2 : tie.Need-clear-all-requires-2
 clear-all-requires-2 c κs = search needs
@@ -76,7 +76,7 @@ returns-3 c =
     let r = now (g .row1) in
     let s = now (g .row2) in
     let t = now (g .ren) in
-    say-many x y r s t (c .before .before .before .before .before .before .before .before .before .before .before .before .before .before .before .roomy .ensures) (c .before .before .before .before .before .before .before .before .before .before .before .before .before .before .if1 .left) (c .before .before .before .before .before .before .before .before .before .before .before .before .before .sound .ensures) (c .before .before .before .before .before .before .before .before .before .before .before .before .valid2 .ensures) (c .before .before .before .before .before .before .before .before .before .before .before .if2 .left) (c .before .before .before .before .before .before .before .before .before .before .if3 .taken) (c .before .before .before .before .before .before .clear-all2 .ensures .0) (c .before .before .before .before .before .before .clear-all2 .ensures .1 .0) (c .before .before .before .before .before .before .clear-all2 .ensures .1 .1)
+    say-many x y r s t (c .before .before .before .before .before .before .before .before .before .before .before .before .before .before .before .roomy .ensures) (c .before .before .before .before .before .before .before .before .before .before .before .before .before .before .if1 .left) (c .before .before .before .before .before .before .before .before .before .before .before .before .before .sound .ensures) (c .before .before .before .before .before .before .before .before .before .before .before .before .sound2 .ensures) (c .before .before .before .before .before .before .before .before .before .before .before .if2 .left) (c .before .before .before .before .before .before .before .before .before .before .if3 .taken) (c .before .before .before .before .before .before .clear-all2 .ensures .0) (c .before .before .before .before .before .before .clear-all2 .ensures .1 .0) (c .before .before .before .before .before .before .clear-all2 .ensures .1 .1)
 
 clear-all-requires-3 : tie.Need-clear-all-requires-3
 clear-all-requires-3 c κs = search needs
@@ -98,7 +98,7 @@ returns-4 c =
     let r = now (g .row1) in
     let s = now (g .row2) in
     let t = now (g .ren) in
-    say-unlike x y r s t (c .before .before .before .before .before .before .before .before .before .before .before .before .before .before .before .before .roomy .ensures) (c .before .before .before .before .before .before .before .before .before .before .before .before .before .before .before .if1 .left) (c .before .before .before .before .before .before .before .before .before .before .before .before .before .before .sound .ensures) (c .before .before .before .before .before .before .before .before .before .before .before .before .before .valid2 .ensures) (c .before .before .before .before .before .before .before .before .before .before .before .before .if2 .left) (c .before .before .before .before .before .before .before .before .before .before .before .if3 .left) (c .before .before .before .before .before .before .before .before .before .before .if4 .taken) (c .before .before .before .before .before .before .clear-all3 .ensures .0) (c .before .before .before .before .before .before .clear-all3 .ensures .1 .0) (c .before .before .before .before .before .before .clear-all3 .ensures .1 .1)
+    say-unlike x y r s t (c .before .before .before .before .before .before .before .before .before .before .before .before .before .before .before .before .roomy .ensures) (c .before .before .before .before .before .before .before .before .before .before .before .before .before .before .before .if1 .left) (c .before .before .before .before .before .before .before .before .before .before .before .before .before .before .sound .ensures) (c .before .before .before .before .before .before .before .before .before .before .before .before .before .sound2 .ensures) (c .before .before .before .before .before .before .before .before .before .before .before .before .if2 .left) (c .before .before .before .before .before .before .before .before .before .before .before .if3 .left) (c .before .before .before .before .before .before .before .before .before .before .if4 .taken) (c .before .before .before .before .before .before .clear-all3 .ensures .0) (c .before .before .before .before .before .before .clear-all3 .ensures .1 .0) (c .before .before .before .before .before .before .clear-all3 .ensures .1 .1)
 
 decide-equal-requires : tie.Need-decide-equal-requires
 decide-equal-requires c κs =
@@ -108,7 +108,7 @@ decide-equal-requires c κs =
     let r = now (g .row1) in
     let s = now (g .row2) in
     let t = now (g .ren) in
-    (ask-first x y r s t (c .before .before .before .before .before .before .before .before .before .roomy .ensures) (c .before .before .before .before .before .before .before .before .if1 .left) (c .before .before .before .before .before .before .before .sound .ensures) (c .before .before .before .before .before .before .valid2 .ensures) (c .before .before .before .before .before .if2 .left) (c .before .before .before .before .if3 .left), (reready (c .before .before .before .if4 .left) (ask-second x y r s t (c .before .before .before .before .before .before .before .before .before .roomy .ensures) (c .before .before .before .before .before .before .before .before .if1 .left) (c .before .before .before .before .before .before .before .sound .ensures) (c .before .before .before .before .before .before .valid2 .ensures) (c .before .before .before .before .before .if2 .left) (c .before .before .before .before .if3 .left)), ask-third x y r s t (c .before .before .before .before .before .before .before .before .before .roomy .ensures) (c .before .before .before .before .before .before .before .before .if1 .left) (c .before .before .before .before .before .before .before .sound .ensures) (c .before .before .before .before .before .before .valid2 .ensures) (c .before .before .before .before .before .if2 .left) (c .before .before .before .before .if3 .left)))
+    (ask-first x y r s t (c .before .before .before .before .before .before .before .before .before .roomy .ensures) (c .before .before .before .before .before .before .before .before .if1 .left) (c .before .before .before .before .before .before .before .sound .ensures) (c .before .before .before .before .before .before .sound2 .ensures) (c .before .before .before .before .before .if2 .left) (c .before .before .before .before .if3 .left), (reready (c .before .before .before .if4 .left) (ask-second x y r s t (c .before .before .before .before .before .before .before .before .before .roomy .ensures) (c .before .before .before .before .before .before .before .before .if1 .left) (c .before .before .before .before .before .before .before .sound .ensures) (c .before .before .before .before .before .before .sound2 .ensures) (c .before .before .before .before .before .if2 .left) (c .before .before .before .before .if3 .left)), ask-third x y r s t (c .before .before .before .before .before .before .before .before .before .roomy .ensures) (c .before .before .before .before .before .before .before .before .if1 .left) (c .before .before .before .before .before .before .before .sound .ensures) (c .before .before .before .before .before .before .sound2 .ensures) (c .before .before .before .before .before .if2 .left) (c .before .before .before .before .if3 .left)))
 
 same-length-13 : tie.Need-same-length-13
 same-length-13 c = search needs
@@ -127,7 +127,7 @@ returns-5 c =
     let r = now (g .row1) in
     let s = now (g .row2) in
     let t = now (g .ren) in
-    say-same x y r s t (c .before .before .before .before .before .before .before .before .before .before .before .before .before .before .before .before .before .roomy .ensures) (c .before .before .before .before .before .before .before .before .before .before .before .before .before .before .before .before .if1 .left) (c .before .before .before .before .before .before .before .before .before .before .before .before .before .before .before .sound .ensures) (c .before .before .before .before .before .before .before .before .before .before .before .before .before .before .valid2 .ensures) (c .before .before .before .before .before .before .before .before .before .before .before .before .before .if2 .left) (c .before .before .before .before .before .before .before .before .before .before .before .before .if3 .left) (recount (c .before .before .before .before .before .before .before .before .before .before .before .if4 .left) (c .before .before .before .before .before .before .before .decide-equal .ensures)) (c .if5 .taken)
+    say-same x y r s t (c .before .before .before .before .before .before .before .before .before .before .before .before .before .before .before .before .before .roomy .ensures) (c .before .before .before .before .before .before .before .before .before .before .before .before .before .before .before .before .if1 .left) (c .before .before .before .before .before .before .before .before .before .before .before .before .before .before .before .sound .ensures) (c .before .before .before .before .before .before .before .before .before .before .before .before .before .before .sound2 .ensures) (c .before .before .before .before .before .before .before .before .before .before .before .before .before .if2 .left) (c .before .before .before .before .before .before .before .before .before .before .before .before .if3 .left) (recount (c .before .before .before .before .before .before .before .before .before .before .before .if4 .left) (c .before .before .before .before .before .before .before .decide-equal .ensures)) (c .if5 .taken)
 
 clear-all-requires-4 : tie.Need-clear-all-requires-4
 clear-all-requires-4 c κs = search needs
@@ -149,7 +149,7 @@ returns-6 c =
     let r = now (g .row1) in
     let s = now (g .row2) in
     let t = now (g .ren) in
-    say-different x y r s t (c .before .before .before .before .before .before .before .before .before .before .before .before .before .before .before .before .before .before .before .before .before .before .before .before .before .before .before .roomy .ensures) (c .before .before .before .before .before .before .before .before .before .before .before .before .before .before .before .before .before .before .before .before .before .before .before .before .before .before .if1 .left) (c .before .before .before .before .before .before .before .before .before .before .before .before .before .before .before .before .before .before .before .before .before .before .before .before .before .sound .ensures) (c .before .before .before .before .before .before .before .before .before .before .before .before .before .before .before .before .before .before .before .before .before .before .before .before .valid2 .ensures) (c .before .before .before .before .before .before .before .before .before .before .before .before .before .before .before .before .before .before .before .before .before .before .before .if2 .left) (c .before .before .before .before .before .before .before .before .before .before .before .before .before .before .before .before .before .before .before .before .before .before .if3 .left) (recount (c .before .before .before .before .before .before .before .before .before .before .before .before .before .before .before .before .before .before .before .before .before .if4 .left) (c .before .before .before .before .before .before .before .before .before .before .before .before .before .before .before .before .before .decide-equal .ensures)) (c .before .before .before .before .before .before .before .before .before .before .if5 .left) (c .before .before .before .before .before .before .clear-all4 .ensures .0) (c .before .before .before .before .before .before .clear-all4 .ensures .1 .0) (c .before .before .before .before .before .before .clear-all4 .ensures .1 .1)
+    say-different x y r s t (c .before .before .before .before .before .before .before .before .before .before .before .before .before .before .before .before .before .before .before .before .before .before .before .before .before .before .before .roomy .ensures) (c .before .before .before .before .before .before .before .before .before .before .before .before .before .before .before .before .before .before .before .before .before .before .before .before .before .before .if1 .left) (c .before .before .before .before .before .before .before .before .before .before .before .before .before .before .before .before .before .before .before .before .before .before .before .before .before .sound .ensures) (c .before .before .before .before .before .before .before .before .before .before .before .before .before .before .before .before .before .before .before .before .before .before .before .before .sound2 .ensures) (c .before .before .before .before .before .before .before .before .before .before .before .before .before .before .before .before .before .before .before .before .before .before .before .if2 .left) (c .before .before .before .before .before .before .before .before .before .before .before .before .before .before .before .before .before .before .before .before .before .before .if3 .left) (recount (c .before .before .before .before .before .before .before .before .before .before .before .before .before .before .before .before .before .before .before .before .before .if4 .left) (c .before .before .before .before .before .before .before .before .before .before .before .before .before .before .before .before .before .decide-equal .ensures)) (c .before .before .before .before .before .before .before .before .before .before .if5 .left) (c .before .before .before .before .before .before .clear-all4 .ensures .0) (c .before .before .before .before .before .before .clear-all4 .ensures .1 .0) (c .before .before .before .before .before .before .clear-all4 .ensures .1 .1)
 
 pub same-spec : {M : Type 1} → statement M
 same-spec =
