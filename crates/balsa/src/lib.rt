@@ -15,6 +15,7 @@ use writer::Written;
 
 mod register_calls;
 pub mod reporting;
+mod same_call;
 pub mod symbol;
 
 // What reading hands back: code 0 with the counts of atoms and bonds, or the refusal's code with its offset.

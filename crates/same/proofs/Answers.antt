@@ -16,6 +16,8 @@ use Rattle.table.specs.Limits.{maxAtoms, maxBonds}
 use Rattle.table.specs.Valid.{Valid, valid, enough}
 use Rattle.table.proofs.Valid.{facts}
 use Rattle.same_model.specs.Same.{maxSame, Molecule, molecule, SameReply, sameReply, zeroedReply, answered, roomyBoth, validBoth, fewBoth, sameOf, same?, partnered, firstRow, secondRow, firstRenumbering}
+use Rattle.same.specs.Answer.{samenessCode, sameOut}
+use Rattle.same.specs.declared.Sameness.{Sameness}
 use Rattle.same.specs.Ready.{Ready, Decided}
 
 -- three cells lists that were zeroed
@@ -147,3 +149,7 @@ recount {x} {atoms2} {bonds2} {m2} {n} {n2} {r} {s} {t} {z} {r′} {s′} {t′}
 
 pub reready : {atoms2 bonds2 : List ℤ} {m2 n n2 : ℕ} {s : List ℕ} → n ≡ n2 → Ready (molecule atoms2 bonds2 n2 m2) s → Ready (molecule atoms2 bonds2 n m2) s
 reready {atoms2} {bonds2} {m2} {n} {n2} {s} e w = subst (λ (k : ℕ). Ready (molecule atoms2 bonds2 k m2) s) (sym e) w
+
+-- an answer by its code
+pub coded : (a : Sameness) (r s t : List ℕ) {c : ℕ} {o : SameReply} → c ≡ samenessCode a → sameOut a r s t ≡ o → sameReply c r s t ≡ o
+coded a r s t e f = ap (λ (k : ℕ). sameReply k r s t) e ∙ f
