@@ -166,7 +166,7 @@ typedef struct {
 balsa_walk_reply balsa_register_walk(const uint8_t *reg, size_t reg_len, size_t place);
 
 /* Whether two molecules of at most 64 atoms are the same compound, drawn differently: 0 yes, with the first row of each that fits
-   and the smallest renumbering, first to second; 254 no; 19 over 64 atoms; 13; all but 0 zero both rows and the renumbering. 1: a
+   and the smallest renumbering, first to second; 254 no; 19 over 64 atoms; 13; these zero both rows and the renumbering. 1: a
    table, a row or the renumbering is too short, and nothing changes. */
 uint32_t balsa_same(const int32_t *atoms1, size_t atoms1_len, const int32_t *bonds1, size_t bonds1_len, size_t n1, size_t m1,
                     const int32_t *atoms2, size_t atoms2_len, const int32_t *bonds2, size_t bonds2_len, size_t n2, size_t m2,
