@@ -17,7 +17,8 @@ use Rattle.matching.specs.Graph.{isMatching, eachOnce, degree, chosenInduced}
 use Rattle.table.specs.Cells.{number}
 use Rattle.table.specs.Rows.{withAtom, withBond}
 use Rattle.table.specs.Valid.{enough}
-use Rattle.table.specs.Sound.{touches, bondDegree, noneLoose, lateCode}
+use Rattle.table.specs.Cells.{touches}
+use Rattle.table.specs.Sound.{bondDegree, noneLoose, lateCode}
 use Rattle.table_graph.specs.Graph.{share, bondSum, matchable}
 use Rattle.reading_state.specs.State.{started, opened, closed, joined}
 use Rattle.reading.specs.Memory.{begun, joins, joinedAlready, closeRefusal}

@@ -16,7 +16,8 @@ use Rattle.table.specs.Cells.{number, inRange}
 use Rattle.table.specs.Rows.{withAtom, withBond}
 use Rattle.table.specs.Edits.{doubled, doubledBonds, unselectedAtoms}
 use Rattle.table.specs.Valid.{selectedOk, sameEnds, fresh, distinct, atomOk, bondOk, valid, enough}
-use Rattle.table.specs.Sound.{touches, bondDegree, noneLoose, lateCode, sound}
+use Rattle.table.specs.Cells.{touches}
+use Rattle.table.specs.Sound.{bondDegree, noneLoose, lateCode, sound}
 use Rattle.table_graph.specs.Graph.{share, bondSum, matchable}
 use Rattle.reading_state.specs.State.{started, opened, closed, joined}
 use Rattle.reading.specs.Memory.{begun, joins, joinedAlready, closeRefusal}

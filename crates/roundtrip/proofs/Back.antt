@@ -8,6 +8,7 @@ use lib.Dec.{eqb, ltb}
 use lib.ListN.{length, getD}
 use lib.IntN.{ℤ, pos}
 use borrow.Author.Tests.{ltb-true, eqb-true, eqb-false}
+use Rattle.kinds.proofs.Kind.{turned-small, order-turned}
 use Rattle.kinds.specs.Kind.{maxKind, order}
 use Rattle.loops.specs.Loop.{pick}
 use Rattle.loops.proofs.Loops.{and-left, and-right}
@@ -157,7 +158,7 @@ module _ (atoms bonds : List ℤ) (n m : ℕ) (v : Valid atoms bonds n m) where
   -- bond sums are the same in the table of the completed bonds
   pub sum-same : (U : List ℤ) → bondList U m ≡ completed n bs → (w : ℕ) → w < n → bondSum U m (place walked w) ≡ bondSum bonds m w
   sum-same U e w l =
-      sum-total U m (place walked w) ∙ ap (sums.bondSum order (place walked w)) e ∙ sums.sum-kept n bs (inside v) order w l ∙ sym (sum-total bonds m w)
+      sum-total U m (place walked w) ∙ ap (sums.bondSum order (place walked w)) e ∙ sums.sum-kept n bs (inside v) order order-turned w l ∙ sym (sum-total bonds m w)
 
   -- and so are the numbers of bonds
   degree-same : (U : List ℤ) → bondList U m ≡ completed n bs → (w : ℕ) → w < n → bondDegree U m (place walked w) ≡ bondDegree bonds m w
@@ -181,7 +182,7 @@ module _ (atoms bonds : List ℤ) (n m : ℕ) (v : Valid atoms bonds n m) where
     held : Held atoms bonds n m (length A) (length B) rows-fine (lent .atoms-room) (lent .bonds-room) A B refl refl (textOf atoms bonds n m) end-state
     unfolding textOf tokens
     held = text-read atoms bonds n m (length A) (length B) rows-fine (lent .atoms-room) (lent .bonds-room) A B refl refl (tokens bonds n m) end-state (written-grammar n (λ a. a) bs) tokens-read
-        (good-tokens n (tokens bonds n m) few (written-made (λ w. w < n) (λ k. k ≤ maxKind) (omega arith) n (λ a. a) bs (inside v) (λ w l. l) (small-kinds v)))
+        (good-tokens n (tokens bonds n m) few (written-made (λ w. w < n) (λ k. k ≤ maxKind) (omega arith) turned-small n (λ a. a) bs (inside v) (λ w l. l) (small-kinds v)))
 
     abbrev μ : Memory
     μ = held .memory

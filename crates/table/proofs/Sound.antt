@@ -14,7 +14,8 @@ use Rattle.loops.specs.Loop.{pick, each, run}
 use Rattle.loops.proofs.Loops.{and-left, and-right, each-at, each-all}
 use Rattle.table.specs.Cells.{selected}
 use Rattle.table.specs.Valid.{valid, Valid}
-use Rattle.table.specs.Sound.{touches, countBond, bondDegree, loose, noneLoose, LooseAtom, lateCode, sound}
+use Rattle.table.specs.Cells.{touches}
+use Rattle.table.specs.Sound.{countBond, bondDegree, loose, noneLoose, LooseAtom, lateCode, sound}
 use Rattle.table.proofs.Valid.{facts, facts-back}
 
 -- a test that not all pass fails at one of them

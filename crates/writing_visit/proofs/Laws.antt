@@ -11,7 +11,7 @@ use Rattle.writing_walk.specs.Emit.{Forest, leaf, node, size, pre}
 use Rattle.writing_walk.specs.Walk.{member}
 use Rattle.writing_walk.specs.Flat.{kinds, ups}
 use Rattle.writing_walk.proofs.Trip.{size-length}
-use Rattle.writing_visit.specs.Visit.{touching, firstFrom, otherEnd, lay, grow, unseen, BondsFit, Room, Kept, Visited, WalkArrays, walkArrays, Laid, Grown, walkMark}
+use Rattle.writing_visit.specs.Visit.{touching, firstFrom, otherEnd, kindFrom, lay, grow, unseen, BondsFit, Room, Kept, Visited, WalkArrays, walkArrays, Laid, Grown, walkMark}
 use Rattle.writing_visit.proofs.Ways.{Next, next-is, other-below, grow-same, grow-end, grow-skip, grow-visit}
 use Rattle.writing_visit.proofs.Seen.{unmarked, marked, room-left, stands-add, stands-cast, unseen-set}
 
@@ -106,7 +106,7 @@ module _ {bonds : ℕ → Bond} {n m : ℕ} (fit : BondsFit bonds n m) where
       at-full l = record { fewer = omega arith; laid = λ s st. absurd (let g = room-left n a count s v1 st below (apart s st) in omega arith) }
 
       -- the other end is visited, then the rest
-      pub at-new : (k : ℕ) (o2 v2 u2 q2 : List ℕ) (y z : WalkArrays) → k ≡ bonds b .kind → n ≤ length v1
+      pub at-new : (k : ℕ) (o2 v2 u2 q2 : List ℕ) (y z : WalkArrays) → k ≡ kindFrom bonds b v → n ≤ length v1
           → o2 ≡ set o count a → v2 ≡ set v1 a (count + 1) → u2 ≡ set u count (hub + 1) → q2 ≡ set q count k
           → Grown n (suc count) (grow bonds n m a 0) (walkArrays o2 v2 u2 q2 (count + 1)) y → Grown n (suc hub) (grow bonds n m v r) y z
           → Grown n (suc hub) (grow bonds n m v b) (walkArrays o v1 u q count) z
@@ -156,7 +156,7 @@ module _ {bonds : ℕ → Bond} {n m : ℕ} (fit : BondsFit bonds n m) {v hub fr
         record { within = after .high; here = after .here; fewer = l .fewer; rest = λ t g. l .rest t (at-seen fit v b r h (l .here h) found (suc hub) y t z e k g) }
 
     pub left-new : (x : WalkArrays) (o v1 u q : List ℕ) (count : ℕ) → Left bonds n m v hub from b x (walkArrays o v1 u q count)
-        → (a k hd : ℕ) → a ≡ otherEnd bonds b v → getD v1 a 0 ≡ 0 → k ≡ bonds b .kind → hd ≡ firstFrom (touching bonds a) 0 (m - 0) → n ≤ length v1
+        → (a k hd : ℕ) → a ≡ otherEnd bonds b v → getD v1 a 0 ≡ 0 → k ≡ kindFrom bonds b v → hd ≡ firstFrom (touching bonds a) 0 (m - 0) → n ≤ length v1
         → (o2 v2 u2 q2 : List ℕ) → o2 ≡ set o count a → v2 ≡ set v1 a (count + 1) → u2 ≡ set u count (hub + 1) → q2 ≡ set q count k
         → (y : WalkArrays) → Grown n (suc count) (grow bonds n m a hd) (walkArrays o2 v2 u2 q2 (count + 1)) y
         → Left bonds n m v hub from r x y

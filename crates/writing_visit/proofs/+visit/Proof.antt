@@ -100,7 +100,7 @@ visit-loop-less t c =
     let i = at .inv in
     let h = c .before .before .before .before .loop-test .taken in
     let f = c .before .before .before .follow in
-    let r = next-after-is lk (at .b) (a .v .0) (f .result .next .0) h (i .0 .here h) (f .ensures .1) in
+    let r = next-after-is lk (at .b) (a .v .0) (f .result .next .0) h (i .0 .here h) (f .ensures .1 .1) in
     let z = next-after-later lk (at .b) (a .v .0) (f .result .next .0) h r in
     omega arith
 
@@ -114,7 +114,7 @@ visit-loop-again t c =
     let i = at .inv in
     let h = c .before .before .before .before .loop-test .taken in
     let f = c .before .before .before .follow in
-    let r = next-after-is lk (at .b) (a .v .0) (f .result .next .0) h (i .0 .here h) (f .ensures .1) in
+    let r = next-after-is lk (at .b) (a .v .0) (f .result .next .0) h (i .0 .here h) (f .ensures .1 .1) in
     (left-seen fit (f .result .next .0) h r _ _ (i .0) (f .result .other .0) (f .ensures .0) (c .if1 .taken), i .1)
 
 visit-returns : (t : ℕ) → visit-lts.Need-returns (visit-claims t) (visit-at t) visit.Post visit-Inv-loop visit-μ-loop
@@ -127,29 +127,28 @@ visit-returns t c =
     let f = c .before .before .before .before .follow in
     (left-full fit _ _ _ _ _ _ (i .0) h (f .result .other .0) (f .ensures .0) (c .before .if1 .left) (c .if2 .taken), i .1)
 
-visit-element-copy-out-k : (t : ℕ) → visit-lts.Need-element-copy-out-k (visit-claims t) (visit-at t) visit.Post visit-Inv-loop visit-μ-loop
-visit-element-copy-out-k t c =
-    let s = c .before .before .before .before .before .before .before in
-    let fit = s .pre .1 .0 in
-    let y = fit .few-bonds in
-    let h = c .before .before .before .before .before .loop-test .taken in
-    omega arith
-
-visit-cast-k : (t : ℕ) → visit-lts.Need-cast-k (visit-claims t) (visit-at t) visit.Post visit-Inv-loop visit-μ-loop
-visit-cast-k t c =
-    let s = c .before .before .before .before .before .before .before .before in
-    let fit = s .pre .1 .0 in
-    let at = c .before .before .before .before .before .before .before .loop in
-    let h = c .before .before .before .before .before .before .loop-test .taken in
-    omega (arith, fit .kinds (at .b) h)
-
 visit-add-add : (t : ℕ) → visit-lts.Need-add-add (visit-claims t) (visit-at t) visit.Post visit-Inv-loop visit-μ-loop
 visit-add-add t c =
-    let s = c .before .before .before .before .before .before .before .before .before .before .before .before .before in
+    let s = c .before .before .before .before .before .before .before .before .before .before .before .before in
     omega (arith, s .pre .1 .1 .1 .1 .0 .0)
 
 visit-add-requires : (t : ℕ) → visit-lts.Need-add-requires (visit-claims t) (visit-at t) visit.Post visit-Inv-loop visit-μ-loop
 visit-add-requires t c κs =
+    let s = c .before .before .before .before .before .before .before .before .before .before .before .before in
+    let a = s .args in
+    let fit = s .pre .1 .0 in
+    let x = fit .few-atoms in
+    let at = c .before .before .before .before .before .before .before .before .before .before .before .loop in
+    let h = c .before .before .before .before .before .before .before .before .before .before .loop-test .taken in
+    let f = c .before .before .before .before .before .before .before .before .before .follow in
+    let w : ℕ = f .result .other .0 in
+    let q = other-below fit (a .v .0) (at .b) h in
+    let wn : w < maxAtoms = omega (arith, q, f .ensures .0, x) in
+    let k = c .before .before .before .before .before .if2 .left in
+    ((omega arith, omega arith), omega (arith, s .pre .1 .1 .1 .1 .0 .0))
+
+visit-mul-start : (t : ℕ) → visit-lts.Need-mul-start (visit-claims t) (visit-at t) visit.Post visit-Inv-loop visit-μ-loop
+visit-mul-start t c =
     let s = c .before .before .before .before .before .before .before .before .before .before .before .before .before in
     let a = s .args in
     let fit = s .pre .1 .0 in
@@ -160,32 +159,17 @@ visit-add-requires t c κs =
     let w : ℕ = f .result .other .0 in
     let q = other-below fit (a .v .0) (at .b) h in
     let wn : w < maxAtoms = omega (arith, q, f .ensures .0, x) in
-    let k = c .before .before .before .before .before .before .if2 .left in
-    ((omega arith, omega arith), (omega (arith, s .pre .1 .1 .1 .1 .0 .0), fit .kinds (at .b) h))
-
-visit-mul-start : (t : ℕ) → visit-lts.Need-mul-start (visit-claims t) (visit-at t) visit.Post visit-Inv-loop visit-μ-loop
-visit-mul-start t c =
-    let s = c .before .before .before .before .before .before .before .before .before .before .before .before .before .before in
-    let a = s .args in
-    let fit = s .pre .1 .0 in
-    let x = fit .few-atoms in
-    let at = c .before .before .before .before .before .before .before .before .before .before .before .before .before .loop in
-    let h = c .before .before .before .before .before .before .before .before .before .before .before .before .loop-test .taken in
-    let f = c .before .before .before .before .before .before .before .before .before .before .before .follow in
-    let w : ℕ = f .result .other .0 in
-    let q = other-below fit (a .v .0) (at .b) h in
-    let wn : w < maxAtoms = omega (arith, q, f .ensures .0, x) in
     omega arith
 
 visit-element-copy-out-start : (t : ℕ) → visit-lts.Need-element-copy-out-start (visit-claims t) (visit-at t) visit.Post visit-Inv-loop visit-μ-loop
 visit-element-copy-out-start t c =
-    let s = c .before .before .before .before .before .before .before .before .before .before .before .before .before .before in
+    let s = c .before .before .before .before .before .before .before .before .before .before .before .before .before in
     let a = s .args in
     let fit = s .pre .1 .0 in
     let x = fit .few-atoms in
-    let at = c .before .before .before .before .before .before .before .before .before .before .before .before .before .loop in
-    let h = c .before .before .before .before .before .before .before .before .before .before .before .before .loop-test .taken in
-    let f = c .before .before .before .before .before .before .before .before .before .before .before .follow in
+    let at = c .before .before .before .before .before .before .before .before .before .before .before .before .loop in
+    let h = c .before .before .before .before .before .before .before .before .before .before .before .loop-test .taken in
+    let f = c .before .before .before .before .before .before .before .before .before .before .follow in
     let w : ℕ = f .result .other .0 in
     let q = other-below fit (a .v .0) (at .b) h in
     let wn : w < maxAtoms = omega (arith, q, f .ensures .0, x) in
@@ -193,15 +177,15 @@ visit-element-copy-out-start t c =
 
 visit-cast-start : (t : ℕ) → visit-lts.Need-cast-start (visit-claims t) (visit-at t) visit.Post visit-Inv-loop visit-μ-loop
 visit-cast-start t c =
-    let s = c .before .before .before .before .before .before .before .before .before .before .before .before .before .before .before in
+    let s = c .before .before .before .before .before .before .before .before .before .before .before .before .before .before in
     let a = s .args in
     let fit = s .pre .1 .0 in
     let x = fit .few-atoms in
     let y = fit .few-bonds in
     let lk = s .pre .1 .1 .0 in
-    let at = c .before .before .before .before .before .before .before .before .before .before .before .before .before .before .loop in
-    let h = c .before .before .before .before .before .before .before .before .before .before .before .before .before .loop-test .taken in
-    let f = c .before .before .before .before .before .before .before .before .before .before .before .before .follow in
+    let at = c .before .before .before .before .before .before .before .before .before .before .before .before .before .loop in
+    let h = c .before .before .before .before .before .before .before .before .before .before .before .before .loop-test .taken in
+    let f = c .before .before .before .before .before .before .before .before .before .before .before .follow in
     let w : ℕ = f .result .other .0 in
     let q = other-below fit (a .v .0) (at .b) h in
     let wn : w < maxAtoms = omega (arith, q, f .ensures .0, x) in
@@ -210,14 +194,49 @@ visit-cast-start t c =
 
 visit-add-visit : (t : ℕ) → visit-lts.Need-add-visit (visit-claims t) (visit-at t) visit.Post visit-Inv-loop visit-μ-loop
 visit-add-visit t c =
-    let s = c .before .before .before .before .before .before .before .before .before .before .before .before .before .before .before .before .before .before .before in
+    let s = c .before .before .before .before .before .before .before .before .before .before .before .before .before .before .before .before .before .before in
     let fit = s .pre .1 .0 in
     let x = fit .few-atoms in
-    let k = c .before .before .before .before .before .before .before .before .before .before .before .before .if2 .left in
+    let k = c .before .before .before .before .before .before .before .before .before .before .before .if2 .left in
     omega arith
 
 visit-visit-requires : (t : ℕ) → visit-lts.Need-visit-requires (visit-claims t) (visit-at t) visit.Post visit-Inv-loop visit-μ-loop
 visit-visit-requires t c κs =
+    let s = c .before .before .before .before .before .before .before .before .before .before .before .before .before .before .before .before .before .before in
+    let a = s .args in
+    let fit = s .pre .1 .0 in
+    let x = fit .few-atoms in
+    let lk = s .pre .1 .1 .0 in
+    let at = c .before .before .before .before .before .before .before .before .before .before .before .before .before .before .before .before .before .loop in
+    let i = at .inv in
+    let h = c .before .before .before .before .before .before .before .before .before .before .before .before .before .before .before .before .loop-test .taken in
+    let f = c .before .before .before .before .before .before .before .before .before .before .before .before .before .before .before .follow in
+    let w : ℕ = f .result .other .0 in
+    let q = other-below fit (a .v .0) (at .b) h in
+    let wn : w < maxAtoms = omega (arith, q, f .ensures .0, x) in
+    let room = room-kept (s .pre .1 .1 .1 .0) (i .1) in
+    let l = room .number in
+    let k = c .before .before .before .before .before .before .before .before .before .before .before .if2 .left in
+    let d = c .before .before .before .before .before .add in
+    let z = seen-less (at .number) (d .last .1 .0) w (at .next) (omega arith) (c .before .before .before .before .before .before .before .before .before .before .before .before .if1 .left) (d .ensures .1 .0) in
+    let kept = kept-set (i .1) (at .next) w (a .hub .0 + 1) (f .result .kind) (d .ensures .0) (d .ensures .1 .0) (d .ensures .1 .1 .0) (d .ensures .1 .1 .1) in
+    (omega (arith, z, i .0 .fewer, s .pre .0), (fit, (lk, (room-kept (s .pre .1 .1 .1 .0) kept, ((omega arith, head-within lk w wn), head-here lk w wn)))))
+
+visit-loop-less-2 : (t : ℕ) → visit-lts.Need-loop-less-2 (visit-claims t) (visit-at t) visit.Post visit-Inv-loop visit-μ-loop
+visit-loop-less-2 t c =
+    let s = c .before .before .before .before .before .before .before .before .before .before .before .before .before .before .before .before .before .before .before in
+    let a = s .args in
+    let lk = s .pre .1 .1 .0 in
+    let at = c .before .before .before .before .before .before .before .before .before .before .before .before .before .before .before .before .before .before .loop in
+    let i = at .inv in
+    let h = c .before .before .before .before .before .before .before .before .before .before .before .before .before .before .before .before .before .loop-test .taken in
+    let f = c .before .before .before .before .before .before .before .before .before .before .before .before .before .before .before .before .follow in
+    let r = next-after-is lk (at .b) (a .v .0) (f .result .next .0) h (i .0 .here h) (f .ensures .1 .1) in
+    let z = next-after-later lk (at .b) (a .v .0) (f .result .next .0) h r in
+    omega arith
+
+visit-loop-again-2 : (t : ℕ) → visit-lts.Need-loop-again-2 (visit-claims t) (visit-at t) visit.Post visit-Inv-loop visit-μ-loop
+visit-loop-again-2 t c =
     let s = c .before .before .before .before .before .before .before .before .before .before .before .before .before .before .before .before .before .before .before in
     let a = s .args in
     let fit = s .pre .1 .0 in
@@ -230,48 +249,13 @@ visit-visit-requires t c κs =
     let w : ℕ = f .result .other .0 in
     let q = other-below fit (a .v .0) (at .b) h in
     let wn : w < maxAtoms = omega (arith, q, f .ensures .0, x) in
-    let room = room-kept (s .pre .1 .1 .1 .0) (i .1) in
-    let l = room .number in
-    let k = c .before .before .before .before .before .before .before .before .before .before .before .before .if2 .left in
-    let d = c .before .before .before .before .before .add in
-    let z = seen-less (at .number) (d .last .1 .0) w (at .next) (omega arith) (c .before .before .before .before .before .before .before .before .before .before .before .before .before .if1 .left) (d .ensures .1 .0) in
-    let kept = kept-set (i .1) (at .next) w (a .hub .0 + 1) (getD (a .ks .now) (at .b) 0) (d .ensures .0) (d .ensures .1 .0) (d .ensures .1 .1 .0) (d .ensures .1 .1 .1) in
-    (omega (arith, z, i .0 .fewer, s .pre .0), (fit, (lk, (room-kept (s .pre .1 .1 .1 .0) kept, ((omega arith, head-within lk w wn), head-here lk w wn)))))
-
-visit-loop-less-2 : (t : ℕ) → visit-lts.Need-loop-less-2 (visit-claims t) (visit-at t) visit.Post visit-Inv-loop visit-μ-loop
-visit-loop-less-2 t c =
-    let s = c .before .before .before .before .before .before .before .before .before .before .before .before .before .before .before .before .before .before .before .before in
-    let a = s .args in
-    let lk = s .pre .1 .1 .0 in
-    let at = c .before .before .before .before .before .before .before .before .before .before .before .before .before .before .before .before .before .before .before .loop in
-    let i = at .inv in
-    let h = c .before .before .before .before .before .before .before .before .before .before .before .before .before .before .before .before .before .before .loop-test .taken in
-    let f = c .before .before .before .before .before .before .before .before .before .before .before .before .before .before .before .before .before .follow in
-    let r = next-after-is lk (at .b) (a .v .0) (f .result .next .0) h (i .0 .here h) (f .ensures .1) in
-    let z = next-after-later lk (at .b) (a .v .0) (f .result .next .0) h r in
-    omega arith
-
-visit-loop-again-2 : (t : ℕ) → visit-lts.Need-loop-again-2 (visit-claims t) (visit-at t) visit.Post visit-Inv-loop visit-μ-loop
-visit-loop-again-2 t c =
-    let s = c .before .before .before .before .before .before .before .before .before .before .before .before .before .before .before .before .before .before .before .before in
-    let a = s .args in
-    let fit = s .pre .1 .0 in
-    let x = fit .few-atoms in
-    let lk = s .pre .1 .1 .0 in
-    let at = c .before .before .before .before .before .before .before .before .before .before .before .before .before .before .before .before .before .before .before .loop in
-    let i = at .inv in
-    let h = c .before .before .before .before .before .before .before .before .before .before .before .before .before .before .before .before .before .before .loop-test .taken in
-    let f = c .before .before .before .before .before .before .before .before .before .before .before .before .before .before .before .before .before .follow in
-    let w : ℕ = f .result .other .0 in
-    let q = other-below fit (a .v .0) (at .b) h in
-    let wn : w < maxAtoms = omega (arith, q, f .ensures .0, x) in
-    let r = next-after-is lk (at .b) (a .v .0) (f .result .next .0) h (i .0 .here h) (f .ensures .1) in
+    let r = next-after-is lk (at .b) (a .v .0) (f .result .next .0) h (i .0 .here h) (f .ensures .1 .1) in
     let room = room-kept (s .pre .1 .1 .1 .0) (i .1) in
     let l = room .number in
     let d = c .before .before .before .before .before .before .add in
-    let kept = kept-set (i .1) (at .next) w (a .hub .0 + 1) (getD (a .ks .now) (at .b) 0) (d .ensures .0) (d .ensures .1 .0) (d .ensures .1 .1 .0) (d .ensures .1 .1 .1) in
+    let kept = kept-set (i .1) (at .next) w (a .hub .0 + 1) (f .result .kind) (d .ensures .0) (d .ensures .1 .0) (d .ensures .1 .1 .0) (d .ensures .1 .1 .1) in
     let v = c .visit in
-    (left-new fit (f .result .next .0) h r _ _ _ _ _ _ (i .0) w (getD (a .ks .now) (at .b) 0) (getD (a .head .now) w 0) (f .ensures .0) (c .before .before .before .before .before .before .before .before .before .before .before .before .before .before .if1 .left) refl (lk .heads w wn) (omega arith) _ _ _ _ (d .ensures .0) (d .ensures .1 .0) (d .ensures .1 .1 .0) (d .ensures .1 .1 .1) _ (v .ensures .0), kept-then kept (v .ensures .1))
+    (left-new fit (f .result .next .0) h r _ _ _ _ _ _ (i .0) w (f .result .kind) (getD (a .head .now) w 0) (f .ensures .0) (c .before .before .before .before .before .before .before .before .before .before .before .before .before .if1 .left) (f .ensures .1 .0) (lk .heads w wn) (omega arith) _ _ _ _ (d .ensures .0) (d .ensures .1 .0) (d .ensures .1 .1 .0) (d .ensures .1 .1 .1) _ (v .ensures .0), kept-then kept (v .ensures .1))
 
 visit-returns-2 : (t : ℕ) → visit-lts.Need-returns-2 (visit-claims t) (visit-at t) visit.Post visit-Inv-loop visit-μ-loop
 visit-returns-2 t c =
@@ -294,8 +278,6 @@ pub +visit-spec : {M : Type 1} → statement M
     (visit-loop-less t)
     (visit-loop-again t)
     (visit-returns t)
-    (visit-element-copy-out-k t)
-    (visit-cast-k t)
     (visit-add-add t)
     (visit-add-requires t)
     (visit-mul-start t)

@@ -33,9 +33,6 @@ mul-up c = search needs
 element-write-up : tie.Need-element-write-up
 element-write-up c = search needs
 
-cast-kind : tie.Need-cast-kind
-cast-kind c = search needs
-
 element-write-kind : tie.Need-element-write-kind
 element-write-kind c = search needs
 
@@ -56,6 +53,5 @@ add-spec =
     cast-up
     mul-up
     element-write-up
-    cast-kind
     element-write-kind
     returns)

@@ -45,9 +45,6 @@ mul-his c = search needs
 slice-write-his : tie.Need-slice-write-his
 slice-write-his c = search needs
 
-cast-kinds : tie.Need-cast-kinds
-cast-kinds c = search needs
-
 slice-write-kinds : tie.Need-slice-write-kinds
 slice-write-kinds c = search needs
 
@@ -99,7 +96,7 @@ returns-2 c =
     let a = s .args in
     let room = s .pre .1 .0 in
     let w = s .pre .1 .1 .1 .0 in
-    let z = s .pre .1 .1 .1 .1 .0 in
+    let z = s .pre .1 .1 .1 .1 in
     (taken-in _ _ _ _ (a .p) (a .q) (a .kind) (a .used) (w .0) (c .before .before .before .before .if1 .left), marked-add (a .p - 1) (a .q - 1) _ _ (s .pre .1 .1 .0) (omega (arith, w .0, w .1, z .0)) (omega (arith, w .0, w .1, z .0)) (omega (arith, room .los, z .1)) (omega (arith, room .his, z .1)) (c .before .before .mark .ensures) (c .mark2 .ensures))
 
 pub add-bond-spec : {M : Type 1} → statement M
@@ -118,7 +115,6 @@ add-bond-spec =
     cast-his
     mul-his
     slice-write-his
-    cast-kinds
     slice-write-kinds
     mul-mark
     element-copy-out-mark

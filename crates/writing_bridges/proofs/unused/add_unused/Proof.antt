@@ -1,4 +1,4 @@
-use Rattle.writing_bridges.proofs.BondArrays.{first-number, second-number, numbers-below, numbers-differ, straight, turned, strictly}
+use Rattle.writing_bridges.proofs.BondArrays.{first-number, second-number, numbers-below, numbers-differ, straight, swapped, strictly}
 use Rattle.writing_bridges.specs.Unused.{bondArrays, addBond}
 use Rattle.writing_walk.specs.Token.{Bond}
 use mathlib.Core.Path.{refl, ap, _∙_}
@@ -36,12 +36,6 @@ cast-f c =
 
 element-copy-out-kind : tie.Need-element-copy-out-kind
 element-copy-out-kind c = search needs
-
-cast-kind : tie.Need-cast-kind
-cast-kind c =
-    let s = c .before .before .before .before .before .before .before .before in
-    let fit = s .pre .0 in
-    omega (arith, fit .kinds (s .args .b .0) (s .pre .1 .1 .1 .1 .0))
 
 mul-p : tie.Need-mul-p
 mul-p c =
@@ -94,7 +88,7 @@ add-bond-requires c κs =
     let q = second-number fit num (a .b .0) h _ refl in
     let l = numbers-below fit num (a .b .0) h in
     let f = fit .few-atoms in
-    (num .ups, (s .pre .1 .1 .0, (s .pre .1 .1 .1 .0, ((omega arith, c .before .before .before .before .if1 .taken), ((omega arith, s .pre .1 .1 .1 .1 .1), fit .kinds (a .b .0) h)))))
+    (num .ups, (s .pre .1 .1 .0, (s .pre .1 .1 .1 .0, ((omega arith, c .before .before .before .before .if1 .taken), (omega arith, s .pre .1 .1 .1 .1 .1)))))
 
 same-length : tie.Need-same-length
 same-length c = search needs
@@ -119,9 +113,12 @@ returns c =
     let r = c .before .before .before .before .before .before .add-bond .ensures in
     (r .0 ∙ ap (λ (x : Bond). addBond (a .up .now) x (bondArrays (a .los .now) (a .his .now) (a .kinds .now) (a .used))) (straight fit num (a .b .0) h _ _ _ p q refl (c .before .before .before .before .before .before .before .before .before .before .before .if1 .taken)), r .1)
 
+turned-requires : tie.Need-turned-requires
+turned-requires c κs = search needs
+
 add-bond-requires-2 : tie.Need-add-bond-requires-2
 add-bond-requires-2 c κs =
-    let s = c .before .before .before .before .before .before .before .before .before .before .before .before .before .before .before in
+    let s = c .before .before .before .before .before .before .before .before .before .before .before .before .before .before .before .before in
     let a = s .args in
     let fit = s .pre .0 in
     let num = s .pre .1 .0 in
@@ -130,7 +127,7 @@ add-bond-requires-2 c κs =
     let q = second-number fit num (a .b .0) h _ refl in
     let l = numbers-below fit num (a .b .0) h in
     let f = fit .few-atoms in
-    (num .ups, (s .pre .1 .1 .0, (s .pre .1 .1 .1 .0, ((omega arith, strictly _ _ (λ e. numbers-differ fit num (a .b .0) h (omega arith)) (c .before .before .before .before .if1 .left)), ((omega arith, s .pre .1 .1 .1 .1 .1), fit .kinds (a .b .0) h)))))
+    (num .ups, (s .pre .1 .1 .0, (s .pre .1 .1 .1 .0, ((omega arith, strictly _ _ (λ e. numbers-differ fit num (a .b .0) h (omega arith)) (c .before .before .before .before .before .if1 .left)), (omega arith, s .pre .1 .1 .1 .1 .1)))))
 
 same-length-4 : tie.Need-same-length-4
 same-length-4 c = search needs
@@ -143,7 +140,7 @@ same-length-6 c = search needs
 
 returns-2 : tie.Need-returns-2
 returns-2 c =
-    let s = c .before .before .before .before .before .before .before .before .before .before .before .before .before .before .before .before .before .before .before .before .before .before in
+    let s = c .before .before .before .before .before .before .before .before .before .before .before .before .before .before .before .before .before .before .before .before .before .before .before in
     let a = s .args in
     let fit = s .pre .0 in
     let num = s .pre .1 .0 in
@@ -153,7 +150,7 @@ returns-2 c =
     let l = numbers-below fit num (a .b .0) h in
     let f = fit .few-atoms in
     let r = c .before .before .before .before .before .before .add-bond2 .ensures in
-    (r .0 ∙ ap (λ (x : Bond). addBond (a .up .now) x (bondArrays (a .los .now) (a .his .now) (a .kinds .now) (a .used))) (turned fit num (a .b .0) h _ _ _ p q refl (c .before .before .before .before .before .before .before .before .before .before .before .if1 .left)), r .1)
+    (r .0 ∙ ap (λ (x : Bond). addBond (a .up .now) x (bondArrays (a .los .now) (a .his .now) (a .kinds .now) (a .used))) (swapped fit num (a .b .0) h _ _ _ p q (c .before .before .before .before .before .before .before .before .before .before .before .turned .ensures) (c .before .before .before .before .before .before .before .before .before .before .before .before .if1 .left)), r .1)
 
 pub add-unused-spec : {M : Type 1} → statement M
 add-unused-spec =
@@ -166,7 +163,6 @@ add-unused-spec =
     element-copy-out-f
     cast-f
     element-copy-out-kind
-    cast-kind
     mul-p
     shared-slice-read-p
     cast-p
@@ -178,6 +174,7 @@ add-unused-spec =
     same-length-2
     same-length-3
     returns
+    turned-requires
     add-bond-requires-2
     same-length-4
     same-length-5
