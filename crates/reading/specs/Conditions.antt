@@ -164,7 +164,7 @@ module _ (s : List ℕ) (atoms bonds : List ℤ) where
     pub reads : Read state memory
     pub leftmost : LeftmostOpening (memory .st .opener) (memory .st .offset) p
 
-  -- a late check (02, P6: 22): the code of the first that the molecule read fails, no bridge being open
+  -- a late check (02, P5: 20, 21; P6: 22): the code of the first that the molecule read fails, no bridge being open
   pub record Late (c : ℕ) : Type 0 where
     pub state : MachineState
     pub memory : Memory

@@ -10,7 +10,7 @@ use lib.Dec.{eqb}
 use Rattle.loops.specs.Loop.{pick}
 use Rattle.refusal.specs.Code.{codeOf}
 use Rattle.refusal.specs.declared.Refusal.{Refusal}
-use Rattle.refusal.specs.declared.Refusal.the-variants.{Short, LongText, Grammar, ManyAtoms, ManyBonds, DeepBranch, SelfBridge, RepeatedBond, SymbolClash, OpenBridge, Unmatchable, NotMatching, Invalid, ManyBridges, DeepWriting, LongWriting, LooseAtom}
+use Rattle.refusal.specs.declared.Refusal.the-variants.{Short, LongText, Grammar, ManyAtoms, ManyBonds, DeepBranch, SelfBridge, RepeatedBond, SymbolClash, OpenBridge, Unmatchable, NotMatching, Invalid, ManyBridges, DeepWriting, LongWriting, CrowdedEnd, StrayMark, LooseAtom}
 use Rattle.table.specs.Limits.{maxAtoms, maxBonds, atomCells, bondCells}
 use Rattle.table.specs.declared.Check.{Check}
 use Rattle.ids.specs.Limits.{maxText}
@@ -49,6 +49,8 @@ code-not-zero Invalid = refl
 code-not-zero ManyBridges = refl
 code-not-zero DeepWriting = refl
 code-not-zero LongWriting = refl
+code-not-zero CrowdedEnd = refl
+code-not-zero StrayMark = refl
 code-not-zero LooseAtom = refl
 
 abbrev readBlank : List ℕ → read.ReadResult

@@ -76,10 +76,6 @@ module _ (bonds : List ℤ) (m : ℕ) (h : unmarked bonds m ≡ true) where
       go true = refl
       go false = refl
 
-  pub unmarked-stray : noneStray bonds m ≡ true
-  unfolding noneStray
-  unmarked-stray = each-all (λ b. not (stray bonds m b)) m (λ b l. rw (no-mark b l))
-
 -- ---- in words
 module _ (bonds : List ℤ) (m : ℕ) where
   -- two bonds on a side of an atom

@@ -77,8 +77,8 @@ fn crowded_bond(bonds: &[i32], m: usize, b: BondId) -> bool
     crowded_end(bonds, m, b)
 }
 
-// internal: no end of a double bond is crowded: 20 is not given.
-pub fn none_crowded(bonds: &[i32], m: usize) -> bool
+// No end of a double bond is crowded, each double bond looked at.
+fn all_uncrowded(bonds: &[i32], m: usize) -> bool
     requires { ⌜ m ≤ maxBonds ⌝ }
     ensures { λ r. ⌜ r ≡ noneCrowded (now (bonds .entry)) m ⌝ }
 {
@@ -90,6 +90,32 @@ pub fn none_crowded(bonds: &[i32], m: usize) -> bool
         i += 1;
     }
     true
+}
+
+// No bond has a mark.
+fn unmarked(bonds: &[i32], m: usize) -> bool
+    requires { ⌜ m ≤ maxBonds ⌝ }
+    ensures { λ r. ⌜ r ≡ unmarked (now (bonds .entry)) m ⌝ }
+{
+    let mut i = 0;
+    while i < m {
+        if kinds::mark(cell::bond_number(bonds, BondId(i), KIND)) != 0 {
+            return false;
+        }
+        i += 1;
+    }
+    true
+}
+
+// internal: no end of a double bond is crowded: 20 is not given.
+pub fn none_crowded(bonds: &[i32], m: usize) -> bool
+    requires { ⌜ m ≤ maxBonds ⌝ }
+    ensures { λ r. ⌜ r ≡ noneCrowded (now (bonds .entry)) m ⌝ }
+{
+    if unmarked(bonds, m) {
+        return true;
+    }
+    all_uncrowded(bonds, m)
 }
 
 // Whether an atom has a double bond.
@@ -139,21 +165,6 @@ pub fn none_stray(bonds: &[i32], m: usize) -> bool
     let mut i = 0;
     while i < m {
         if stray(bonds, m, BondId(i)) {
-            return false;
-        }
-        i += 1;
-    }
-    true
-}
-
-// internal: no bond has a mark; then neither 20 nor 21 is given.
-pub fn unmarked(bonds: &[i32], m: usize) -> bool
-    requires { ⌜ m ≤ maxBonds ⌝ }
-    ensures { λ r. ⌜ r ≡ unmarked (now (bonds .entry)) m ⌝ }
-{
-    let mut i = 0;
-    while i < m {
-        if kinds::mark(cell::bond_number(bonds, BondId(i), KIND)) != 0 {
             return false;
         }
         i += 1;

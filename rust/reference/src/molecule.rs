@@ -1,5 +1,6 @@
 //! Molecules: atoms and bonds.
 
+use crate::conformation::marks;
 use crate::refusal::Code;
 
 /// An atom.
