@@ -51,6 +51,21 @@ many-same-from p q k (suc m) h =
 pub many-same : (p q : ℕ → Bool) (m : ℕ) → ((j : ℕ) → j < m → p j ≡ q j) → howMany p 0 m ≡ howMany q 0 m
 many-same p q m h = many-same-from p q 0 m (λ j l u. h j (omega arith))
 
+-- where one test passes the other does, and counts no less
+mono-from : (p q : ℕ → Bool) (k m : ℕ) → ((j : ℕ) → k ≤ j → j < k + m → p j ≡ true → q j ≡ true) → howMany p k m ≤ howMany q k m
+unfolding howMany
+mono-from p q k zero h = omega arith
+mono-from p q k (suc m) h = let r = mono-from p q (suc k) m (λ j l u. h j (omega arith) (omega arith)) in go (p k) (q k) (h k (omega arith) (omega arith)) r
+  where
+    go : (x y : Bool) → (x ≡ true → y ≡ true) → howMany p (suc k) m ≤ howMany q (suc k) m → pick x 1 0 + howMany p (suc k) m ≤ pick y 1 0 + howMany q (suc k) m
+    go true true f r = omega arith
+    go true false f r = absurd (true≢false (sym (f refl)))
+    go false true f r = omega arith
+    go false false f r = omega arith
+
+pub many-mono : (p q : ℕ → Bool) (m : ℕ) → ((j : ℕ) → j < m → p j ≡ true → q j ≡ true) → howMany p 0 m ≤ howMany q 0 m
+many-mono p q m h = mono-from p q 0 m (λ j l u. h j (omega arith))
+
 -- none passes
 none-from : (p : ℕ → Bool) (k m : ℕ) → ((j : ℕ) → k ≤ j → j < k + m → p j ≡ false) → howMany p k m ≡ 0
 unfolding howMany

@@ -67,10 +67,12 @@ module _ (bonds : List ℤ) (m : ℕ) (h : unmarked bonds m ≡ true) where
   unfolding sideCount
   none-on a s e = many-none (λ b. eqb (side bonds a b) s) m (λ b l. rw (side-none bonds a b (no-mark b l)) e)
 
+  pub unmarked-uncrowded : (a : ℕ) → crowded bonds m a ≡ false
+  unmarked-uncrowded a = rw (none-on a up refl, none-on a down refl)
+
   pub unmarked-crowded : noneCrowded bonds m ≡ true
   unfolding noneCrowded
-  unmarked-crowded = each-all (λ b. not (crowdedBond bonds m b)) m (λ b l.
-      rw (none-on (end1 bonds b) up refl, none-on (end1 bonds b) down refl, none-on (end2 bonds b) up refl, none-on (end2 bonds b) down refl) (go (eqb (kind bonds b) double)))
+  unmarked-crowded = each-all (λ b. not (crowdedBond bonds m b)) m (λ b l. rw (unmarked-uncrowded (end1 bonds b), unmarked-uncrowded (end2 bonds b)) (go (eqb (kind bonds b) double)))
     where
       go : (x : Bool) → not (x && false) ≡ true
       go true = refl

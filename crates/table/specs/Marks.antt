@@ -26,12 +26,15 @@ doubleAt bonds a b = touches bonds a b && eqb (kind bonds b) double
 unfoldable pub doubleCount : List ℤ → ℕ → ℕ → ℕ
 doubleCount bonds m a = howMany (doubleAt bonds a) 0 m
 
--- 20: "Two marked neighbours of one end on the same side", at an end of the double bond b
+-- 20: "Two marked neighbours of one end on the same side": of the atom a, of an end of the bond b, of an end of a double bond
 abbrev pub crowded : List ℤ → ℕ → ℕ → Bool
 crowded bonds m a = ltb 1 (sideCount bonds m a up) || ltb 1 (sideCount bonds m a down)
 
+abbrev pub crowdedEnds : List ℤ → ℕ → ℕ → Bool
+crowdedEnds bonds m b = crowded bonds m (end1 bonds b) || crowded bonds m (end2 bonds b)
+
 abbrev pub crowdedBond : List ℤ → ℕ → ℕ → Bool
-crowdedBond bonds m b = eqb (kind bonds b) double && (crowded bonds m (end1 bonds b) || crowded bonds m (end2 bonds b))
+crowdedBond bonds m b = eqb (kind bonds b) double && crowdedEnds bonds m b
 
 unfoldable pub noneCrowded : List ℤ → ℕ → Bool
 noneCrowded bonds m = each (λ b. not (crowdedBond bonds m b)) 0 m

@@ -3,13 +3,17 @@ use Prim.Native.Nat.{ℕ}
 use mathlib.Core.Path.{_≡_, refl, sym, ap, _∙_}
 use mathlib.Core.Bool.{Bool, true, false, _&&_, _||_, not}
 use mathlib.Core.List.{List}
+use lib.ListN.{getD}
 use lib.IntN.{ℤ}
 use lib.Dec.{eqb}
 use borrow.Author.Tests.{eq-eqb, ne-eqb}
 use Rattle.kinds.specs.Kind.{elided, double, isMark, markOf, turned}
 use Rattle.kinds.proofs.Kind.{mark-none, mark-some}
 use Rattle.table.specs.Cells.{end1, end2, kind, touches}
-use Rattle.table.specs.Marks.{side, doubleAt, doubleCount, crowded, crowdedBond, stray}
+use Rattle.loops.proofs.Loops.{each-all}
+use Rattle.table.proofs.Marks.{unmarked-uncrowded}
+use Rattle.table_marks.specs.Chosen.{crowdedChoice, noneCrowdedBy}
+use Rattle.table.specs.Marks.{side, doubleAt, doubleCount, crowded, crowdedEnds, crowdedBond, stray, unmarked}
 
 module _ (bonds : List ℤ) (a b : ℕ) {e k s : ℕ} (ek : k ≡ kind bonds b) (es : s ≡ markOf k) (e1 : e ≡ end1 bonds b) where
   pub side-first : e ≡ a → s ≡ side bonds a b
@@ -48,14 +52,31 @@ module _ (bonds : List ℤ) (m b : ℕ) {k s : ℕ} (ek : k ≡ kind bonds b) (e
 
 -- ---- crowded ends
 module _ (bonds : List ℤ) (m b : ℕ) where
-  pub first-crowded : {e : ℕ} {x : Bool} → e ≡ end1 bonds b → x ≡ crowded bonds m e → x ≡ true → true ≡ (crowded bonds m (end1 bonds b) || crowded bonds m (end2 bonds b))
+  pub first-crowded : {e : ℕ} {x : Bool} → e ≡ end1 bonds b → x ≡ crowded bonds m e → x ≡ true → true ≡ crowdedEnds bonds m b
   first-crowded e1 ex t = sym (rw (sym (ap (crowded bonds m) e1) ∙ sym ex ∙ t))
 
-  pub second-crowded : {e f : ℕ} {x y : Bool} → e ≡ end1 bonds b → x ≡ crowded bonds m e → x ≡ false → f ≡ end2 bonds b → y ≡ crowded bonds m f → y ≡ (crowded bonds m (end1 bonds b) || crowded bonds m (end2 bonds b))
+  pub second-crowded : {e f : ℕ} {x y : Bool} → e ≡ end1 bonds b → x ≡ crowded bonds m e → x ≡ false → f ≡ end2 bonds b → y ≡ crowded bonds m f → y ≡ crowdedEnds bonds m b
   second-crowded e1 ex t e2 ey = ey ∙ ap (crowded bonds m) e2 ∙ sym (rw (sym (ap (crowded bonds m) e1) ∙ sym ex ∙ t))
 
   pub not-double : {k : ℕ} → k ≡ kind bonds b → (k ≡ 2 → ⊥) → false ≡ crowdedBond bonds m b
   not-double ek n = sym (rw (ne-eqb (kind bonds b) double (λ z. n (ek ∙ z))))
 
-  pub is-double : {k : ℕ} {x : Bool} → k ≡ kind bonds b → k ≡ 2 → x ≡ (crowded bonds m (end1 bonds b) || crowded bonds m (end2 bonds b)) → x ≡ crowdedBond bonds m b
+  pub is-double : {k : ℕ} {x : Bool} → k ≡ kind bonds b → k ≡ 2 → x ≡ crowdedEnds bonds m b → x ≡ crowdedBond bonds m b
   is-double ek e ex = ex ∙ sym (rw (eq-eqb (kind bonds b) double (sym ek ∙ e)))
+
+-- ---- a bond that a row chooses
+module _ (bonds : List ℤ) (m b : ℕ) where
+  pub not-chosen : {x : ℕ} → (x ≡ 1 → ⊥) → false ≡ (eqb x 1 && crowdedEnds bonds m b)
+  not-chosen {x} n = sym (rw (ne-eqb x 1 n))
+
+  pub is-chosen : {x : ℕ} {y : Bool} → x ≡ 1 → y ≡ crowdedEnds bonds m b → y ≡ (eqb x 1 && crowdedEnds bonds m b)
+  is-chosen {x} e ey = ey ∙ sym (rw (eq-eqb x 1 e))
+
+-- without marks no chosen bond has a crowded end
+pub unmarked-chosen : (bonds : List ℤ) (m : ℕ) (row : List ℕ) → unmarked bonds m ≡ true → noneCrowdedBy bonds m row ≡ true
+unfolding noneCrowdedBy
+unmarked-chosen bonds m row h = each-all (λ b. not (crowdedChoice bonds m row b)) m (λ b l. rw (unmarked-uncrowded bonds m h (end1 bonds b), unmarked-uncrowded bonds m h (end2 bonds b)) (go (eqb (getD row b 0) 1)))
+  where
+    go : (x : Bool) → not (x && false) ≡ true
+    go true = refl
+    go false = refl

@@ -1,12 +1,13 @@
 // The marks of bonds: on which side of an atom they place its neighbours, and the tests behind the refusals 20 and 21.
 ghost use mathlib.Core.Path.{_≡_};
-ghost use mathlib.Core.Bool.{_||_, not};
+ghost use mathlib.Core.Bool.{_&&_, not};
 ghost use Prim.Native.Nat.{_<_, _≤_};
 ghost use lib.Dec.{eqb};
+ghost use lib.ListN.{length};
 ghost use Rattle.loops.specs.Loop.{pick};
 ghost use Rattle.table.specs.Limits.{maxBonds};
-ghost use Rattle.table.specs.Cells.{end1, end2};
-ghost use Rattle.table.specs.Marks.{side, doubleAt, doubleCount, crowded, crowdedBond, noneCrowded, stray, noneStray, unmarked};
+ghost use Rattle.table.specs.Marks.{side, doubleAt, doubleCount, crowded, crowdedEnds, crowdedBond, noneCrowded, stray, noneStray, unmarked};
+ghost use Rattle.table_marks.specs.Chosen.{noneCrowdedBy};
 use ids::AtomId;
 use ids::BondId;
 use table::FIRST;
@@ -36,8 +37,8 @@ fn one_if(b: bool) -> usize
     if b { 1 } else { 0 }
 }
 
-// internal: whether two of m bonds place neighbours of an atom on the same side.
-pub fn crowded(bonds: &[i32], m: usize, a: AtomId) -> bool
+// Whether two of m bonds place neighbours of an atom on the same side.
+fn crowded(bonds: &[i32], m: usize, a: AtomId) -> bool
     requires { ⌜ m ≤ maxBonds ⌝ }
     ensures { λ r. ⌜ r ≡ crowded (now (bonds .entry)) m (a .0) ⌝ }
 {
@@ -53,10 +54,10 @@ pub fn crowded(bonds: &[i32], m: usize, a: AtomId) -> bool
     (1 < above) | (1 < below)
 }
 
-// internal: whether an end of a bond is crowded, whatever its kind.
-pub fn crowded_end(bonds: &[i32], m: usize, b: BondId) -> bool
+// Whether an end of a bond is crowded, whatever its kind.
+fn crowded_end(bonds: &[i32], m: usize, b: BondId) -> bool
     requires { ⌜ (m ≤ maxBonds) × (b .0 < m) ⌝ }
-    ensures { λ r. ⌜ r ≡ (crowded (now (bonds .entry)) m (end1 (now (bonds .entry)) (b .0)) || crowded (now (bonds .entry)) m (end2 (now (bonds .entry)) (b .0))) ⌝ }
+    ensures { λ r. ⌜ r ≡ crowdedEnds (now (bonds .entry)) m (b .0) ⌝ }
 {
     let first = cell::bond_number(bonds, b, FIRST);
     if crowded(bonds, m, AtomId(first)) {
@@ -170,4 +171,41 @@ pub fn none_stray(bonds: &[i32], m: usize) -> bool
         i += 1;
     }
     true
+}
+
+// Whether a row chooses a bond, x being its cell, and an end of the bond is crowded.
+fn crowded_choice(bonds: &[i32], m: usize, b: BondId, x: u8) -> bool
+    requires { ⌜ (m ≤ maxBonds) × (b .0 < m) ⌝ }
+    ensures { λ r. ⌜ r ≡ (eqb x 1 && crowdedEnds (now (bonds .entry)) m (b .0)) ⌝ }
+{
+    if x != 1 {
+        return false;
+    }
+    crowded_end(bonds, m, b)
+}
+
+// No end of a bond that a row chooses is crowded, each such bond looked at.
+fn chosen_uncrowded(bonds: &[i32], m: usize, row: &[u8]) -> bool
+    requires { ⌜ (m ≤ maxBonds) × (m ≤ length (now row)) ⌝ }
+    ensures { λ r. ⌜ r ≡ noneCrowdedBy (now (bonds .entry)) m (now (row .entry)) ⌝ }
+{
+    let mut i = 0;
+    while i < m {
+        if crowded_choice(bonds, m, BondId(i), row[i]) {
+            return false;
+        }
+        i += 1;
+    }
+    true
+}
+
+// internal: no end of a bond that a row chooses is crowded: where these become double, 20 is not given.
+pub fn none_crowded_by(bonds: &[i32], m: usize, row: &[u8]) -> bool
+    requires { ⌜ (m ≤ maxBonds) × (m ≤ length (now row)) ⌝ }
+    ensures { λ r. ⌜ r ≡ noneCrowdedBy (now (bonds .entry)) m (now (row .entry)) ⌝ }
+{
+    if unmarked(bonds, m) {
+        return true;
+    }
+    chosen_uncrowded(bonds, m, row)
 }

@@ -1,6 +1,6 @@
 use denote.Ref.{now}
 use Rattle.table.proofs.Sound.{sound-valid}
-use Rattle.kekule.proofs.Kekule.{held, failed, row-room, kekulize-short, kekulize-invalid, kekulize-wrong, kekulize-done}
+use Rattle.kekule.proofs.Kekule.{held, failed, row-room, kekulize-short, kekulize-invalid, kekulize-wrong, kekulize-crowded, kekulize-done}
 use borrow.Author.Needs.{needs}
 use Rattle.kekule.proofs.kekulize.Statement.{statement}
 use Rattle.kekule.proofs.kekulize.Tie as tie
