@@ -30,9 +30,6 @@ module _ (bonds : List ℤ) (m : ℕ) (row : List ℕ) (room : (b : ℕ) → b <
   abbrev bonds′ : List ℤ
   bonds′ = doubledBonds row m bonds
 
-  chosen : ℕ → Bool
-  chosen b = eqb (getD row b 0) 1
-
   first-kept : (b : ℕ) → end1 bonds′ b ≡ end1 bonds b
   first-kept b = ap number (doubled-field row m b FIRST bonds (omega arith) (λ e. omega arith))
 
@@ -52,11 +49,11 @@ module _ (bonds : List ℤ) (m : ℕ) (row : List ℕ) (room : (b : ℕ) → b <
   unfolding doubleCount touches
   more-doubles a = many-mono (doubleAt bonds a) (doubleAt bonds′ a) m (λ b l h.
       rw (first-kept b, second-kept b, kind-now b l, and-left (eqb (end1 bonds b) a || eqb (end2 bonds b) a) (eqb (kind bonds b) double) h)
-      (go (eqb (getD row b 0) 1) (and-right (eqb (end1 bonds b) a || eqb (end2 bonds b) a) (eqb (kind bonds b) double) h)))
+      (go b (eqb (getD row b 0) 1) (and-right (eqb (end1 bonds b) a || eqb (end2 bonds b) a) (eqb (kind bonds b) double) h)))
     where
-      go : {b : ℕ} (x : Bool) → eqb (kind bonds b) double ≡ true → eqb (pick x double (kind bonds b)) double ≡ true
-      go true e = refl
-      go false e = e
+      go : (b : ℕ) (x : Bool) → eqb (kind bonds b) double ≡ true → eqb (pick x double (kind bonds b)) double ≡ true
+      go b true e = refl
+      go b false e = e
 
   pub still-touching : noneStray bonds m ≡ true → noneStray bonds′ m ≡ true
   unfolding noneStray
@@ -104,11 +101,14 @@ module _ (bonds : List ℤ) (m : ℕ) (row : List ℕ) (room : (b : ℕ) → b <
     pub crowded-by : noneCrowded bonds m ≡ true → noneCrowded bonds′ m ≡ noneCrowdedBy bonds m row
     unfolding noneCrowded noneCrowdedBy
     crowded-by h = each-same (λ b. not (crowdedBond bonds′ m b)) (λ b. not (crowdedChoice bonds m row b)) m (λ b l.
-        ap not (rw (kind-now b l, first-kept b, second-kept b, crowded-kept (end1 bonds b), crowded-kept (end2 bonds b)) (go b l (eqb (getD row b 0) 1))))
+        ap not (same b l))
       where
         go : (b : ℕ) → b < m → (x : Bool) → (eqb (pick x double (kind bonds b)) double && crowdedEnds bonds m b) ≡ (x && crowdedEnds bonds m b)
         go b l true = refl
         go b l false = not-true (crowdedBond bonds m b) (each-at (λ x. not (crowdedBond bonds m x)) m b h l)
+
+        same : (b : ℕ) → b < m → crowdedBond bonds′ m b ≡ crowdedChoice bonds m row b
+        same b l = rw (kind-now b l, first-kept b, second-kept b, crowded-kept (end1 bonds b), crowded-kept (end2 bonds b)) (go b l (eqb (getD row b 0) 1))
 
 -- ---- a matching
 module _ (atoms bonds : List ℤ) (n m : ℕ) (row : List ℕ) (h : isMatchingOf atoms bonds n m row ≡ true) where
