@@ -108,7 +108,7 @@ module _ (atoms bonds : List ℤ) (n m k : ℕ) (row : List ℕ) (a b : List ℤ
   the-tables = kekule ∙ ap (kekulizedOf atoms bonds n m) the-row
 
   -- the entry, by what kekulizing hands back
-  byTables : KekulizeReply → Entry
+  abbrev byTables : KekulizeReply → Entry
   byTables t = pick (eqb (t .code) 0) (ofWritten n m k (firstRow atoms bonds n m) (writeBlank (t .atoms) (t .bonds) n m)) (refusedAs (t .code) 0)
 
   the-entry : {x : Check} → c ≡ x → ofMolecule atoms bonds n m k ≡ byTables (tables x a b)
