@@ -9,7 +9,8 @@ use Rattle.loops.specs.Loop.{pick, run, upTo}
 use Rattle.kinds.specs.Kind.{elided, double}
 use Rattle.table.specs.Limits.{maxBonds}
 use Rattle.table.specs.Cells.{end1, end2, kind}
-use Rattle.table.specs.Valid.{valid, enough, checkCode}
+use Rattle.table.specs.Valid.{enough, checkCode}
+use Rattle.table.specs.Sound.{sound}
 use Rattle.table.specs.Marks.{side}
 use Rattle.table.specs.declared.Check.{Check}
 use Rattle.conformation.specs.declared.Lowest.{Lowest}
@@ -56,5 +57,5 @@ told a row = sidesReply (checkCode a) row
 unfoldable pub sidesOf : List ℤ → List ℤ → ℕ → ℕ → List ℕ → SidesReply
 sidesOf atoms bonds n m row =
     pick (leb maxBonds (length row) && enough atoms bonds)
-    (pick (valid atoms bonds n m) (sidesReply 0 (upTo (sideOf bonds m) 0 m ++ replicate (length row - m) 0)) (sidesReply 13 (replicate (length row) 0)))
+    (pick (sound atoms bonds n m) (sidesReply 0 (upTo (sideOf bonds m) 0 m ++ replicate (length row - m) 0)) (sidesReply 13 (replicate (length row) 0)))
     (sidesReply 1 row)

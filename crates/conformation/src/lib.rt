@@ -51,7 +51,7 @@ fn lower(bonds: &[i32], a: AtomId, b: BondId, w: Lowest) -> Lowest
 }
 
 // The lowest marked neighbour of an atom.
-fn lowest(bonds: &[i32], m: usize, a: AtomId) -> Lowest
+fn lowest_of(bonds: &[i32], m: usize, a: AtomId) -> Lowest
     requires { ⌜ m ≤ maxBonds ⌝ }
     ensures { λ r. ⌜ r ≡ lowestOf (now (bonds .entry)) m (a .0) ⌝ }
 {
@@ -87,8 +87,8 @@ fn side_of(bonds: &[i32], m: usize, b: BondId) -> u8
     }
     let first = cell::bond_number(bonds, b, FIRST);
     let second = cell::bond_number(bonds, b, SECOND);
-    let one = lowest(bonds, m, AtomId(first));
-    let other = lowest(bonds, m, AtomId(second));
+    let one = lowest_of(bonds, m, AtomId(first));
+    let other = lowest_of(bonds, m, AtomId(second));
     compare(one.side, other.side)
 }
 
@@ -116,7 +116,7 @@ pub fn sides(atoms: &[i32], bonds: &[i32], n: usize, m: usize, row: &mut [u8]) -
     if !table_validity::enough(atoms, bonds) {
         return Check::Refused(Refusal::Short);
     }
-    if !table_validity::valid(atoms, bonds, n, m) {
+    if !table_validity::sound(atoms, bonds, n, m) {
         buffer::clear_from(row, 0);
         return Check::Refused(Refusal::Invalid);
     }
