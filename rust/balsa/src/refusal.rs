@@ -22,7 +22,7 @@ pub enum Code {
     SelfBridge = 7,
     /// A bridge joins two atoms that have a bond.
     RepeatedBond = 8,
-    /// The symbols at a bridge's ends differ.
+    /// The symbols at a bridge's ends differ, or its marks are not opposite.
     SymbolClash = 9,
     /// A bridge is open at the end.
     OpenBridge = 10,
@@ -42,12 +42,16 @@ pub enum Code {
     InvalidRegister = 17,
     /// The register has no room for the body.
     FullRegister = 18,
+    /// Two marked neighbours of an end of a double bond lie on the same side.
+    CrowdedEnd = 20,
+    /// A mark touches no double bond.
+    StrayMark = 21,
     /// A selected atom has fewer than two bonds.
     LooseAtom = 22,
 }
 
 impl Code {
-    const ALL: [Code; 19] = [
+    const ALL: [Code; 21] = [
         Code::Short,
         Code::LongText,
         Code::Grammar,
@@ -66,6 +70,8 @@ impl Code {
         Code::LongWriting,
         Code::InvalidRegister,
         Code::FullRegister,
+        Code::CrowdedEnd,
+        Code::StrayMark,
         Code::LooseAtom,
     ];
 
