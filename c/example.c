@@ -13,7 +13,7 @@ int main(int argc, char **argv) {
     balsa_read_reply r = balsa_read((const uint8_t *)text, strlen(text), atoms, BALSA_ATOM_TABLE,
                                     bonds, BALSA_BOND_TABLE);
     if (r.code != 0) {
-        printf("refusal %u at %zu\n", r.code, r.place);
+        printf("refusal %u at %zu: %s\n", r.code, r.place, balsa_refusal_text(r.code));
         return 1;
     }
     printf("%zu atoms, %zu bonds\n", r.atoms, r.bonds);
@@ -32,7 +32,7 @@ int main(int argc, char **argv) {
     balsa_write_reply w = balsa_write(atoms, BALSA_ATOM_TABLE, bonds, BALSA_BOND_TABLE, r.atoms,
                                       r.bonds, out, BALSA_TEXT, ren, BALSA_RENUMBERING);
     if (w.code != 0) {
-        printf("refusal %u\n", w.code);
+        printf("refusal %u: %s\n", w.code, balsa_refusal_text(w.code));
         return 1;
     }
     printf("%.*s\n", (int)w.length, (const char *)out);

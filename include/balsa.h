@@ -6,29 +6,73 @@
  * are valid for their lengths and aligned, and no slice that is written overlaps another one.
  *
  * Tables: 6 cells for an atom (element, selected, isotope, hydrogens, charge, extension), 3 for a bond
- * (first end, second end, kind). Least lengths: atoms 1200, bonds 750, row 250, out 4096, ren 200.
+ * (first end, second end, kind). Least lengths: atoms 6000, bonds 3300, row 1100, out 16384, ren 1000.
  * n and m are the numbers of atoms and bonds in the tables.
  *
  * Codes: 0 accepted, 1 to 22 the refusals of docs/RULES.md, 255 "end" (balsa_next, balsa_register_walk). Refusal 1 changes
- * nothing; any other zeroes what is named as output; an acceptance zeroes the unused rest. */
+ * nothing; any other zeroes what is named as output; an acceptance zeroes the unused rest.
+ *
+ * Threads: a call keeps nothing, allocates nothing and takes no lock; it works on what it is lent and on
+ * its stack. Calls may run at once in any threads as long as none is lent what another one writes.
+ * Stack: each call is held to 512 KiB of a thread's stack by a test (docs/PERFORMANCE.md has what was seen). */
 #ifndef BALSA_H
 #define BALSA_H
 
 #include <stddef.h>
 #include <stdint.h>
 
+#define BALSA_VERSION "0.1.0"
+
+/* Grows with each change of an answer: 1 the first rules, 2 charged ring atoms (P1), 3 over-full atoms
+ * counted (P10), 4 no loose selected atoms (P6), 5 larger limits (P7). What is stored of answers, as in
+ * an index of a database, is good for one edition. */
+#define BALSA_EDITION 5
+
 #ifdef __cplusplus
 extern "C" {
 #endif
 
+/* The codes by name. */
 enum {
-    BALSA_ATOM_TABLE = 1200,
-    BALSA_BOND_TABLE = 750,
-    BALSA_ROW = 250,
-    BALSA_TEXT = 4096,
-    BALSA_RENUMBERING = 200,
+    BALSA_ACCEPTED = 0,
+    BALSA_SHORT = 1,
+    BALSA_LONG_TEXT = 2,
+    BALSA_GRAMMAR = 3,
+    BALSA_MANY_ATOMS = 4,
+    BALSA_MANY_BONDS = 5,
+    BALSA_DEEP_BRANCH = 6,
+    BALSA_SELF_BRIDGE = 7,
+    BALSA_REPEATED_BOND = 8,
+    BALSA_SYMBOL_CLASH = 9,
+    BALSA_OPEN_BRIDGE = 10,
+    BALSA_UNMATCHABLE = 11,
+    BALSA_NOT_MATCHING = 12,
+    BALSA_INVALID = 13,
+    BALSA_MANY_BRIDGES = 14,
+    BALSA_DEEP_WRITING = 15,
+    BALSA_LONG_WRITING = 16,
+    BALSA_INVALID_REGISTER = 17,
+    BALSA_FULL_REGISTER = 18,
+    BALSA_LOOSE_ATOM = 22,
     BALSA_END = 255
 };
+
+enum {
+    BALSA_ATOM_TABLE = 6000,
+    BALSA_BOND_TABLE = 3300,
+    BALSA_ROW = 1100,
+    BALSA_TEXT = 16384,
+    BALSA_RENUMBERING = 1000
+};
+
+/* These three are in libbalsa.so; with libbalsa.a compile c/refusal_text.c too. */
+
+/* What a refusal says in words, without a full stop; NULL for a number that is no refusal. */
+const char *balsa_refusal_text(uint32_t code);
+
+/* BALSA_VERSION and BALSA_EDITION of the library that is linked. */
+const char *balsa_version(void);
+uint32_t balsa_edition(void);
 
 /* code 0 with both counts and the number of over-full atoms outside brackets (bond sum above every
  * target valence), or a refusal's code with its place and counts 0 */

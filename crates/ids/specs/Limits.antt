@@ -1,16 +1,16 @@
--- 01, The tables and When a call says no: the limits
+-- 01, The tables and When a call says no, and 02, P7: the limits
 use Prim.Native.Nat.{ℕ}
 
--- "At most 200 atoms and 250 bonds"
+-- P7: "1,000 atoms, 1,100 bonds and 16,384 bytes for a text read or written"
 abbrev pub maxAtoms : ℕ
-maxAtoms = 200
+maxAtoms = 1000
 
 abbrev pub maxBonds : ℕ
-maxBonds = 250
+maxBonds = 1100
 
--- 2, 16: "over 4,096 bytes"
+-- of refusals 2 and 16
 abbrev pub maxText : ℕ
-maxText = 4096
+maxText = 16384
 
 -- 6, 15: "a 65th branch opens inside 64"
 abbrev pub maxDepth : ℕ

@@ -2,16 +2,18 @@
 ghost use mathlib.Core.Path.{_≡_};
 ghost use Prim.Native.Nat.{_≤_};
 ghost use mathlib.Core.List.{List};
-ghost use lib.ListN.{length};
+ghost use lib.ListN.{length, replicate};
 ghost use lib.IntN.{ℤ};
+ghost use Rattle.ids.specs.Small.{small};
 ghost use Rattle.table.specs.Valid.{Valid, checkCode};
 ghost use Rattle.matching.specs.Enumeration.{rowCall, zeroed};
 ghost use Rattle.matching.specs.Model.{reply};
 ghost use Rattle.table_graph.specs.Graph.{matchingOf, matchable};
-ghost use Rattle.table_graph.specs.Built.{Prepared};
+ghost use Rattle.table_graph.specs.Built.{Prepared, Room};
 ghost use Rattle.kekule.specs.Kekule.{out, callReplyOf, roomy, callOn, allZero, isMatchingOf, askedOf, tables, kekulized, kekulizedOf, Counted};
 ghost use Rattle.kekule.specs.Calls.{callsState, ranOf, replayed, Replays};
 use ids::BondId;
+use ids::SMALL;
 use kekule_answers::Found;
 use kekule_answers::call_of;
 use kekule_answers::found_code;
@@ -31,8 +33,69 @@ fn roomy(atoms: &[i32], bonds: &[i32], len: usize) -> bool
     (MAX_BONDS <= len) & table_validity::enough(atoms, bonds)
 }
 
-// The search for one of the two calls, on the graph of valid tables.
-fn search_graph(
+// The search for one of the two calls, on the graph of valid tables, which is built in buffers.
+fn search_in(
+    c: Call,
+    atoms: &[i32],
+    bonds: &[i32],
+    n: usize,
+    m: usize,
+    flags: &mut [u8],
+    ea: &mut [u16],
+    eb: &mut [u16],
+    el: &mut [u8],
+    sums: &mut [u16],
+    row: &mut [u8],
+) -> MatchingAnswer
+    requires { ⌜ Valid (now atoms) (now bonds) n m ⌝ }
+    requires { ⌜ m ≤ length (now row) ⌝ }
+    requires { ⌜ Room n m (now flags) (now ea) (now eb) (now el) (now sums) ⌝ }
+    requires { ⌜ now sums ≡ replicate (length (now sums)) 0 ⌝ }
+    ensures { λ r. ⌜ reply r (now (row .exit)) ≡ rowCall (matchingOf (now (atoms .entry)) (now (bonds .entry)) n m) m c (now (row .entry)) ⌝ }
+{
+    table_graph::build(atoms, bonds, n, m, flags, ea, eb, el, sums);
+    match c {
+        Call::First => matching_engine::first(&ea[..m], &eb[..m], &el[..m], &mut flags[..n], row),
+        Call::Next => matching_engine::next(&ea[..m], &eb[..m], &el[..m], &mut flags[..n], row),
+    }
+}
+
+// The search on the graph of a small molecule.
+fn search_small(
+    c: Call,
+    atoms: &[i32],
+    bonds: &[i32],
+    n: usize,
+    m: usize,
+    row: &mut [u8],
+) -> MatchingAnswer
+    requires { ⌜ Valid (now atoms) (now bonds) n m ⌝ }
+    requires { ⌜ m ≤ length (now row) ⌝ }
+    requires { ⌜ (n ≤ small) × (m ≤ small) ⌝ }
+    ensures { λ r. ⌜ reply r (now (row .exit)) ≡ rowCall (matchingOf (now (atoms .entry)) (now (bonds .entry)) n m) m c (now (row .entry)) ⌝ }
+{
+    let mut flags = [0u8; SMALL];
+    let mut ea = [0u16; SMALL];
+    let mut eb = [0u16; SMALL];
+    let mut el = [0u8; SMALL];
+    let mut sums = [0u16; SMALL];
+    search_in(
+        c,
+        atoms,
+        bonds,
+        n,
+        m,
+        &mut flags,
+        &mut ea,
+        &mut eb,
+        &mut el,
+        &mut sums,
+        row,
+    )
+}
+
+// The search on the graph of any molecule.
+fn search_large(
     c: Call,
     atoms: &[i32],
     bonds: &[i32],
@@ -48,11 +111,42 @@ fn search_graph(
     let mut ea = [0u16; MAX_BONDS];
     let mut eb = [0u16; MAX_BONDS];
     let mut el = [0u8; MAX_BONDS];
-    table_graph::build(atoms, bonds, n, m, &mut flags, &mut ea, &mut eb, &mut el);
-    match c {
-        Call::First => matching_engine::first(&ea[..m], &eb[..m], &el[..m], &mut flags[..n], row),
-        Call::Next => matching_engine::next(&ea[..m], &eb[..m], &el[..m], &mut flags[..n], row),
+    let mut sums = [0u16; MAX_ATOMS];
+    search_in(
+        c,
+        atoms,
+        bonds,
+        n,
+        m,
+        &mut flags,
+        &mut ea,
+        &mut eb,
+        &mut el,
+        &mut sums,
+        row,
+    )
+}
+
+// The search for one of the two calls, on the graph of valid tables.
+fn search_graph(
+    c: Call,
+    atoms: &[i32],
+    bonds: &[i32],
+    n: usize,
+    m: usize,
+    row: &mut [u8],
+) -> MatchingAnswer
+    requires { ⌜ Valid (now atoms) (now bonds) n m ⌝ }
+    requires { ⌜ m ≤ length (now row) ⌝ }
+    ensures { λ r. ⌜ reply r (now (row .exit)) ≡ rowCall (matchingOf (now (atoms .entry)) (now (bonds .entry)) n m) m c (now (row .entry)) ⌝ }
+{
+    if SMALL < n {
+        return search_large(c, atoms, bonds, n, m, row);
     }
+    if SMALL < m {
+        return search_large(c, atoms, bonds, n, m, row);
+    }
+    search_small(c, atoms, bonds, n, m, row)
 }
 
 // A zeroed row, which is the matching asked for.
@@ -103,7 +197,7 @@ pub fn call_valid(
     found_of(ask(c, atoms, bonds, n, m, row))
 }
 
-// internal: whether valid tables have a matching, from what one pass over their bonds left.
+// internal: whether valid tables have a matching, from what one pass over their bonds left, with buffers for the flags and a row.
 pub fn matchable(
     atoms: &[i32],
     n: usize,
@@ -112,17 +206,18 @@ pub fn matchable(
     ea: &[u16],
     eb: &[u16],
     el: &[u8],
+    flags: &mut [u8],
+    row: &mut [u8],
 ) -> bool
+    requires { ⌜ (n ≤ length (now flags)) × (m ≤ length (now row)) ⌝ }
     requires { ⌜ ((bonds : List ℤ) × Prepared (now atoms) bonds n m (now sums) (now ea) (now eb) (now el)) ⌝ }
     ensures { λ r. ⌜ ((bonds : List ℤ) → Prepared (now (atoms .entry)) bonds n m (now (sums .entry)) (now (ea .entry)) (now (eb .entry)) (now (el .entry)) → r ≡ matchable (now (atoms .entry)) bonds n m) ⌝ }
 {
     if table_graph::none_selected(atoms, n) {
         return true;
     }
-    let mut flags = [0u8; MAX_ATOMS];
-    let mut row = [0u8; MAX_BONDS];
-    table_graph::fill_flags(atoms, sums, n, &mut flags);
-    let answer = matching_engine::first(&ea[..m], &eb[..m], &el[..m], &mut flags[..n], &mut row);
+    table_graph::fill_flags(atoms, sums, n, flags);
+    let answer = matching_engine::first(&ea[..m], &eb[..m], &el[..m], &mut flags[..n], row);
     is_given(found_of(answer))
 }
 
@@ -173,6 +268,80 @@ fn all_zero(row: &[u8], m: usize) -> bool
     true
 }
 
+// Whether the row is a matching of valid tables, whose graph is built in buffers.
+fn fits_in(
+    atoms: &[i32],
+    bonds: &[i32],
+    n: usize,
+    m: usize,
+    flags: &mut [u8],
+    ea: &mut [u16],
+    eb: &mut [u16],
+    el: &mut [u8],
+    sums: &mut [u16],
+    row: &[u8],
+) -> bool
+    requires { ⌜ Valid (now atoms) (now bonds) n m ⌝ }
+    requires { ⌜ m ≤ length (now row) ⌝ }
+    requires { ⌜ Room n m (now flags) (now ea) (now eb) (now el) (now sums) ⌝ }
+    requires { ⌜ now sums ≡ replicate (length (now sums)) 0 ⌝ }
+    ensures { λ r. ⌜ r ≡ isMatchingOf (now (atoms .entry)) (now (bonds .entry)) n m (now (row .entry)) ⌝ }
+{
+    table_graph::build(atoms, bonds, n, m, flags, ea, eb, el, sums);
+    matching_search::fits(&ea[..m], &eb[..m], &el[..m], &mut flags[..n], row)
+}
+
+// Whether the row is a matching of a small molecule.
+fn fits_small(atoms: &[i32], bonds: &[i32], n: usize, m: usize, row: &[u8]) -> bool
+    requires { ⌜ Valid (now atoms) (now bonds) n m ⌝ }
+    requires { ⌜ m ≤ length (now row) ⌝ }
+    requires { ⌜ (n ≤ small) × (m ≤ small) ⌝ }
+    ensures { λ r. ⌜ r ≡ isMatchingOf (now (atoms .entry)) (now (bonds .entry)) n m (now (row .entry)) ⌝ }
+{
+    let mut flags = [0u8; SMALL];
+    let mut ea = [0u16; SMALL];
+    let mut eb = [0u16; SMALL];
+    let mut el = [0u8; SMALL];
+    let mut sums = [0u16; SMALL];
+    fits_in(
+        atoms,
+        bonds,
+        n,
+        m,
+        &mut flags,
+        &mut ea,
+        &mut eb,
+        &mut el,
+        &mut sums,
+        row,
+    )
+}
+
+// Whether the row is a matching of any molecule.
+fn fits_large(atoms: &[i32], bonds: &[i32], n: usize, m: usize, row: &[u8]) -> bool
+    requires { ⌜ Valid (now atoms) (now bonds) n m ⌝ }
+    requires { ⌜ m ≤ length (now row) ⌝ }
+    ensures { λ r. ⌜ r ≡ isMatchingOf (now (atoms .entry)) (now (bonds .entry)) n m (now (row .entry)) ⌝ }
+{
+    let mut flags = [0u8; MAX_ATOMS];
+    let mut ea = [0u16; MAX_BONDS];
+    let mut eb = [0u16; MAX_BONDS];
+    let mut el = [0u8; MAX_BONDS];
+    let mut sums = [0u16; MAX_ATOMS];
+    fits_in(
+        atoms,
+        bonds,
+        n,
+        m,
+        &mut flags,
+        &mut ea,
+        &mut eb,
+        &mut el,
+        &mut sums,
+        row,
+    )
+}
+
 // internal: whether the row is a matching of valid tables, for callers that know them valid.
 pub fn is_matching_valid(atoms: &[i32], bonds: &[i32], n: usize, m: usize, row: &[u8]) -> bool
     requires { ⌜ Valid (now atoms) (now bonds) n m ⌝ }
@@ -182,12 +351,13 @@ pub fn is_matching_valid(atoms: &[i32], bonds: &[i32], n: usize, m: usize, row: 
     if table_graph::none_selected(atoms, n) {
         return all_zero(row, m);
     }
-    let mut flags = [0u8; MAX_ATOMS];
-    let mut ea = [0u16; MAX_BONDS];
-    let mut eb = [0u16; MAX_BONDS];
-    let mut el = [0u8; MAX_BONDS];
-    table_graph::build(atoms, bonds, n, m, &mut flags, &mut ea, &mut eb, &mut el);
-    matching_search::fits(&ea[..m], &eb[..m], &el[..m], &mut flags[..n], row)
+    if SMALL < n {
+        return fits_large(atoms, bonds, n, m, row);
+    }
+    if SMALL < m {
+        return fits_large(atoms, bonds, n, m, row);
+    }
+    fits_small(atoms, bonds, n, m, row)
 }
 
 // Whether the row, up to the last bond, is a matching of the molecule; nothing changes. 1: a table or the row is too short,

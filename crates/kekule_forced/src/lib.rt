@@ -50,7 +50,18 @@ fn first_valid(
     let mut ea = [0u16; MAX_BONDS];
     let mut eb = [0u16; MAX_BONDS];
     let mut el = [0u8; MAX_BONDS];
-    table_graph::build(atoms, bonds, n, m, &mut flags, &mut ea, &mut eb, &mut el);
+    let mut sums = [0u16; MAX_ATOMS];
+    table_graph::build(
+        atoms,
+        bonds,
+        n,
+        m,
+        &mut flags,
+        &mut ea,
+        &mut eb,
+        &mut el,
+        &mut sums,
+    );
     matching_forced::first_forced(
         &ea[..m],
         &eb[..m],
@@ -72,7 +83,18 @@ fn next_valid(atoms: &[i32], bonds: &[i32], n: usize, m: usize, row: &mut [u8]) 
     let mut eb = [0u16; MAX_BONDS];
     let mut el = [0u8; MAX_BONDS];
     let mut pairs = [0u16; MAX_BONDS];
-    table_graph::build(atoms, bonds, n, m, &mut flags, &mut ea, &mut eb, &mut el);
+    let mut sums = [0u16; MAX_ATOMS];
+    table_graph::build(
+        atoms,
+        bonds,
+        n,
+        m,
+        &mut flags,
+        &mut ea,
+        &mut eb,
+        &mut el,
+        &mut sums,
+    );
     matching_forced::next_forced(
         &ea[..m],
         &eb[..m],

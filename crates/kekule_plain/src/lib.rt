@@ -42,7 +42,18 @@ fn search_graph(
     let mut ea = [0u16; MAX_BONDS];
     let mut eb = [0u16; MAX_BONDS];
     let mut el = [0u8; MAX_BONDS];
-    table_graph::build(atoms, bonds, n, m, &mut flags, &mut ea, &mut eb, &mut el);
+    let mut sums = [0u16; MAX_ATOMS];
+    table_graph::build(
+        atoms,
+        bonds,
+        n,
+        m,
+        &mut flags,
+        &mut ea,
+        &mut eb,
+        &mut el,
+        &mut sums,
+    );
     match c {
         Call::First => matching_search::first(&ea[..m], &eb[..m], &el[..m], &mut flags[..n], row),
         Call::Next => matching_search::next(&ea[..m], &eb[..m], &el[..m], &mut flags[..n], row),

@@ -4,12 +4,15 @@
 use ids::AtomId;
 use ids::BondId;
 use ids::MAX_ATOMS;
+use ids::SMALL;
 use matching::MatchingAnswer;
 ghost use mathlib.Core.Path.{_≡_};
 ghost use mathlib.Core.Bool.{true};
 ghost use mathlib.Core.List.{[]};
-ghost use Prim.Native.Nat.{ℕ, _+_, _<_};
+ghost use Prim.Native.Nat.{ℕ, _+_, _<_, _≤_};
 ghost use lib.ListN.{length, take, set};
+ghost use Rattle.ids.specs.Limits.{maxAtoms};
+ghost use Rattle.ids.specs.Small.{small};
 ghost use Rattle.matching.specs.Enumeration.{rowFirst, rowNext};
 ghost use Rattle.matching.specs.Graph.{isMatching};
 ghost use Rattle.matching.specs.Model.{Shape, BondTables, Searched, Ends, allFrom, laterFrom, matchingFrom, part, bondsOf, reply};
@@ -256,19 +259,45 @@ fn copy(from: &[u8], to: &mut [u8])
     }
 }
 
+// The same on a copy of the flags of few atoms.
+fn greedy_small(ea: &[u16], eb: &[u16], el: &[u8], need: &[u8], row: &mut [u8]) -> bool
+    requires { ⌜ Shape (now ea) (now eb) (now el) (now need) (now row) 0 ⌝ }
+    requires { ⌜ length (now need) ≤ small ⌝ }
+    ensures { λ r. ⌜ (r ≡ true → Searched (now (need .entry)) (now (row .entry)) 0 (length (now (ea .entry))) (allFrom (now (ea .entry)) (now (eb .entry)) (now (el .entry)) (now (need .entry)) 0) true (now (need .entry)) (now (row .exit))) ⌝ }
+{
+    let n = need.len();
+    let mut flags = [0u8; SMALL];
+    let used = &mut flags[..n];
+    copy(need, used);
+    greedy(ea, eb, el, used, row)
+}
+
+// The same on a copy of the flags of any molecule.
+fn greedy_large(ea: &[u16], eb: &[u16], el: &[u8], need: &[u8], row: &mut [u8]) -> bool
+    requires { ⌜ Shape (now ea) (now eb) (now el) (now need) (now row) 0 ⌝ }
+    requires { ⌜ length (now need) ≤ maxAtoms ⌝ }
+    ensures { λ r. ⌜ (r ≡ true → Searched (now (need .entry)) (now (row .entry)) 0 (length (now (ea .entry))) (allFrom (now (ea .entry)) (now (eb .entry)) (now (el .entry)) (now (need .entry)) 0) true (now (need .entry)) (now (row .exit))) ⌝ }
+{
+    let n = need.len();
+    let mut flags = [0u8; MAX_ATOMS];
+    let used = &mut flags[..n];
+    copy(need, used);
+    greedy(ea, eb, el, used, row)
+}
+
 // The same on a copy of the flags: true if the row is the first matching, false says nothing.
 fn try_greedy(ea: &[u16], eb: &[u16], el: &[u8], need: &[u8], row: &mut [u8]) -> bool
     requires { ⌜ Shape (now ea) (now eb) (now el) (now need) (now row) 0 ⌝ }
     ensures { λ r. ⌜ (r ≡ true → Searched (now (need .entry)) (now (row .entry)) 0 (length (now (ea .entry))) (allFrom (now (ea .entry)) (now (eb .entry)) (now (el .entry)) (now (need .entry)) 0) true (now (need .entry)) (now (row .exit))) ⌝ }
 {
     let n = need.len();
-    if MAX_ATOMS < n {
-        return false;
+    if n <= SMALL {
+        return greedy_small(ea, eb, el, need, row);
     }
-    let mut flags = [0u8; MAX_ATOMS];
-    let used = &mut flags[..n];
-    copy(need, used);
-    greedy(ea, eb, el, used, row)
+    if n <= MAX_ATOMS {
+        return greedy_large(ea, eb, el, need, row);
+    }
+    false
 }
 
 // internal: the first matching.

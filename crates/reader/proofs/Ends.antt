@@ -31,6 +31,7 @@ use Rattle.table.specs.Valid.{Valid, enough}
 use Rattle.table.specs.Sound.{lateCode}
 use Rattle.table_graph.specs.Graph.{bondSum, matchable}
 use Rattle.table_graph.specs.Built.{Wired, Prepared}
+use Rattle.table_graph.proofs.Graph.{prepared}
 use Rattle.reading_state.specs.declared.Fields.{Fields}
 use Rattle.ids.specs.Limits.{maxText, maxDepth, bridges}
 use Rattle.reading_state.specs.State.{Steering, steering, started}
@@ -127,28 +128,28 @@ module _ (s : List ℕ) (a b : List ℤ) (h : length s ≡ 0 → ⊥) {u : Steer
     }
 
 -- ---- hydrogens
-hydrogens-step : (outside : List ℕ) (bonds : List ℤ) (m a : ℕ) (t : List ℤ) {sums : List ℕ} → sums ≡ upTo (bondSum bonds m) 0 maxAtoms → a < maxAtoms
+hydrogens-step : (outside : List ℕ) (bonds : List ℤ) (m len a : ℕ) (t : List ℤ) {sums : List ℕ} → sums ≡ upTo (bondSum bonds m) 0 len → a < len
     → hydrogensBy (getD outside a 0) (getD sums a 0) a t ≡ hydrogenate outside bonds m a t
-hydrogens-step outside bonds m a t e l = rw (e, upTo-at (bondSum bonds m) maxAtoms a 0 l)
+hydrogens-step outside bonds m len a t e l = rw (e, upTo-at (bondSum bonds m) len a 0 l)
 
 -- written from the bond sums, the hydrogens are the molecule's
-hydrogens-by : (outside : List ℕ) (bonds : List ℤ) (n m : ℕ) (t : List ℤ) {sums : List ℕ} → sums ≡ upTo (bondSum bonds m) 0 maxAtoms → n ≤ maxAtoms
+hydrogens-by : (outside : List ℕ) (bonds : List ℤ) (n m len : ℕ) (t : List ℤ) {sums : List ℕ} → sums ≡ upTo (bondSum bonds m) 0 len → n ≤ len
     → hydrogenatedBy outside sums n t ≡ hydrogenated outside bonds m n t
 unfolding hydrogenatedBy hydrogenated run
-hydrogens-by outside bonds n m t {sums} e l = go 0 n t (omega arith)
+hydrogens-by outside bonds n m len t {sums} e l = go 0 n t (omega arith)
   where
-    go : (k c : ℕ) (t : List ℤ) → k + c ≤ maxAtoms → run (λ a. hydrogensBy (getD outside a 0) (getD sums a 0) a) k c t ≡ run (hydrogenate outside bonds m) k c t
+    go : (k c : ℕ) (t : List ℤ) → k + c ≤ len → run (λ a. hydrogensBy (getD outside a 0) (getD sums a 0) a) k c t ≡ run (hydrogenate outside bonds m) k c t
     go k zero t h = refl
     go k (suc c) t h =
-        ap (run (λ a. hydrogensBy (getD outside a 0) (getD sums a 0) a) (suc k) c) (hydrogens-step outside bonds m k t e (omega arith)) ∙ go (suc k) c (hydrogenate outside bonds m k t) (omega arith)
+        ap (run (λ a. hydrogensBy (getD outside a 0) (getD sums a 0) a) (suc k) c) (hydrogens-step outside bonds m len k t e (omega arith)) ∙ go (suc k) c (hydrogenate outside bonds m k t) (omega arith)
 
 -- the tables once the hydrogens are written, beside what one pass over the bonds left
-module _ (outside : List ℕ) (atoms bonds : List ℤ) (n m : ℕ) {sums : List ℕ} (e : sums ≡ upTo (bondSum bonds m) 0 maxAtoms) (v : Valid (hydrogenated outside bonds m n atoms) bonds n m) {atoms′ : List ℤ} (h : atoms′ ≡ hydrogenatedBy outside sums n atoms) where
+module _ (outside : List ℕ) (atoms bonds : List ℤ) (n m len : ℕ) {sums : List ℕ} (l : n ≤ len) (e : sums ≡ upTo (bondSum bonds m) 0 len) (v : Valid (hydrogenated outside bonds m n atoms) bonds n m) {atoms′ : List ℤ} (h : atoms′ ≡ hydrogenatedBy outside sums n atoms) where
   pub completed-atoms : atoms′ ≡ hydrogenated outside bonds m n atoms
-  completed-atoms = h ∙ hydrogens-by outside bonds n m atoms e (v .few-atoms)
+  completed-atoms = h ∙ hydrogens-by outside bonds n m len atoms e l
 
   pub completed-tables : {ea eb el : List ℕ} → Wired bonds m ea eb el → Prepared atoms′ bonds n m sums ea eb el
-  completed-tables w = record { valid = rw completed-atoms v; wired = w; summed = e }
+  completed-tables w = prepared (rw completed-atoms v) w e l
 
 pub implied-cell : (e s sum : ℕ) → toZ w32 (implied e s sum) ≡ pos (implied e s sum)
 implied-cell e s sum = toZ-pos w32 {n = implied e s sum} (omega (arith, implied-small e s sum))

@@ -11,7 +11,7 @@ use lib.Dec.{eqb}
 use borrow.Author.Tests.{eq-eqb, ne-eqb}
 use Rattle.loops.specs.Loop.{pick, run, upTo}
 use Rattle.loops.proofs.Loops.{Ran, ran-start, ran-step, ran-end, Edited, edited-start, edited-step, edited-end, upTo-at}
-use Rattle.table.specs.Limits.{maxAtoms, atomCells, ELEMENT, SELECTED, HYDROGENS}
+use Rattle.table.specs.Limits.{atomCells, ELEMENT, SELECTED, HYDROGENS}
 use Rattle.table.specs.Cells.{number, atomPlace, atomCell, element, selected}
 use Rattle.valence.specs.declared.Reached.{Reached}
 use Rattle.valence.specs.declared.Reached.the-variants.{Target, NoTarget, AboveAll}
@@ -86,14 +86,14 @@ module _ {outside sums : List ℕ} {t₀ : List ℤ} {n i : ℕ} {t : List ℤ} 
   filling-end h = record { hydrogens = edited-end (v .hydrogens) h; overfull = ran-end (v .overfull) h }
 
 -- ---- counted from the bond sums, the over-full atoms are the molecule's
-pub overfulls-by : (outside : List ℕ) (bonds : List ℤ) (n m : ℕ) (t : List ℤ) {sums : List ℕ} → sums ≡ upTo (bondSum bonds m) 0 maxAtoms → n ≤ maxAtoms → overfullsBy outside sums n t ≡ overfullAtoms outside bonds m n t
+pub overfulls-by : (outside : List ℕ) (bonds : List ℤ) (n m len : ℕ) (t : List ℤ) {sums : List ℕ} → sums ≡ upTo (bondSum bonds m) 0 len → n ≤ len → overfullsBy outside sums n t ≡ overfullAtoms outside bonds m n t
 unfolding overfullsBy overfullAtoms run
-overfulls-by outside bonds n m t {sums} e l = go 0 n 0 (omega arith)
+overfulls-by outside bonds n m len t {sums} e l = go 0 n 0 (omega arith)
   where
-    one : (a : ℕ) → a < maxAtoms → overfullBy (getD outside a 0) (getD sums a 0) t a ≡ overfullAt outside bonds m t a
-    one a h = rw (e, upTo-at (bondSum bonds m) maxAtoms a 0 h)
+    one : (a : ℕ) → a < len → overfullBy (getD outside a 0) (getD sums a 0) t a ≡ overfullAt outside bonds m t a
+    one a h = rw (e, upTo-at (bondSum bonds m) len a 0 h)
 
-    go : (k c j : ℕ) → k + c ≤ maxAtoms → run (λ a i. i + overfullBy (getD outside a 0) (getD sums a 0) t a) k c j ≡ run (λ a i. i + overfullAt outside bonds m t a) k c j
+    go : (k c j : ℕ) → k + c ≤ len → run (λ a i. i + overfullBy (getD outside a 0) (getD sums a 0) t a) k c j ≡ run (λ a i. i + overfullAt outside bonds m t a) k c j
     go k zero j h = refl
     go k (suc c) j h =
         ap (λ (z : ℕ). run (λ a i. i + overfullBy (getD outside a 0) (getD sums a 0) t a) (suc k) c (j + z)) (one k (omega arith)) ∙ go (suc k) c (j + overfullAt outside bonds m t k) (omega arith)

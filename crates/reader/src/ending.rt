@@ -1,8 +1,10 @@
 // After the last byte: open bridges, hydrogens, the late checks, and whether a matching exists.
 ghost use mathlib.Core.Path.{_≡_};
 ghost use mathlib.Core.Bool.{true};
-ghost use lib.ListN.{getD};
+ghost use lib.ListN.{length, getD, replicate};
 ghost use Rattle.ids.specs.Limits.{bridges};
+ghost use Rattle.ids.specs.Small.{small};
+ghost use Rattle.table_graph.specs.Built.{Room};
 ghost use Prim.Native.Nat.{ℕ, _≤_, _<_};
 ghost use Rattle.table.specs.Limits.{maxAtoms, maxBonds};
 ghost use Rattle.table.specs.Valid.{Valid};
@@ -15,6 +17,7 @@ ghost use Rattle.reader.specs.Ending.{told, endedOf};
 use ids::AtomId;
 use ids::BRIDGES;
 use ids::MAX_TEXT;
+use ids::SMALL;
 use reading_state::State;
 use refusal::Refusal;
 use table::Check;
@@ -111,13 +114,8 @@ fn hydrogenate_atom(atoms: &mut [i32], a: AtomId, outside: u8, sum: u16) -> usiz
 }
 
 // Writes the hydrogens of every atom that stood outside brackets, from the bond sums; answers the number of over-full ones.
-fn hydrogenate(
-    n: usize,
-    outsides: &[u8; MAX_ATOMS],
-    sums: &[u16; MAX_ATOMS],
-    atoms: &mut [i32],
-) -> usize
-    requires { ⌜ n ≤ maxAtoms ⌝ }
+fn hydrogenate(n: usize, outsides: &[u8; MAX_ATOMS], sums: &[u16], atoms: &mut [i32]) -> usize
+    requires { ⌜ (n ≤ maxAtoms) × (n ≤ length (now sums)) ⌝ }
     ensures { λ r. ⌜ AtomsFilled (now (outsides .entry)) (now (sums .entry)) n (now (atoms .entry)) (now (atoms .exit)) r ⌝ }
 {
     let mut overfull = 0;
@@ -129,7 +127,100 @@ fn hydrogenate(
     overfull
 }
 
-// Writes the hydrogens, counts the over-full atoms and tells whether a matching exists, in one pass over the bonds.
+// Writes the hydrogens, counts the over-full atoms and tells whether a matching exists, in one pass over the bonds, in buffers.
+fn complete_in(
+    n: usize,
+    m: usize,
+    outsides: &[u8; MAX_ATOMS],
+    atoms: &mut [i32],
+    bonds: &[i32],
+    flags: &mut [u8],
+    ea: &mut [u16],
+    eb: &mut [u16],
+    el: &mut [u8],
+    sums: &mut [u16],
+    row: &mut [u8],
+) -> Whole
+    requires { ⌜ Valid (hydrogenated (now outsides) (now bonds) m n (now atoms)) (now bonds) n m ⌝ }
+    requires { ⌜ Room n m (now flags) (now ea) (now eb) (now el) (now sums) ⌝ }
+    requires { ⌜ (now sums ≡ replicate (length (now sums)) 0) × (m ≤ length (now row)) ⌝ }
+    ensures { λ r. ⌜ Completed (now (outsides .entry)) (now (atoms .entry)) (now (bonds .entry)) n m r (now (atoms .exit)) ⌝ }
+{
+    table_graph::wire(bonds, m, ea, eb, el, sums);
+    let overfull = hydrogenate(n, outsides, sums, atoms);
+    let matchable = kekule::matchable(atoms, n, m, sums, ea, eb, el, flags, row);
+    Whole {
+        matchable,
+        overfull,
+    }
+}
+
+// The same for a small molecule.
+fn complete_small(
+    n: usize,
+    m: usize,
+    outsides: &[u8; MAX_ATOMS],
+    atoms: &mut [i32],
+    bonds: &[i32],
+) -> Whole
+    requires { ⌜ Valid (hydrogenated (now outsides) (now bonds) m n (now atoms)) (now bonds) n m ⌝ }
+    requires { ⌜ (n ≤ small) × (m ≤ small) ⌝ }
+    ensures { λ r. ⌜ Completed (now (outsides .entry)) (now (atoms .entry)) (now (bonds .entry)) n m r (now (atoms .exit)) ⌝ }
+{
+    let mut flags = [0u8; SMALL];
+    let mut ea = [0u16; SMALL];
+    let mut eb = [0u16; SMALL];
+    let mut el = [0u8; SMALL];
+    let mut sums = [0u16; SMALL];
+    let mut row = [0u8; SMALL];
+    complete_in(
+        n,
+        m,
+        outsides,
+        atoms,
+        bonds,
+        &mut flags,
+        &mut ea,
+        &mut eb,
+        &mut el,
+        &mut sums,
+        &mut row,
+    )
+}
+
+// The same for any molecule.
+fn complete_large(
+    n: usize,
+    m: usize,
+    outsides: &[u8; MAX_ATOMS],
+    atoms: &mut [i32],
+    bonds: &[i32],
+) -> Whole
+    requires { ⌜ Valid (hydrogenated (now outsides) (now bonds) m n (now atoms)) (now bonds) n m ⌝ }
+    ensures { λ r. ⌜ Completed (now (outsides .entry)) (now (atoms .entry)) (now (bonds .entry)) n m r (now (atoms .exit)) ⌝ }
+{
+    let mut flags = [0u8; MAX_ATOMS];
+    let mut ea = [0u16; MAX_BONDS];
+    let mut eb = [0u16; MAX_BONDS];
+    let mut el = [0u8; MAX_BONDS];
+    let mut sums = [0u16; MAX_ATOMS];
+    let mut row = [0u8; MAX_BONDS];
+    complete_in(
+        n,
+        m,
+        outsides,
+        atoms,
+        bonds,
+        &mut flags,
+        &mut ea,
+        &mut eb,
+        &mut el,
+        &mut sums,
+        &mut row,
+    )
+}
+
+// Writes the hydrogens, counts the over-full atoms and tells whether a matching exists.
 fn complete(
     n: usize,
     m: usize,
@@ -140,17 +231,13 @@ fn complete(
     requires { ⌜ Valid (hydrogenated (now outsides) (now bonds) m n (now atoms)) (now bonds) n m ⌝ }
     ensures { λ r. ⌜ Completed (now (outsides .entry)) (now (atoms .entry)) (now (bonds .entry)) n m r (now (atoms .exit)) ⌝ }
 {
-    let mut ea = [0u16; MAX_BONDS];
-    let mut eb = [0u16; MAX_BONDS];
-    let mut el = [0u8; MAX_BONDS];
-    let mut sums = [0u16; MAX_ATOMS];
-    table_graph::wire(bonds, m, &mut ea, &mut eb, &mut el, &mut sums);
-    let overfull = hydrogenate(n, outsides, &sums, atoms);
-    let matchable = kekule::matchable(atoms, n, m, &sums, &ea, &eb, &el);
-    Whole {
-        matchable,
-        overfull,
+    if SMALL < n {
+        return complete_large(n, m, outsides, atoms, bonds);
     }
+    if SMALL < m {
+        return complete_large(n, m, outsides, atoms, bonds);
+    }
+    complete_small(n, m, outsides, atoms, bonds)
 }
 
 // A refusal with its offset; both tables are zeroed.

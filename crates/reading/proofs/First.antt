@@ -62,9 +62,9 @@ module _ (s : List ℕ) (atoms bonds : List ℤ) where
   -- 3 by the grammar alone, or one of 4 to 9
   by-code : {c p : ℕ} → Holds s atoms bonds c p → ((c ≡ 3) × Place s p) ⊎ ((4 ≤ c) × (c ≤ 9))
   by-code (Holds.grammar g) = inl (refl, g)
-  by-code (Holds.atom-201 w h) = inr (omega arith, omega arith)
-  by-code (Holds.child-251 w d h) = inr (omega arith, omega arith)
-  by-code (Holds.bridge-251 w h) = inr (omega arith, omega arith)
+  by-code (Holds.atom-over w h) = inr (omega arith, omega arith)
+  by-code (Holds.child-over w d h) = inr (omega arith, omega arith)
+  by-code (Holds.bridge-over w h) = inr (omega arith, omega arith)
   by-code (Holds.branch-65 w h) = inr (omega arith, omega arith)
   by-code (Holds.to-itself w h) = inr (omega arith, omega arith)
   by-code (Holds.joined-twice w h) = inr (omega arith, omega arith)

@@ -77,13 +77,13 @@ begin-lives b (AtomMayBegin.after-symbol {d}) n = or-lives b d _ n
 begin-lives b (AtomMayBegin.after-dot {d}) n = or-lives b d _ n
 begin-lives b (AtomMayBegin.in-branch {d}) n = or-lives b d _ n
 
-atom-201 : (b i : ℕ) (μ : Memory) → maxAtoms ≤ μ .st .atoms → Refuses (atomAct b i μ) 4 i
+atom-over : (b i : ℕ) (μ : Memory) → maxAtoms ≤ μ .st .atoms → Refuses (atomAct b i μ) 4 i
 unfolding atomAct
-atom-201 b i μ h = record { code = 4; low = omega arith; most = omega arith; said = rw (le-leb maxAtoms (μ .st .atoms) h) }
+atom-over b i μ h = record { code = 4; low = omega arith; most = omega arith; said = rw (le-leb maxAtoms (μ .st .atoms) h) }
 
-child-251 : (b i : ℕ) (μ : Memory) → ToBeBonded μ → maxBonds ≤ μ .st .bonds → Refuses (atomAct b i μ) 5 i
+child-over : (b i : ℕ) (μ : Memory) → ToBeBonded μ → maxBonds ≤ μ .st .bonds → Refuses (atomAct b i μ) 5 i
 unfolding atomAct
-child-251 b i μ w h = split (leb maxAtoms (μ .st .atoms)) refl
+child-over b i μ w h = split (leb maxAtoms (μ .st .atoms)) refl
   where
     split : (t : Bool) → leb maxAtoms (μ .st .atoms) ≡ t → Refuses (atomAct b i μ) 5 i
     split true e = record { code = 4; low = omega arith; most = omega arith; said = rw e }
@@ -239,9 +239,9 @@ module _ (s : List ℕ) (atoms bonds : List ℤ) where
   -- what holds at a place halts the reading there
   pub holds-halts : {c p : ℕ} → Holds s atoms bonds c p → 4 ≤ c → Halts c p
   holds-halts (Holds.grammar g) l = absurd (omega arith)
-  holds-halts {p = p} (Holds.atom-201 {μ = μ} w h) l = atom-halts w (atom-201 (getD s p 0) p μ h)
-  holds-halts {p = p} (Holds.child-251 {μ = μ} w d h) l = atom-halts w (child-251 (getD s p 0) p μ d h)
-  holds-halts (Holds.bridge-251 {r = r} {μ = μ} w h) l = bridge-halts w (bridge-5 μ r h)
+  holds-halts {p = p} (Holds.atom-over {μ = μ} w h) l = atom-halts w (atom-over (getD s p 0) p μ h)
+  holds-halts {p = p} (Holds.child-over {μ = μ} w d h) l = atom-halts w (child-over (getD s p 0) p μ d h)
+  holds-halts (Holds.bridge-over {r = r} {μ = μ} w h) l = bridge-halts w (bridge-5 μ r h)
   holds-halts (Holds.branch-65 w h) l = branch-halts w h
   holds-halts (Holds.to-itself {r = r} {μ = μ} w h) l = bridge-halts w (bridge-7 μ r h)
   holds-halts (Holds.joined-twice {r = r} {μ = μ} w h) l = bridge-halts w (bridge-8 μ r h)

@@ -77,9 +77,9 @@ module _ (s : List ℕ) (atoms bonds : List ℤ) where
 
   -- what is refused at a byte holds at its offset
   pub refused-holds : {k : ℕ} {σ : MachineState} {μ : Memory} {c p : ℕ} → Before s atoms bonds k σ μ → alive (step σ (getD s k 0)) ≡ true → Why σ (getD s k 0) k μ c p → Holds s atoms bonds c p
-  refused-holds b v (Why.many-atoms n a) = Holds.atom-201 (atom-at b v n) a
-  refused-holds {μ = μ} b v (Why.many-bonds n h a) = Holds.child-251 (atom-at b v n) (to-be-bonded μ h) a
-  refused-holds b v (Why.many-bridges c a) = let w = bridge-at b v c in Holds.bridge-251 (w .closes) (rw (w .steering) a)
+  refused-holds b v (Why.many-atoms n a) = Holds.atom-over (atom-at b v n) a
+  refused-holds {μ = μ} b v (Why.many-bonds n h a) = Holds.child-over (atom-at b v n) (to-be-bonded μ h) a
+  refused-holds b v (Why.many-bridges c a) = let w = bridge-at b v c in Holds.bridge-over (w .closes) (rw (w .steering) a)
   refused-holds {k} {σ} {μ} b v (Why.many-branches {x} {d} q e a) =
       Holds.branch-65 (record { last = x; depth = d; before = subst (λ (τ : MachineState). Before s atoms bonds k τ μ) q b; byte = e }) a
   refused-holds b v (Why.to-itself c h) = let w = bridge-at b v c in Holds.to-itself (w .closes) (rw (w .steering) h)

@@ -37,7 +37,7 @@ firstByte Half μ = described (bareRow 0 0) (begun 1 μ)
 firstByte Bracket μ = begun 0 μ
 firstByte Nothing μ = μ
 
--- 4: "a 201st atom begins"; 5: "250 bonds stand and another atom is to be bonded"
+-- 4: "a 1,001st atom begins"; 5: "1,100 bonds stand and another atom is to be bonded" (P7)
 unfoldable pub atomAct : ℕ → ℕ → Memory → Acts
 atomAct b i μ =
     pick (leb maxAtoms (μ .st .atoms)) (refuses 4 i)

@@ -131,11 +131,11 @@ module _ (s : List ℕ) (atoms bonds : List ℤ) where
   pub data Holds : ℕ → ℕ → Type 0 where
     -- 3: "grammar: place is the first byte at which no accepted text can continue, taking the grammar alone, or the length if the text ends too soon"
     grammar : {p : ℕ} → Place s p → Holds 3 p
-    -- 4: "a 201st atom begins (place: its first byte)"
-    atom-201 : {p : ℕ} {μ : Memory} → AtomBegins p μ → maxAtoms ≤ μ .st .atoms → Holds 4 p
-    -- 5: "250 bonds stand and another atom is to be bonded, or a bridge closes"
-    child-251 : {p : ℕ} {μ : Memory} → AtomBegins p μ → ToBeBonded μ → maxBonds ≤ μ .st .bonds → Holds 5 p
-    bridge-251 : {p r : ℕ} {μ : Memory} → BridgeCloses p r μ → maxBonds ≤ μ .st .bonds → Holds 5 p
+    -- 4: "a 1,001st atom begins (place: its first byte)" (P7)
+    atom-over : {p : ℕ} {μ : Memory} → AtomBegins p μ → maxAtoms ≤ μ .st .atoms → Holds 4 p
+    -- 5: "1,100 bonds stand and another atom is to be bonded, or a bridge closes" (P7)
+    child-over : {p : ℕ} {μ : Memory} → AtomBegins p μ → ToBeBonded μ → maxBonds ≤ μ .st .bonds → Holds 5 p
+    bridge-over : {p r : ℕ} {μ : Memory} → BridgeCloses p r μ → maxBonds ≤ μ .st .bonds → Holds 5 p
     -- 6: "a 65th branch opens inside 64"
     branch-65 : {p : ℕ} {μ : Memory} → BranchOpens p μ → maxDepth ≤ μ .st .depth → Holds 6 p
     -- 7: "a bridge joins an atom to itself"

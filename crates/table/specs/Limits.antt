@@ -1,6 +1,6 @@
 -- 01, The tables: limits, row widths and fields, each with its `const` in src/lib.rt
 use Prim.Native.Nat.{ℕ}
--- at most 200 atoms and 250 bonds
+-- P7: at most 1,000 atoms and 1,100 bonds
 pub use Rattle.ids.specs.Limits.{maxAtoms, maxBonds}
 
 -- an atom row has six cells, a bond row three

@@ -16,12 +16,12 @@ use Rattle.table.proofs.Valid.{bond-row, first-end, second-end}
 use Rattle.valence.specs.Valence.{delocalized}
 use Rattle.matching.specs.Model.{bondsOf, Shape}
 use Rattle.table_graph.specs.Graph.{bondSum, flag, elidedFlag, delocalizedFlag, delocalizedFlags, bondOf, graphOf}
-use Rattle.table_graph.specs.Built.{sumFlag, Wide, Prepared, Built}
+use Rattle.table_graph.specs.Built.{sumFlag, Wide, Wired, Prepared, Built}
 use Rattle.table_graph.proofs.Sums.{sumsTo}
 
 -- the bonds of valid tables have what one pass over them asks
-pub wide : {atoms bonds : List ℤ} {n m : ℕ} {ea eb el : List ℕ} → Valid atoms bonds n m → m ≤ length ea → m ≤ length eb → m ≤ length el → Wide bonds m ea eb el
-wide v a b e =
+pub wide : {atoms bonds : List ℤ} {n m : ℕ} {ea eb el sums : List ℕ} → Valid atoms bonds n m → m ≤ length ea → m ≤ length eb → m ≤ length el → n ≤ length sums → Wide bonds m ea eb el sums
+wide v a b e s =
     record {
       few = v .few-bonds;
       firsts = a;
@@ -29,6 +29,7 @@ wide v a b e =
       elided = e;
       order = λ k l. bond-row v k l .order;
       second-fits = λ k l. omega (arith, second-end v k l, v .few-atoms);
+      second-summed = λ k l. omega (arith, second-end v k l, s);
     }
 
 -- lists that agree at each number
@@ -43,11 +44,17 @@ sum-flags atoms bonds n m len {sums} e h =
     upTo-ext (sumFlag atoms sums) (delocalizedFlag atoms bonds m) 0 n
     (λ j l. ap (λ (s : ℕ). flag (delocalized (element atoms j) (selected atoms j) (atomCell atoms j CHARGE) s (hydrogens atoms j))) (ap (λ (t : List ℕ). getD t j 0) e ∙ upTo-at (bondSum bonds m) len j 0 (omega arith)))
 
+-- what one pass over the bonds of valid tables leaves, in an array that has a sum for each atom
+pub prepared : {atoms bonds : List ℤ} {n m len : ℕ} {sums ea eb el : List ℕ} → Valid atoms bonds n m → Wired bonds m ea eb el → sums ≡ upTo (bondSum bonds m) 0 len → n ≤ len → Prepared atoms bonds n m sums ea eb el
+prepared {atoms} {bonds} {n} {m} {len} {sums} v w e h =
+    let l : length sums ≡ len = ap length e ∙ length-upTo (bondSum bonds m) 0 len in
+    record { valid = v; wired = w; summed = e ∙ ap (upTo (bondSum bonds m) 0) (sym l); room = omega (arith, h, l) }
+
 -- the flags that are filled from the bond sums make the graph whole
 pub flags-built : {atoms bonds : List ℤ} {n m : ℕ} (flags₀ : List ℕ) {sums ea eb el flags : List ℕ} → Prepared atoms bonds n m sums ea eb el → flags ≡ upTo (sumFlag atoms sums) 0 n ++ drop n flags₀ → Built atoms bonds n m flags ea eb el
 flags-built {atoms} {bonds} {n} {m} flags₀ {sums} p e =
     record {
-      delocalized-part = filled-part (sumFlag atoms sums) n flags₀ e ∙ sum-flags atoms bonds n m maxAtoms (p .summed) (p .valid .few-atoms);
+      delocalized-part = filled-part (sumFlag atoms sums) n flags₀ e ∙ sum-flags atoms bonds n m (length sums) (p .summed) (p .room);
       bonds-part = p .wired;
     }
 

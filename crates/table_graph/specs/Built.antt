@@ -35,14 +35,15 @@ pub record Summed (sums : List ℕ) (n : ℕ) (flags : List ℕ) : Type 0 where
   pub summed : n ≤ length sums
   pub room : n ≤ length flags
 
--- the bonds have two ends that fit, in their order, and each of m a cell
-pub record Wide (bonds : List ℤ) (m : ℕ) (ea eb el : List ℕ) : Type 0 where
+-- the bonds have two ends that fit, in their order, each of m a cell and each end a sum
+pub record Wide (bonds : List ℤ) (m : ℕ) (ea eb el sums : List ℕ) : Type 0 where
   pub few : m ≤ maxBonds
   pub firsts : m ≤ length ea
   pub seconds : m ≤ length eb
   pub elided : m ≤ length el
   pub order : (b : ℕ) → b < m → end1 bonds b < end2 bonds b
   pub second-fits : (b : ℕ) → b < m → end2 bonds b < maxAtoms
+  pub second-summed : (b : ℕ) → b < m → end2 bonds b < length sums
 
 -- buffers that hold the ends of m bonds, and which are elided, in their first cells
 pub record Wired (bonds : List ℤ) (m : ℕ) (ea eb el : List ℕ) : Type 0 where
@@ -54,7 +55,8 @@ pub record Wired (bonds : List ℤ) (m : ℕ) (ea eb el : List ℕ) : Type 0 whe
 pub record Prepared (atoms bonds : List ℤ) (n m : ℕ) (sums ea eb el : List ℕ) : Type 0 where
   pub valid : Valid atoms bonds n m
   pub wired : Wired bonds m ea eb el
-  pub summed : sums ≡ upTo (bondSum bonds m) 0 maxAtoms
+  pub summed : sums ≡ upTo (bondSum bonds m) 0 (length sums)
+  pub room : n ≤ length sums
 
 -- four buffers that hold the graph of a molecule in their first cells
 pub record Built (atoms bonds : List ℤ) (n m : ℕ) (flags ea eb el : List ℕ) : Type 0 where
@@ -62,8 +64,9 @@ pub record Built (atoms bonds : List ℤ) (n m : ℕ) (flags ea eb el : List ℕ
   pub bonds-part : Wired bonds m ea eb el
 
 -- the buffers have a cell for each atom and for each bond
-pub record Room (n m : ℕ) (flags ea eb el : List ℕ) : Type 0 where
+pub record Room (n m : ℕ) (flags ea eb el sums : List ℕ) : Type 0 where
   pub atoms : n ≤ length flags
   pub firsts : m ≤ length ea
   pub seconds : m ≤ length eb
   pub elided : m ≤ length el
+  pub summed : n ≤ length sums

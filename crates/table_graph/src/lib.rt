@@ -2,7 +2,7 @@
 ghost use mathlib.Core.Path.{_≡_};
 ghost use mathlib.Core.List.{_++_};
 ghost use Prim.Native.Nat.{_≤_, _<_};
-ghost use lib.ListN.{drop, replicate};
+ghost use lib.ListN.{length, drop, replicate};
 ghost use Rattle.loops.specs.Loop.{upTo};
 ghost use Rattle.table.specs.Limits.{maxAtoms, maxBonds, CHARGE};
 ghost use Rattle.table.specs.Cells.{atomCell, element, selected, hydrogens};
@@ -15,7 +15,6 @@ use ids::BondId;
 use table::CHARGE;
 use table::ELEMENT;
 use table::HYDROGENS;
-use table::MAX_ATOMS;
 use table::SELECTED;
 use table::cell;
 use table::row;
@@ -76,12 +75,12 @@ pub fn wire(
     ea: &mut [u16],
     eb: &mut [u16],
     el: &mut [u8],
-    sums: &mut [u16; MAX_ATOMS],
+    sums: &mut [u16],
 )
-    requires { ⌜ Wide (now bonds) m (now ea) (now eb) (now el) ⌝ }
-    requires { ⌜ now sums ≡ replicate maxAtoms 0 ⌝ }
+    requires { ⌜ Wide (now bonds) m (now ea) (now eb) (now el) (now sums) ⌝ }
+    requires { ⌜ now sums ≡ replicate (length (now sums)) 0 ⌝ }
     ensures { λ _. ⌜ Wired (now (bonds .entry)) m (now (ea .exit)) (now (eb .exit)) (now (el .exit)) ⌝ }
-    ensures { λ _. ⌜ now (sums .exit) ≡ upTo (bondSum (now (bonds .entry)) m) 0 maxAtoms ⌝ }
+    ensures { λ _. ⌜ now (sums .exit) ≡ upTo (bondSum (now (bonds .entry)) m) 0 (length (now (sums .entry))) ⌝ }
 {
     let mut i = 0;
     while i < m {
@@ -99,7 +98,7 @@ pub fn wire(
     }
 }
 
-// internal: the graph of a molecule, into four buffers.
+// internal: the graph of a molecule, into four buffers, with one of zeros for the bond sums.
 pub fn build(
     atoms: &[i32],
     bonds: &[i32],
@@ -109,12 +108,13 @@ pub fn build(
     ea: &mut [u16],
     eb: &mut [u16],
     el: &mut [u8],
+    sums: &mut [u16],
 )
     requires { ⌜ Valid (now atoms) (now bonds) n m ⌝ }
-    requires { ⌜ Room n m (now flags) (now ea) (now eb) (now el) ⌝ }
+    requires { ⌜ Room n m (now flags) (now ea) (now eb) (now el) (now sums) ⌝ }
+    requires { ⌜ now sums ≡ replicate (length (now sums)) 0 ⌝ }
     ensures { λ _. ⌜ Built (now (atoms .entry)) (now (bonds .entry)) n m (now (flags .exit)) (now (ea .exit)) (now (eb .exit)) (now (el .exit)) ⌝ }
 {
-    let mut sums = [0u16; MAX_ATOMS];
-    wire(bonds, m, ea, eb, el, &mut sums);
-    fill_flags(atoms, &sums, n, flags);
+    wire(bonds, m, ea, eb, el, sums);
+    fill_flags(atoms, sums, n, flags);
 }

@@ -9,6 +9,7 @@ ghost use Rattle.table.specs.Sound.{bondDegree, noneLoose, lateCode};
 ghost use Rattle.table_validity.specs.Degrees.{counted, Ends, tight};
 use ids::AtomId;
 use ids::BondId;
+use ids::SMALL;
 use refusal::Refusal;
 use table::Check;
 use table::FIRST;
@@ -16,9 +17,6 @@ use table::MAX_ATOMS;
 use table::SECOND;
 use table::SELECTED;
 use table::cell;
-
-// How many atoms a small buffer holds: a larger one takes time to clear.
-const SMALL: usize = 64;
 
 // Counts a bond at an atom.
 fn count_end(degrees: &mut [u16], a: usize)

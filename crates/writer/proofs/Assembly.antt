@@ -4,13 +4,13 @@ use native.Mathlib.Omega.{arith}
 use mathlib.Core.Path.{_≡_, refl, sym, ap, _∙_, subst}
 use mathlib.Core.Bool.{Bool, true, false, _&&_}
 use mathlib.Core.List.{List, [], _∷_, _++_}
-use lib.ListN.{length, getD, set, replicate, drop, length-replicate}
+use lib.ListN.{length, getD, set, replicate, drop}
 use lib.IntN.{ℤ}
-use lib.Dec.{eqb, leb, lit≤}
+use lib.Dec.{eqb, leb}
 use borrow.Author.Tests.{eqb-true, eq-eqb}
 use Rattle.loops.specs.Loop.{upTo, run}
 use Rattle.loops.proofs.Loops.{length-upTo, upTo-at}
-use Rattle.table.specs.Limits.{maxAtoms, maxBonds, ISOTOPE, EXTENSION, ELEMENT}
+use Rattle.table.specs.Limits.{ISOTOPE, EXTENSION, ELEMENT}
 use Rattle.table.specs.Cells.{number, atomCell, end1, end2}
 use Rattle.table.specs.Valid.{Valid, sameEnds}
 use Rattle.table.proofs.Valid.{atom-row, bond-row, kind-small, hydrogens-small, apart-at, range-high}
@@ -100,7 +100,7 @@ module _ {atoms bonds : List ℤ} {n m : ℕ} (v : Valid atoms bonds n m) where
   pub long-walk : length (pre F) ≡ n
   long-walk = renumbering n (bondList bonds m) (bonds-inside fit) .long
 
-  pub numbered : {o w u k : List ℕ} → Room o w u k → Walked (bondList bonds m) n o w u k → Numbered (bondList bonds m) n w u
+  pub numbered : {o w u k : List ℕ} → Room n o w u k → Walked (bondList bonds m) n o w u k → Numbered (bondList bonds m) n w u
   numbered r d =
       record {
         number = d .number;
@@ -152,7 +152,7 @@ nest-same u w p q n (suc d) x depth l e g =
     let z : depthAfter depth (getD u x 0) (p x) x ≡ depthAfter depth (getD w x 0) (q x) x = λ i. depthAfter depth (e x (omega arith) i) (g x (omega arith) i) x in
     (λ i. leb (z i) maxDepth && nestFrom u p (suc x) d (z i)) ∙ ap (λ (b : Bool). leb (depthAfter depth (getD w x 0) (q x) x) maxDepth && b) (nest-same u w p q n d (suc x) (depthAfter depth (getD w x 0) (q x) x) (omega arith) e g)
 
-module _ {atoms bonds : List ℤ} {n m : ℕ} (v : Valid atoms bonds n m) {o w u kd : List ℕ} (room : Room o w u kd) (walked : Walked (bondList bonds m) n o w u kd) where
+module _ {atoms bonds : List ℤ} {n m : ℕ} (v : Valid atoms bonds n m) {o w u kd : List ℕ} (room : Room n o w u kd) (walked : Walked (bondList bonds m) n o w u kd) where
   abbrev G : Forest
   G = forestOf n (bondList bonds m)
 
@@ -161,14 +161,13 @@ module _ {atoms bonds : List ℤ} {n m : ℕ} (v : Valid atoms bonds n m) {o w u
       let l = long-walk v in
       rw (walked .order x h) (all-at (λ y. y < n) (pre G) (renumbering n (bondList bonds m) (bonds-inside (fit v)) .inside) x (omega arith))
 
-  pub parents-fit : (x : ℕ) → x < n → getD u x 0 ≤ maxAtoms
+  pub parents-fit : (x : ℕ) → x < n → getD u x 0 ≤ n
   parents-fit x h =
       let s : size G ≡ n = sym (size-length G) ∙ long-walk v in
-      let f = v .few-atoms in
       let l = length-ups G 0 0 in
-      rw (walked .up x h) (all-at (λ y. y ≤ maxAtoms) (ups G 0 0) (ups-small G 0 0 maxAtoms (omega arith) (omega arith)) x (omega arith))
+      rw (walked .up x h) (all-at (λ y. y ≤ n) (ups G 0 0) (ups-small G 0 0 n (omega arith) (omega arith)) x (omega arith))
 
-  pub ready : (last sums los his kinds : List ℕ) (k : ℕ) → maxAtoms < length last → maxAtoms ≤ length sums → k ≤ maxBonds → maxBonds ≤ length los → maxBonds ≤ length his → maxBonds ≤ length kinds → (x : ℕ) → x < n → Ready atoms o u kd last sums los his kinds k x
+  pub ready : (last sums los his kinds : List ℕ) (k : ℕ) → n < length last → n ≤ length sums → k ≤ m → m ≤ length los → m ≤ length his → m ≤ length kinds → (x : ℕ) → x < n → Ready atoms o u kd last sums los his kinds k x
   ready last sums los his kinds k a b c d e g x h =
       let f = v .few-atoms in
       let p = parents-fit x h in
@@ -185,7 +184,7 @@ module _ {atoms bonds : List ℤ} {n m : ℕ} (v : Valid atoms bonds n m) {o w u
         atom = omega arith;
         sum = omega arith;
         fits = atom-fits v (getD o x 0) q;
-        bridges = c;
+        bridges = omega (arith, v .few-bonds);
         lower = omega arith;
         higher = omega arith;
         opened = omega arith;
@@ -193,7 +192,7 @@ module _ {atoms bonds : List ℤ} {n m : ℕ} (v : Valid atoms bonds n m) {o w u
 
   -- THE STATEMENT
   pub said : (last sums los his kds l0 : List ℕ) (k : ℕ) (few flat? : Bool) (p q : BufferAt) → Listed (bondList bonds m) n los his kds k → ((a : ℕ) → a < n → getD sums a 0 ≡ bondSum bonds m a)
-      → maxAtoms < length l0 → last ≡ run (λ x l. set l (getD u x 0) x) 0 n l0
+      → n < length l0 → last ≡ run (λ x l. set l (getD u x 0) x) 0 n l0
       → Texted (headBytes atoms o u kd last sums) los his kds n k (replicate slotCount 0) few p q → flat? ≡ nestFrom u (moreAt u last) 0 n 0 → Said atoms bonds n m few flat? p q
   unfolding tokens write textOf
   said last sums los his kds l0 k few flat? p q ls sm ll el tx sh =
@@ -234,36 +233,34 @@ module _ {atoms bonds : List ℤ} {n m : ℕ} {o w u kd ea eb ks sums : List ℕ
   pub held-numbered : Numbered (upTo (wires ea eb ks) 0 m) n w u
   held-numbered = subst (λ (bs : List Bond). Numbered bs n w u) (sym (wired-list (h .wired))) (numbered (h .valid) (h .room) (h .walked))
 
-  pub held-sums : length sums ≡ maxAtoms
-  held-sums = ap length (h .summed) ∙ length-upTo (bondSum bonds m) 0 maxAtoms
-
-  pub held-listed : {l j q l2 h2 q2 : List ℕ} {k : ℕ} → BondRoom l j q → bondArrays l2 h2 q2 k ≡ run (λ b. addBond u (inWalk (wires ea eb ks) n m b)) 0 m (bondArrays l j q 0) → Listed (bondList bonds m) n l2 h2 q2 k
+  pub held-listed : {l j q l2 h2 q2 : List ℕ} {k : ℕ} → BondRoom m l j q → bondArrays l2 h2 q2 k ≡ run (λ b. addBond u (inWalk (wires ea eb ks) n m b)) 0 m (bondArrays l j q 0) → Listed (bondList bonds m) n l2 h2 q2 k
   held-listed {l} {j} {q} {l2} {h2} {q2} {k} r e =
       let d : Distinct (upTo (wires ea eb ks) 0 m) = subst Distinct (sym (wired-list (h .wired))) (distinct (h .valid)) in
       subst (λ (bs : List Bond). Listed bs n l2 h2 q2 k) (wired-list (h .wired)) (listed held-fit d held-numbered l j q l2 h2 q2 k r e)
 
--- the arrays that writing makes have room
-pub bag-zeros : BondRoom (replicate 250 0) (replicate 250 0) (replicate 250 0)
-bag-zeros = record { los = lit≤ tt; his = lit≤ tt; kinds = lit≤ tt }
+-- as many bonds at most are listed as there are
+pub listed-few : (bonds : List ℤ) (m : ℕ) {n k : ℕ} {l j q : List ℕ} → Listed (bondList bonds m) n l j q k → k ≤ m
+listed-few bonds m h = omega (arith, h .few, length-upTo (walkBond bonds) 0 m)
 
 pub sums-at : (sums : List ℕ) (g : ℕ → ℕ) (n l : ℕ) → sums ≡ upTo g 0 l → n ≤ l → (a : ℕ) → a < n → getD sums a 0 ≡ g a
 sums-at sums g n l e h a i = ap (λ (s : List ℕ). getD s a 0) e ∙ upTo-at g l a 0 (omega arith)
 
--- the numbers begin as zeros
-module _ {number : List ℕ} (e : number ≡ replicate maxAtoms 0) where
-  long-zeros : length number ≡ maxAtoms
-  long-zeros = ap length e ∙ length-replicate {A = ℕ} maxAtoms 0
+-- what the walk leaves
+module _ {bonds : List ℤ} {n m : ℕ} {o₀ w₀ u₀ k₀ o w u k : List ℕ} (room : Room n o₀ w₀ u₀ k₀) (kept : Kept o₀ w₀ u₀ k₀ o w u k) (walked : Walked (bondList bonds m) n o w u k) where
+  pub held : {atoms : List ℤ} {ea eb ks sums : List ℕ} (len : ℕ) → Valid atoms bonds n m → Wired bonds m 0 ea eb ks → m ≤ length ea → m ≤ length eb → m ≤ length ks → sums ≡ upTo (bondSum bonds m) 0 len → n ≤ len → Held atoms bonds n m o w u k ea eb ks sums
+  held {atoms} {ea} {eb} {ks} {sums} len v wired a b c summed s =
+      let l : length sums ≡ len = ap length summed ∙ length-upTo (bondSum bonds m) 0 len in
+      record {
+        valid = v;
+        room = room-kept room kept;
+        walked = walked;
+        wired = wired;
+        firsts = a;
+        seconds = b;
+        kinds = c;
+        summed = summed ∙ ap (upTo (bondSum bonds m) 0) (sym l);
+        sums-long = omega (arith, s, l);
+      }
 
-  pub same-zeros : number ≡ replicate (length number) 0
-  same-zeros = e ∙ ap (λ (k : ℕ). replicate k 0) (sym long-zeros)
-
-  pub room-zeros : Room (replicate maxAtoms 0) number (replicate maxAtoms 0) (replicate maxAtoms 0)
-  room-zeros = record { order = lit≤ tt; number = omega (arith, long-zeros); up = lit≤ tt; kind = lit≤ tt }
-
-  -- what the walk leaves
-  module _ {bonds : List ℤ} {n m : ℕ} {o w u k : List ℕ} (kept : Kept (replicate maxAtoms 0) number (replicate maxAtoms 0) (replicate maxAtoms 0) o w u k) (walked : Walked (bondList bonds m) n o w u k) where
-    pub held : {atoms : List ℤ} {ea eb ks sums : List ℕ} → Valid atoms bonds n m → Wired bonds m 0 ea eb ks → sums ≡ upTo (bondSum bonds m) 0 maxAtoms → Held atoms bonds n m o w u k ea eb ks sums
-    held v wired summed = record { valid = v; room = room-kept room-zeros kept; walked = walked; wired = wired; summed = summed }
-
-    pub counted : Counted bonds n m w
-    counted = record { long = kept .number ∙ long-zeros; place-at = walked .number }
+  pub counted : Counted bonds n m w
+  counted = record { long = room-kept room kept .number; place-at = walked .number }

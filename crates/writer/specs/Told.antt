@@ -2,12 +2,11 @@
 use mathlib.Core.Path.{_≡_}
 use mathlib.Core.Bool.{Bool, true}
 use mathlib.Core.List.{List}
-use Prim.Native.Nat.{ℕ, suc, _<_}
+use Prim.Native.Nat.{ℕ, suc, _<_, _≤_}
 use lib.ListN.{length, getD}
 use lib.IntN.{ℤ}
 use Rattle.loops.specs.Loop.{upTo}
 use Rattle.refusal.specs.Code.{codeOf}
-use Rattle.table.specs.Limits.{maxAtoms}
 use Rattle.table.specs.Valid.{Valid}
 use Rattle.table_graph.specs.Graph.{bondSum}
 use Rattle.writing_walk.specs.Emit.{pre}
@@ -33,12 +32,16 @@ pub record Said (atoms bonds : List ℤ) (n m : ℕ) (few flat : Bool) (p q : Bu
 -- arrays hold the walk of a molecule, its bonds and its bond sums
 pub record Held (atoms bonds : List ℤ) (n m : ℕ) (order number up kind ea eb ks sums : List ℕ) : Type 0 where
   pub valid : Valid atoms bonds n m
-  pub room : Room order number up kind
+  pub room : Room n order number up kind
   pub walked : Walked (bondList bonds m) n order number up kind
   pub wired : Wired bonds m 0 ea eb ks
-  pub summed : sums ≡ upTo (bondSum bonds m) 0 maxAtoms
+  pub firsts : m ≤ length ea
+  pub seconds : m ≤ length eb
+  pub kinds : m ≤ length ks
+  pub summed : sums ≡ upTo (bondSum bonds m) 0 (length sums)
+  pub sums-long : n ≤ length sums
 
 -- an array holds each atom's walk number plus 1
 pub record Counted (bonds : List ℤ) (n m : ℕ) (number : List ℕ) : Type 0 where
-  pub long : length number ≡ maxAtoms
+  pub long : n ≤ length number
   pub place-at : (a : ℕ) → a < n → getD number a 0 ≡ suc (place (pre (forestOf n (bondList bonds m))) a)

@@ -1,6 +1,6 @@
 // The bytes of a walk, one atom after the other.
 ghost use mathlib.Core.Bool.{true};
-ghost use Prim.Native.Nat.{ℕ, _<_};
+ghost use Prim.Native.Nat.{ℕ, _<_, _≤_};
 ghost use lib.ListN.{length, replicate};
 ghost use Rattle.buffer.specs.Buffer.{bufferAt, Wrote};
 ghost use Rattle.ids.specs.Limits.{bridges};
@@ -8,7 +8,6 @@ ghost use Rattle.writing_bridges.specs.Slots.{slotCount};
 ghost use Rattle.writing_bridges.specs.Unused.{Marked};
 ghost use Rattle.writer.specs.Emit.{leaveBytes, enterBytes, leadBytes, headBytes, Ready, Emitted, Texted};
 use ids::AtomId;
-use table::MAX_ATOMS;
 use writing_bridges::SLOTS;
 use writing_bridges::Spot;
 use writing_visit::WalkNumber;
@@ -59,7 +58,7 @@ fn emit_atom(
     los: &[u16],
     his: &[u16],
     kinds: &[u8],
-    marks: &[u16; MAX_ATOMS],
+    marks: &[u16],
     k: usize,
     slots: &mut [u16],
     x: WalkNumber,
@@ -68,7 +67,7 @@ fn emit_atom(
 ) -> Spot
     requires { ⌜ Ready (now atoms) (now order) (now up) (now kind) (now last) (now sums) (now los) (now his) (now kinds) k (x .0) ⌝ }
     requires { ⌜ Marked (now marks) (now los) (now his) k ⌝ }
-    requires { ⌜ length (now slots) < bridges ⌝ }
+    requires { ⌜ (length (now slots) < bridges) × (x .0 < length (now marks)) ⌝ }
     ensures { λ r. ⌜ Emitted (now (atoms .entry)) (now (order .entry)) (now (up .entry)) (now (kind .entry)) (now (last .entry)) (now (sums .entry)) (now (los .entry)) (now (his .entry)) (now (kinds .entry)) k (x .0) (now (slots .entry)) (now (slots .exit)) (r .few) (bufferAt (now (out .entry)) at) (bufferAt (now (out .exit)) (r .at)) ⌝ }
 {
     let i = x.0;
@@ -92,12 +91,13 @@ pub fn emit(
     los: &[u16],
     his: &[u16],
     kinds: &[u8],
-    marks: &[u16; MAX_ATOMS],
+    marks: &[u16],
     k: usize,
     out: &mut [u8],
 ) -> Spot
     requires { ⌜ ((x : ℕ) → x < n → Ready (now atoms) (now order) (now up) (now kind) (now last) (now sums) (now los) (now his) (now kinds) k x) ⌝ }
     requires { ⌜ Marked (now marks) (now los) (now his) k ⌝ }
+    requires { ⌜ n ≤ length (now marks) ⌝ }
     ensures { λ r. ⌜ Texted (headBytes (now (atoms .entry)) (now (order .entry)) (now (up .entry)) (now (kind .entry)) (now (last .entry)) (now (sums .entry))) (now (los .entry)) (now (his .entry)) (now (kinds .entry)) n k (replicate slotCount 0) (r .few) (bufferAt (now (out .entry)) 0) (bufferAt (now (out .exit)) (r .at)) ⌝ }
 {
     let mut slots = [0u16; SLOTS];

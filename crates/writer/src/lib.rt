@@ -7,11 +7,14 @@ ghost use lib.IntN.{ℤ};
 ghost use Rattle.loops.specs.Loop.{upTo};
 ghost use Rattle.table.specs.Limits.{maxAtoms};
 ghost use Rattle.ids.specs.Limits.{maxText};
+ghost use Rattle.ids.specs.Small.{small};
+ghost use Rattle.writing_bridges.specs.Unused.{BondRoom};
 ghost use Rattle.writing.specs.Write.{writeValid, writeOf};
 ghost use Rattle.table.specs.Valid.{Valid};
 ghost use Rattle.buffer.specs.Buffer.{bufferAt};
 ghost use Rattle.writer.specs.Told.{Held, Counted, Said, told};
 use ids::MAX_TEXT;
+use ids::SMALL;
 use refusal::Refusal;
 use table::MAX_ATOMS;
 use table::MAX_BONDS;
@@ -32,7 +35,7 @@ struct Verdict {
     at: usize,
 }
 
-// The text of a walk that stands in arrays, into a buffer from its start.
+// The text of a walk that stands in arrays, into a buffer from its start; five arrays are for the bonds that the walk does not use and the last child of each atom.
 fn draw(
     atoms: &[i32],
     n: usize,
@@ -41,77 +44,72 @@ fn draw(
     number: &[u16],
     up: &[u16],
     kind: &[u8],
-    ea: &[u16; MAX_BONDS],
-    eb: &[u16; MAX_BONDS],
-    ks: &[u8; MAX_BONDS],
+    ea: &[u16],
+    eb: &[u16],
+    ks: &[u8],
     sums: &[u16],
+    los: &mut [u16],
+    his: &mut [u16],
+    kinds: &mut [u8],
+    marks: &mut [u16],
+    last: &mut [u16],
     out: &mut [u8],
 ) -> Verdict
+    requires { ⌜ BondRoom m (now los) (now his) (now kinds) ⌝ }
+    requires { ⌜ (now marks ≡ replicate (length (now marks)) 0) × (n ≤ length (now marks)) ⌝ }
+    requires { ⌜ n < length (now last) ⌝ }
     requires { ⌜ ((bonds : List ℤ) × Held (now atoms) bonds n m (now order) (now number) (now up) (now kind) (now ea) (now eb) (now ks) (now sums)) ⌝ }
     ensures { λ r. ⌜ ((bonds : List ℤ) → Held (now (atoms .entry)) bonds n m (now (order .entry)) (now (number .entry)) (now (up .entry)) (now (kind .entry)) (now (ea .entry)) (now (eb .entry)) (now (ks .entry)) (now (sums .entry)) → Said (now (atoms .entry)) bonds n m (r .few) (r .flat) (bufferAt (now (out .entry)) 0) (bufferAt (now (out .exit)) (r .at))) ⌝ }
 {
-    let mut los = [0u16; MAX_BONDS];
-    let mut his = [0u16; MAX_BONDS];
-    let mut kinds = [0u8; MAX_BONDS];
-    let mut marks = [0u16; MAX_ATOMS];
-    let k = writing_bridges::unused::unused(
-        ea,
-        eb,
-        ks,
-        n,
-        m,
-        number,
-        up,
-        &mut los,
-        &mut his,
-        &mut kinds,
-        &mut marks,
-    );
-    let mut last = [0u16; MAX_ATOMS + 1];
-    nest::last_children(up, n, &mut last);
+    let k = writing_bridges::unused::unused(ea, eb, ks, n, m, number, up, los, his, kinds, marks);
+    nest::last_children(up, n, last);
     let spot = emit::emit(
         atoms,
         n,
         order,
         up,
         kind,
-        &last,
+        last,
         sums,
-        &los,
-        &his,
-        &kinds,
-        &marks,
+        los,
+        his,
+        kinds,
+        marks,
         k,
         out,
     );
     Verdict {
         few: spot.few,
-        flat: nest::is_shallow(up, &last, n),
+        flat: nest::is_shallow(up, last, n),
         at: spot.at,
     }
 }
 
-// The text of a molecule, into a buffer from its start, and each atom's walk number plus 1.
-fn text(
+// The text of a small molecule, into a buffer from its start, and each atom's walk number plus 1.
+fn text_small(
     atoms: &[i32],
     bonds: &[i32],
     n: usize,
     m: usize,
-    number: &mut [u16; MAX_ATOMS],
+    number: &mut [u16],
     out: &mut [u8],
 ) -> Verdict
     requires { ⌜ Valid (now atoms) (now bonds) n m ⌝ }
-    requires { ⌜ now number ≡ replicate maxAtoms 0 ⌝ }
+    requires { ⌜ (now number ≡ replicate (length (now number)) 0) × (n ≤ length (now number)) ⌝ }
+    requires { ⌜ (n ≤ small) × (m ≤ small) ⌝ }
     ensures { λ r. ⌜ Said (now (atoms .entry)) (now (bonds .entry)) n m (r .few) (r .flat) (bufferAt (now (out .entry)) 0) (bufferAt (now (out .exit)) (r .at)) ⌝ }
     ensures { λ _. ⌜ Counted (now (bonds .entry)) n m (now (number .exit)) ⌝ }
 {
-    let mut order = [0u16; MAX_ATOMS];
-    let mut up = [0u16; MAX_ATOMS];
-    let mut kind = [0u8; MAX_ATOMS];
-    let mut ea = [0u16; MAX_BONDS];
-    let mut eb = [0u16; MAX_BONDS];
-    let mut ks = [0u8; MAX_BONDS];
-    let mut sums = [0u16; MAX_ATOMS];
+    let mut order = [0u16; SMALL];
+    let mut up = [0u16; SMALL];
+    let mut kind = [0u8; SMALL];
+    let mut ea = [0u16; SMALL];
+    let mut eb = [0u16; SMALL];
+    let mut ks = [0u8; SMALL];
+    let mut sums = [0u16; SMALL];
+    let mut head = [m as u16; SMALL];
+    let mut after = [0u16; SMALL];
+    let mut behind = [0u16; SMALL];
     writing_visit::walk(
         bonds,
         n,
@@ -124,7 +122,15 @@ fn text(
         &mut eb,
         &mut ks,
         &mut sums,
+        &mut head,
+        &mut after,
+        &mut behind,
     );
+    let mut los = [0u16; SMALL];
+    let mut his = [0u16; SMALL];
+    let mut kinds = [0u8; SMALL];
+    let mut marks = [0u16; SMALL];
+    let mut last = [0u16; SMALL + 1];
     draw(
         atoms,
         n,
@@ -137,8 +143,102 @@ fn text(
         &eb,
         &ks,
         &sums,
+        &mut los,
+        &mut his,
+        &mut kinds,
+        &mut marks,
+        &mut last,
         out,
     )
+}
+
+// The text of any molecule.
+fn text_large(
+    atoms: &[i32],
+    bonds: &[i32],
+    n: usize,
+    m: usize,
+    number: &mut [u16],
+    out: &mut [u8],
+) -> Verdict
+    requires { ⌜ Valid (now atoms) (now bonds) n m ⌝ }
+    requires { ⌜ (now number ≡ replicate (length (now number)) 0) × (n ≤ length (now number)) ⌝ }
+    ensures { λ r. ⌜ Said (now (atoms .entry)) (now (bonds .entry)) n m (r .few) (r .flat) (bufferAt (now (out .entry)) 0) (bufferAt (now (out .exit)) (r .at)) ⌝ }
+    ensures { λ _. ⌜ Counted (now (bonds .entry)) n m (now (number .exit)) ⌝ }
+{
+    let mut order = [0u16; MAX_ATOMS];
+    let mut up = [0u16; MAX_ATOMS];
+    let mut kind = [0u8; MAX_ATOMS];
+    let mut ea = [0u16; MAX_BONDS];
+    let mut eb = [0u16; MAX_BONDS];
+    let mut ks = [0u8; MAX_BONDS];
+    let mut sums = [0u16; MAX_ATOMS];
+    let mut head = [m as u16; MAX_ATOMS];
+    let mut after = [0u16; MAX_BONDS];
+    let mut behind = [0u16; MAX_BONDS];
+    writing_visit::walk(
+        bonds,
+        n,
+        m,
+        &mut order,
+        number,
+        &mut up,
+        &mut kind,
+        &mut ea,
+        &mut eb,
+        &mut ks,
+        &mut sums,
+        &mut head,
+        &mut after,
+        &mut behind,
+    );
+    let mut los = [0u16; MAX_BONDS];
+    let mut his = [0u16; MAX_BONDS];
+    let mut kinds = [0u8; MAX_BONDS];
+    let mut marks = [0u16; MAX_ATOMS];
+    let mut last = [0u16; MAX_ATOMS + 1];
+    draw(
+        atoms,
+        n,
+        m,
+        &order,
+        number,
+        &up,
+        &kind,
+        &ea,
+        &eb,
+        &ks,
+        &sums,
+        &mut los,
+        &mut his,
+        &mut kinds,
+        &mut marks,
+        &mut last,
+        out,
+    )
+}
+
+// The text of a molecule, into a buffer from its start, and each atom's walk number plus 1.
+fn text(
+    atoms: &[i32],
+    bonds: &[i32],
+    n: usize,
+    m: usize,
+    number: &mut [u16],
+    out: &mut [u8],
+) -> Verdict
+    requires { ⌜ Valid (now atoms) (now bonds) n m ⌝ }
+    requires { ⌜ (now number ≡ replicate (length (now number)) 0) × (n ≤ length (now number)) ⌝ }
+    ensures { λ r. ⌜ Said (now (atoms .entry)) (now (bonds .entry)) n m (r .few) (r .flat) (bufferAt (now (out .entry)) 0) (bufferAt (now (out .exit)) (r .at)) ⌝ }
+    ensures { λ _. ⌜ Counted (now (bonds .entry)) n m (now (number .exit)) ⌝ }
+{
+    if SMALL < n {
+        return text_large(atoms, bonds, n, m, number, out);
+    }
+    if SMALL < m {
+        return text_large(atoms, bonds, n, m, number, out);
+    }
+    text_small(atoms, bonds, n, m, number, out)
 }
 
 // Zeros in a renumbering from a place on.

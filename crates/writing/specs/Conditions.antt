@@ -45,7 +45,7 @@ pub record Deep (ts : List Tok) (d : ℕ) : Type 0 where
 abbrev pub DeepBranch : List ℤ → ℕ → ℕ → Type 0
 DeepBranch bonds n m = Deep (tokens bonds n m) 0
 
--- 16: "the written text would be over 4,096 bytes"
+-- 16: "the written text would be over 16,384 bytes" (P7)
 abbrev pub LongText : List ℤ → List ℤ → ℕ → ℕ → Type 0
 LongText atoms bonds n m = maxText < length (textOf atoms bonds n m)
 

@@ -5,13 +5,12 @@ use native.Mathlib.Numerals.{add-one}
 use mathlib.Core.Path.{_≡_, refl, sym, ap, _∙_}
 use mathlib.Core.Bool.{Bool, true, false}
 use mathlib.Core.List.{List}
-use lib.ListN.{length, getD, set, replicate, length-set, length-replicate}
+use lib.ListN.{length, getD, set, replicate, length-set}
 use lib.Seq.{getD-set-same, getD-set-other}
 use lib.Dec.{eqb}
 use borrow.Author.Tests.{eq-eqb, ne-eqb, eqb-true, eqb-false, lt-ltb, le-ltb}
 use Rattle.kinds.specs.Kind.{turned}
 use Rattle.loops.specs.Loop.{pick, upTo}
-use Rattle.table.specs.Limits.{maxAtoms}
 use Rattle.writing_walk.specs.Token.{Bond, bond}
 use Rattle.writing_walk.specs.Emit.{pre}
 use Rattle.writing_walk.specs.Walk.{forestOf, place}
@@ -80,8 +79,11 @@ bag-grows up b g = go (treeBond up b)
     go true = omega arith
     go false = omega arith
 
-pub bag-room : {l h k l2 h2 k2 : List ℕ} → BondRoom l h k → length l2 ≡ length l → length h2 ≡ length h → length k2 ≡ length k → BondRoom l2 h2 k2
+pub bag-room : {m : ℕ} {l h k l2 h2 k2 : List ℕ} → BondRoom m l h k → length l2 ≡ length l → length h2 ≡ length h → length k2 ≡ length k → BondRoom m l2 h2 k2
 bag-room r a b c = let x = r .los in let y = r .his in let z = r .kinds in record { los = omega arith; his = omega arith; kinds = omega arith }
+
+pub bag-less : {j m : ℕ} {l h k : List ℕ} → BondRoom m l h k → j ≤ m → BondRoom j l h k
+bag-less r e = let x = r .los in let y = r .his in let z = r .kinds in record { los = omega arith; his = omega arith; kinds = omega arith }
 
 pub strictly : (x y : ℕ) → (x ≡ y → ⊥) → y ≤ x → y < x
 strictly x y h l = go (eqb x y) refl
@@ -96,13 +98,12 @@ zeros zero x = refl
 zeros (suc n) zero = refl
 zeros (suc n) (suc x) = zeros n x
 
-pub marked-start : {marks l h : List ℕ} → marks ≡ replicate maxAtoms 0 → Marked marks l h 0
+pub marked-start : {marks l h : List ℕ} → marks ≡ replicate (length marks) 0 → Marked marks l h 0
 marked-start {marks} e =
     record {
-      room = (let z = length-replicate {A = ℕ} maxAtoms 0 in rw e (omega arith));
       los = λ i a. absurd (omega arith);
       his = λ i a. absurd (omega arith);
-      single = λ x a. absurd (let z : getD marks x 0 ≡ 0 = rw e (zeros maxAtoms x) in omega arith);
+      single = λ x a. absurd (let z : getD marks x 0 ≡ 0 = ap (λ (t : List ℕ). getD t x 0) e ∙ zeros (length marks) x in omega arith);
     }
 
 -- a mark after one end more
@@ -192,18 +193,14 @@ module _ (t l h : List ℕ) (k p q : ℕ) (rp : p < length t) (rq : q < length t
       go false e = rw (getD-set-other (noted t p k) q x (endMark (getD (noted t p k) q 0) k) 0 (eqb-false x q e)) (single-first x)
 
 -- the marks of the two ends of one bond more
-pub marked-add : {marks l h : List ℕ} {k : ℕ} (p q v w : ℕ) → Marked marks l h k → p < maxAtoms → q < maxAtoms → k < length l → k < length h
+pub marked-add : {marks l h : List ℕ} {k : ℕ} (p q v w : ℕ) → Marked marks l h k → p < length marks → q < length marks → k < length l → k < length h
     → v ≡ endMark (getD marks p 0) k → w ≡ endMark (getD (set marks p v) q 0) k
     → Marked (set (set marks p v) q w) (set l k p) (set h k q) (k + 1)
-marked-add {marks} {l} {h} {k} p q v w m a b rl rh ev ew =
-    let r = m .room in
-    let rp : p < length marks = omega arith in
-    let rq : q < length marks = omega arith in
+marked-add {marks} {l} {h} {k} p q v w m rp rq rl rh ev ew =
     let r1 : q < length (noted marks p k) = simp length-set rq in
     let up : (x i : ℕ) → Mark (getD marks x 0) i → Mark (getD (noted (noted marks p k) q k) x 0) i = λ x i z. noted-kept (noted marks p k) q k x i r1 (noted-kept marks p k x i rp z) in
     rw (ew, ev)
     (record {
-      room = simp length-set r;
       los = mark-more marks (noted (noted marks p k) q k) l k p up (noted-kept (noted marks p k) q k p k r1 (noted-here marks p k rp)) rl (m .los);
       his = mark-more marks (noted (noted marks p k) q k) h k q up (noted-here (noted marks p k) q k r1) rh (m .his);
       single = single-more marks l h k p q rp rq rl rh (m .single);

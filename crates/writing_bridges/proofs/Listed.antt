@@ -126,7 +126,7 @@ field-at g U t t2 k e w r j y =
 -- the arrays, place by place
 pub record Listed (bs : List Bond) (n : ℕ) (los his kinds : List ℕ) (k : ℕ) : Type 0 where
   pub bond-at : ℕ → Bond
-  pub few : k ≤ maxBonds
+  pub few : k ≤ length bs
   pub bridged : Bridged bond-at n k los his
   pub kind-at : (i : ℕ) → i < k → bond-at i .kind ≡ getD kinds i 0
   pub all : upTo bond-at 0 k ≡ unused n bs
@@ -146,7 +146,7 @@ module _ {bonds : ℕ → Bond} {n m : ℕ} {v u : List ℕ} (fit : BondsFit bon
       ∙ ap (keep (λ b. not (treeBond u b))) e)
 
   -- THE STATEMENT
-  pub listed : (l h q l2 h2 q2 : List ℕ) (k : ℕ) → BondRoom l h q → bondArrays l2 h2 q2 k ≡ run (λ b. addBond u (inWalk bonds n m b)) 0 m (bondArrays l h q 0) → Listed (upTo bonds 0 m) n l2 h2 q2 k
+  pub listed : (l h q l2 h2 q2 : List ℕ) (k : ℕ) → BondRoom m l h q → bondArrays l2 h2 q2 k ≡ run (λ b. addBond u (inWalk bonds n m b)) 0 m (bondArrays l h q 0) → Listed (upTo bonds 0 m) n l2 h2 q2 k
   unfolding laid
   listed l h q l2 h2 q2 k room e =
       let U = unused n bs in
@@ -161,7 +161,7 @@ module _ {bonds : ℕ → Bond} {n m : ℕ} {v u : List ℕ} (fit : BondsFit bon
       let r3 = room .kinds in
       record {
         bond-at = λ j. getD U j (bond 0 0 0);
-        few = omega arith;
+        few = omega (arith, upTo-long bonds 0 m);
         bridged = record {
           lo = field-at (λ b. b .lo) U l l2 k len (ap (λ (g : BondArrays). g .los) E) (omega arith);
           hi = field-at (λ b. b .hi) U h h2 k len (ap (λ (g : BondArrays). g .his) E) (omega arith);

@@ -6,7 +6,6 @@ use mathlib.Core.List.{List}
 use lib.ListN.{length, getD, set}
 use lib.Dec.{eqb}
 use Rattle.loops.specs.Loop.{pick, upTo}
-use Rattle.table.specs.Limits.{maxAtoms, maxBonds}
 use Rattle.writing_walk.specs.Token.{Bond}
 use Rattle.writing_walk.specs.Emit.{pre}
 use Rattle.writing_walk.specs.Walk.{forestOf, place, renumber}
@@ -39,14 +38,14 @@ pub record Numbered (bs : List Bond) (n : ℕ) (v u : List ℕ) : Type 0 where
   pub number : (a : ℕ) → a < n → getD v a 0 ≡ suc (place (pre (forestOf n bs)) a)
   pub up : (x : ℕ) → x < n → getD u x 0 ≡ getD (ups (forestOf n bs) 0 0) x 0
   pub below : (a : ℕ) → a < n → place (pre (forestOf n bs)) a < n
-  pub numbers : maxAtoms ≤ length v
-  pub ups : maxAtoms ≤ length u
+  pub numbers : n ≤ length v
+  pub ups : n ≤ length u
 
--- the arrays have room
-pub record BondRoom (l h k : List ℕ) : Type 0 where
-  pub los : maxBonds ≤ length l
-  pub his : maxBonds ≤ length h
-  pub kinds : maxBonds ≤ length k
+-- the arrays have room for m bonds
+pub record BondRoom (m : ℕ) (l h k : List ℕ) : Type 0 where
+  pub los : m ≤ length l
+  pub his : m ≤ length h
+  pub kinds : m ≤ length k
 
 -- the mark of a walk number that is an end of several bonds
 abbrev pub many : ℕ
@@ -68,7 +67,6 @@ pub record Single (l h : List ℕ) (k x m : ℕ) : Type 0 where
 
 -- the ends of the first k bonds are marked in an array by walk number: the number plus 1 of the only bond with that end, or many
 pub record Marked (marks l h : List ℕ) (k : ℕ) : Type 0 where
-  pub room : maxAtoms ≤ length marks
   pub los : (i : ℕ) → i < k → Mark (getD marks (getD l i 0) 0) i
   pub his : (i : ℕ) → i < k → Mark (getD marks (getD h i 0) 0) i
   pub single : (x : ℕ) → 0 < getD marks x 0 → getD marks x 0 < many → Single l h k x (getD marks x 0)

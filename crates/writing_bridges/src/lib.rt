@@ -3,14 +3,13 @@ ghost use mathlib.Core.Path.{_≡_};
 ghost use mathlib.Core.List.{_++_};
 ghost use Prim.Native.Nat.{_+_, _<_, _≤_};
 ghost use lib.ListN.{length, set};
-ghost use Rattle.table.specs.Limits.{maxAtoms, maxBonds};
+ghost use Rattle.table.specs.Limits.{maxBonds};
 ghost use Rattle.ids.specs.Limits.{bridges};
 ghost use Rattle.buffer.specs.Buffer.{bufferAt, Wrote};
 ghost use Rattle.writing.specs.Spell.{kindBytes, bridgeBytes};
 ghost use Rattle.writing_bridges.specs.Slots.{indexOf, Near, Released, Inserted, Closed, Opened, Ended};
 ghost use Rattle.writing_bridges.specs.Unused.{Marked};
 use ids::BRIDGES;
-use table::MAX_ATOMS;
 use unused::MANY;
 use unused::UnusedId;
 use writing_visit::WalkNumber;
@@ -192,7 +191,7 @@ pub fn ring_ends(
     los: &[u16],
     his: &[u16],
     kinds: &[u8],
-    marks: &[u16; MAX_ATOMS],
+    marks: &[u16],
     k: usize,
     x: WalkNumber,
     slots: &mut [u16],
@@ -203,7 +202,7 @@ pub fn ring_ends(
     requires { ⌜ (k ≤ maxBonds) × (length (now slots) < bridges) ⌝ }
     requires { ⌜ k ≤ length (now kinds) ⌝ }
     requires { ⌜ Marked (now marks) (now los) (now his) k ⌝ }
-    requires { ⌜ x .0 < maxAtoms ⌝ }
+    requires { ⌜ x .0 < length (now marks) ⌝ }
     ensures { λ r. ⌜ Ended (now (los .entry)) (now (his .entry)) (now (kinds .entry)) k (x .0) (now (slots .entry)) (now (slots .exit)) (r .few) (bufferAt (now (out .entry)) at) (bufferAt (now (out .exit)) (r .at)) ⌝ }
 {
     let here = x.0;

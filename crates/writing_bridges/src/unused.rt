@@ -1,6 +1,6 @@
 // The bonds that the walk does not use.
 ghost use mathlib.Core.Path.{_≡_};
-ghost use Prim.Native.Nat.{_-_, _<_, _≤_};
+ghost use Prim.Native.Nat.{suc, _-_, _<_, _≤_};
 ghost use lib.ListN.{length, replicate};
 ghost use Rattle.loops.specs.Loop.{run, upTo};
 ghost use Rattle.table.specs.Limits.{maxAtoms, maxBonds};
@@ -9,8 +9,6 @@ ghost use Rattle.writing_visit.specs.Visit.{BondsFit};
 ghost use Rattle.writing_visit.specs.Wires.{wires};
 ghost use Rattle.writing_bridges.specs.Unused.{bondArrays, addBond, inWalk, Numbered, BondRoom, endMark, Marked};
 use ids::BondId;
-use table::MAX_ATOMS;
-use table::MAX_BONDS;
 
 // The number of a bond among those that the walk does not use.
 pub struct UnusedId(pub usize);
@@ -32,14 +30,14 @@ fn add_bond(
     los: &mut [u16],
     his: &mut [u16],
     kinds: &mut [u8],
-    marks: &mut [u16; MAX_ATOMS],
+    marks: &mut [u16],
     p: usize,
     q: usize,
     kind: u8,
     used: usize,
 ) -> usize
-    requires { ⌜ maxAtoms ≤ length (now up) ⌝ }
-    requires { ⌜ BondRoom (now los) (now his) (now kinds) ⌝ }
+    requires { ⌜ (q ≤ length (now up)) × (q ≤ length (now marks)) ⌝ }
+    requires { ⌜ BondRoom (suc used) (now los) (now his) (now kinds) ⌝ }
     requires { ⌜ Marked (now marks) (now los) (now his) used ⌝ }
     requires { ⌜ (0 < p) × (p < q) ⌝ }
     requires { ⌜ (q ≤ maxAtoms) × (used < maxBonds) ⌝ }
@@ -61,9 +59,9 @@ fn add_bond(
 
 // A bond, in walk numbers, is added unless the walk uses it.
 fn add_unused(
-    ea: &[u16; MAX_BONDS],
-    eb: &[u16; MAX_BONDS],
-    ks: &[u8; MAX_BONDS],
+    ea: &[u16],
+    eb: &[u16],
+    ks: &[u8],
     n: usize,
     m: usize,
     number: &[u16],
@@ -71,15 +69,17 @@ fn add_unused(
     los: &mut [u16],
     his: &mut [u16],
     kinds: &mut [u8],
-    marks: &mut [u16; MAX_ATOMS],
+    marks: &mut [u16],
     b: BondId,
     used: usize,
 ) -> usize
     requires { ⌜ BondsFit (wires (now ea) (now eb) (now ks)) n m ⌝ }
     requires { ⌜ Numbered (upTo (wires (now ea) (now eb) (now ks)) 0 m) n (now number) (now up) ⌝ }
-    requires { ⌜ BondRoom (now los) (now his) (now kinds) ⌝ }
+    requires { ⌜ BondRoom m (now los) (now his) (now kinds) ⌝ }
     requires { ⌜ Marked (now marks) (now los) (now his) used ⌝ }
-    requires { ⌜ (b .0 < m) × (used < maxBonds) ⌝ }
+    requires { ⌜ (b .0 < m) × (used < m) ⌝ }
+    requires { ⌜ (m ≤ length (now ea)) × (m ≤ length (now eb)) ⌝ }
+    requires { ⌜ (m ≤ length (now ks)) × (n ≤ length (now marks)) ⌝ }
     ensures { λ r. ⌜ bondArrays (now (los .exit)) (now (his .exit)) (now (kinds .exit)) r ≡ addBond (now (up .entry)) (inWalk (wires (now (ea .entry)) (now (eb .entry)) (now (ks .entry))) n m (b .0)) (bondArrays (now (los .entry)) (now (his .entry)) (now (kinds .entry)) used) ⌝ }
     ensures { λ r. ⌜ Marked (now (marks .exit)) (now (los .exit)) (now (his .exit)) r ⌝ }
 {
@@ -98,9 +98,9 @@ fn add_unused(
 
 // internal: the bonds that the walk does not use, in walk numbers, by ascending number, and at each walk number a mark: 0 where it is an end of none, the number plus 1 of the only one, or MANY. How many there are.
 pub fn unused(
-    ea: &[u16; MAX_BONDS],
-    eb: &[u16; MAX_BONDS],
-    ks: &[u8; MAX_BONDS],
+    ea: &[u16],
+    eb: &[u16],
+    ks: &[u8],
     n: usize,
     m: usize,
     number: &[u16],
@@ -108,12 +108,14 @@ pub fn unused(
     los: &mut [u16],
     his: &mut [u16],
     kinds: &mut [u8],
-    marks: &mut [u16; MAX_ATOMS],
+    marks: &mut [u16],
 ) -> usize
     requires { ⌜ BondsFit (wires (now ea) (now eb) (now ks)) n m ⌝ }
     requires { ⌜ Numbered (upTo (wires (now ea) (now eb) (now ks)) 0 m) n (now number) (now up) ⌝ }
-    requires { ⌜ BondRoom (now los) (now his) (now kinds) ⌝ }
-    requires { ⌜ now marks ≡ replicate maxAtoms 0 ⌝ }
+    requires { ⌜ BondRoom m (now los) (now his) (now kinds) ⌝ }
+    requires { ⌜ now marks ≡ replicate (length (now marks)) 0 ⌝ }
+    requires { ⌜ (m ≤ length (now ea)) × (m ≤ length (now eb)) ⌝ }
+    requires { ⌜ (m ≤ length (now ks)) × (n ≤ length (now marks)) ⌝ }
     ensures { λ r. ⌜ bondArrays (now (los .exit)) (now (his .exit)) (now (kinds .exit)) r ≡ run (λ b. addBond (now (up .entry)) (inWalk (wires (now (ea .entry)) (now (eb .entry)) (now (ks .entry))) n m b)) 0 m (bondArrays (now (los .entry)) (now (his .entry)) (now (kinds .entry)) 0) ⌝ }
     ensures { λ r. ⌜ Marked (now (marks .exit)) (now (los .exit)) (now (his .exit)) r ⌝ }
 {

@@ -1,11 +1,13 @@
 -- One law for each way through the walk's code. Assumes nothing.
-use Prim.Native.Nat.{ℕ, suc, _+_, _-_, _<_, _≤_}
+use Prim.Native.Nat.{ℕ, suc, _+_, _*_, _-_, _<_, _≤_}
 use native.Mathlib.Omega.{arith}
 use native.Mathlib.Numerals.{add-one}
+use native.Mathlib.Nat.{suc-mul, mul-le-mul-right}
 use mathlib.Core.Path.{_≡_, refl, sym, ap, _∙_, subst}
 use mathlib.Core.Bool.{true, false}
 use mathlib.Core.List.{List, [], _∷_, _++_, append-assoc, append-nil}
 use lib.ListN.{length, getD, set, length-append, length-set}
+use Rattle.table.specs.Limits.{maxAtoms}
 use Rattle.writing_walk.specs.Token.{Bond}
 use Rattle.writing_walk.specs.Emit.{Forest, leaf, node, size, pre}
 use Rattle.writing_walk.specs.Walk.{member}
@@ -135,50 +137,77 @@ module _ {bonds : ℕ → Bond} {n m : ℕ} (fit : BondsFit bonds n m) where
               laid-cast n (suc hub) (grow bonds n m v b s) (node a k f g) s (walkArrays o v1 u q count) z same
               (laid-node n (suc hub) a k f g s o v1 v2 u q count y z (st .long) l1′ l2)
 
--- the walk at v stands at the bond b: what is left from there is what is left from the start
-pub record Left (bonds : ℕ → Bond) (n m v hub from b : ℕ) (x y : WalkArrays) : Type 0 where
-  pub within : b ≤ m
-  pub here : b < m → touching bonds v b ≡ true
+-- the walk that began at the atom v of walk number hub stands at the bond c of the atom a, of walk number top: what is left from there is what is left from the start
+pub record Left (bonds : ℕ → Bond) (n m v hub from a top c : ℕ) (x y : WalkArrays) : Type 0 where
+  pub within : c ≤ m
+  pub here : c < m → touching bonds a c ≡ true
+  pub few : top < maxAtoms
   pub fewer : unseen (y .number) ≤ unseen (x .number)
-  pub rest : (z : WalkArrays) → Grown n (suc hub) (grow bonds n m v b) y z → Grown n (suc hub) (grow bonds n m v from) x z
+  pub rest : (z : WalkArrays) → Grown n (suc top) (grow bonds n m a c) y z → Grown n (suc hub) (grow bonds n m v from) x z
 
-pub left-start : (bonds : ℕ → Bond) (n m v hub from : ℕ) (x : WalkArrays) → from ≤ m → (from < m → touching bonds v from ≡ true) → Left bonds n m v hub from from x x
-left-start bonds n m v hub from x h here = record { within = h; here = here; fewer = omega arith; rest = λ z g. g }
+pub left-start : (bonds : ℕ → Bond) (n m v hub from : ℕ) (x : WalkArrays) → from ≤ m → hub < maxAtoms → (from < m → touching bonds v from ≡ true) → Left bonds n m v hub from v hub from x x
+left-start bonds n m v hub from x h f here = record { within = h; here = here; few = f; fewer = omega arith; rest = λ z g. g }
 
-module _ {bonds : ℕ → Bond} {n m : ℕ} (fit : BondsFit bonds n m) {v hub from b : ℕ} where
-  pub left-end : (x y : WalkArrays) → Left bonds n m v hub from b x y → m ≤ b → Grown n (suc hub) (grow bonds n m v from) x y
-  left-end x y l h = l .rest y (at-end fit (suc hub) v b y h)
+module _ {bonds : ℕ → Bond} {n m : ℕ} (fit : BondsFit bonds n m) {v hub from d top b : ℕ} where
+  pub left-end : (x y : WalkArrays) → Left bonds n m v hub from d top b x y → m ≤ b → Grown n (suc hub) (grow bonds n m v from) x y
+  left-end x y l h = l .rest y (at-end fit (suc top) d b y h)
 
-  module _ (r : ℕ) (h : b < m) (found : r ≡ firstFrom (touching bonds v) (suc b) (m - suc b)) where
-    pub left-seen : (x y : WalkArrays) → Left bonds n m v hub from b x y → (z : ℕ) → z ≡ otherEnd bonds b v → (getD (y .number) z 0 ≡ 0 → ⊥) → Left bonds n m v hub from r x y
+  module _ (r : ℕ) (h : b < m) (found : r ≡ firstFrom (touching bonds d) (suc b) (m - suc b)) where
+    pub left-seen : (x y : WalkArrays) → Left bonds n m v hub from d top b x y → (z : ℕ) → z ≡ otherEnd bonds b d → (getD (y .number) z 0 ≡ 0 → ⊥) → Left bonds n m v hub from d top r x y
     left-seen x y l z e k =
-        let after = next-is bonds v m (suc b) r (omega arith) found in
-        record { within = after .high; here = after .here; fewer = l .fewer; rest = λ t g. l .rest t (at-seen fit v b r h (l .here h) found (suc hub) y t z e k g) }
+        let after = next-is bonds d m (suc b) r (omega arith) found in
+        record { within = after .high; here = after .here; few = l .few; fewer = l .fewer; rest = λ t g. l .rest t (at-seen fit d b r h (l .here h) found (suc top) y t z e k g) }
 
-    pub left-new : (x : WalkArrays) (o v1 u q : List ℕ) (count : ℕ) → Left bonds n m v hub from b x (walkArrays o v1 u q count)
-        → (a k hd : ℕ) → a ≡ otherEnd bonds b v → getD v1 a 0 ≡ 0 → k ≡ kindFrom bonds b v → hd ≡ firstFrom (touching bonds a) 0 (m - 0) → n ≤ length v1
-        → (o2 v2 u2 q2 : List ℕ) → o2 ≡ set o count a → v2 ≡ set v1 a (count + 1) → u2 ≡ set u count (hub + 1) → q2 ≡ set q count k
-        → (y : WalkArrays) → Grown n (suc count) (grow bonds n m a hd) (walkArrays o2 v2 u2 q2 (count + 1)) y
-        → Left bonds n m v hub from r x y
-    left-new x o v1 u q count l a k hd e fresh ek ed long o2 v2 u2 q2 eo ev eu eq y one =
-        let i : a < n = rw e (other-below fit v b h) in
-        let d = seen-less v1 v2 a count (omega arith) fresh ev in
-        let f1 = one .fewer in
-        let f2 = l .fewer in
-        let after = next-is bonds v m (suc b) r (omega arith) found in
-        record {
-          within = after .high;
-          here = after .here;
-          fewer = omega arith;
-          rest = λ z g. l .rest z (at-new fit v b r h (l .here h) found hub o v1 u q count a e fresh k o2 v2 u2 q2 y z ek long eo ev eu eq (grown-from fit (suc count) a 0 hd (walkArrays o2 v2 u2 q2 (count + 1)) y (omega arith) ed one) g);
-        }
+    module _ (x : WalkArrays) (o v1 u q : List ℕ) (count : ℕ) (l : Left bonds n m v hub from d top b x (walkArrays o v1 u q count))
+        (a k hd : ℕ) (e : a ≡ otherEnd bonds b d) (fresh : getD v1 a 0 ≡ 0) (ek : k ≡ kindFrom bonds b d) (ed : hd ≡ firstFrom (touching bonds a) 0 (m - 0)) (long : n ≤ length v1)
+        (o2 v2 u2 q2 : List ℕ) (eo : o2 ≡ set o count a) (ev : v2 ≡ set v1 a (count + 1)) (eu : u2 ≡ set u count (top + 1)) (eq : q2 ≡ set q count k) where
+      new-less : unseen v2 < unseen v1
+      new-less = let i : a < n = rw e (other-below fit d b h) in seen-less v1 v2 a count (omega arith) fresh ev
 
-  pub left-full : (x : WalkArrays) (o v1 u q : List ℕ) (count : ℕ) → Left bonds n m v hub from b x (walkArrays o v1 u q count) → b < m
-      → (a : ℕ) → a ≡ otherEnd bonds b v → getD v1 a 0 ≡ 0 → n ≤ count → Grown n (suc hub) (grow bonds n m v from) x (walkArrays o v1 u q count)
+      -- the other end is visited, then the rest at this atom
+      pub left-new : (y : WalkArrays) → Grown n (suc count) (grow bonds n m a hd) (walkArrays o2 v2 u2 q2 (count + 1)) y → Left bonds n m v hub from d top r x y
+      left-new y one =
+          let s = new-less in
+          let f1 = one .fewer in
+          let f2 = l .fewer in
+          let after = next-is bonds d m (suc b) r (omega arith) found in
+          record {
+            within = after .high;
+            here = after .here;
+            few = l .few;
+            fewer = omega arith;
+            rest = λ z g. l .rest z (at-new fit d b r h (l .here h) found top o v1 u q count a e fresh k o2 v2 u2 q2 y z ek long eo ev eu eq (grown-from fit (suc count) a 0 hd (walkArrays o2 v2 u2 q2 (count + 1)) y (omega arith) ed one) g);
+          }
+
+      -- behind the last bond the walk goes on from the other end
+      pub left-last : m ≤ r → count < maxAtoms → Left bonds n m v hub from a count hd x (walkArrays o2 v2 u2 q2 (count + 1))
+      left-last last few =
+          let s = new-less in
+          let f2 = l .fewer in
+          let after = next-is bonds a m 0 hd (omega arith) ed in
+          record {
+            within = after .high;
+            here = after .here;
+            few = few;
+            fewer = omega arith;
+            rest = λ z g. l .rest z (at-new fit d b r h (l .here h) found top o v1 u q count a e fresh k o2 v2 u2 q2 z z ek long eo ev eu eq (grown-from fit (suc count) a 0 hd (walkArrays o2 v2 u2 q2 (count + 1)) z (omega arith) ed g) (at-end fit (suc top) d r z last));
+          }
+
+  pub left-full : (x : WalkArrays) (o v1 u q : List ℕ) (count : ℕ) → Left bonds n m v hub from d top b x (walkArrays o v1 u q count) → b < m
+      → (a : ℕ) → a ≡ otherEnd bonds b d → getD v1 a 0 ≡ 0 → n ≤ count → Grown n (suc hub) (grow bonds n m v from) x (walkArrays o v1 u q count)
   left-full x o v1 u q count l h a e fresh full =
-      l .rest (walkArrays o v1 u q count) (at-full fit v b (firstFrom (touching bonds v) (suc b) (m - suc b)) h (l .here h) refl hub o v1 u q count a e fresh full)
+      l .rest (walkArrays o v1 u q count) (at-full fit d b (firstFrom (touching bonds d) (suc b) (m - suc b)) h (l .here h) refl top o v1 u q count a e fresh full)
 
--- the arrays stay as long as they were
+-- the measure of the loop: the atoms not yet visited, and then the bonds that are left
+abbrev pub ahead : List ℕ → ℕ → ℕ → ℕ
+ahead number m b = unseen number * suc m + (m - b)
+
+pub ahead-less : (u w m b c : ℕ) → w ≤ u → b < c → b < m → w * suc m + (m - c) < u * suc m + (m - b)
+ahead-less u w m b c h l k = let z : w * suc m ≤ u * suc m = mul-le-mul-right (suc m) h in omega arith
+
+pub ahead-drop : (u w m b c : ℕ) → w < u → w * suc m + (m - c) < u * suc m + (m - b)
+ahead-drop u w m b c h = let z : suc w * suc m ≤ u * suc m = mul-le-mul-right (suc m) h in omega (arith, suc-mul w (suc m))
+
 pub kept-same : {o v u k : List ℕ} → Kept o v u k o v u k
 kept-same = record { order = refl; number = refl; up = refl; kind = refl }
 
@@ -195,7 +224,7 @@ module _ {o v u k o2 v2 u2 k2 o3 v3 u3 k3 : List ℕ} (a : Kept o v u k o2 v2 u2
         kind = ap length ek ∙ length-set k2 count q ∙ a .kind;
       }
 
-pub room-kept : {o v u k o2 v2 u2 k2 : List ℕ} → Room o v u k → Kept o v u k o2 v2 u2 k2 → Room o2 v2 u2 k2
+pub room-kept : {n : ℕ} {o v u k o2 v2 u2 k2 : List ℕ} → Room n o v u k → Kept o v u k o2 v2 u2 k2 → Room n o2 v2 u2 k2
 room-kept r e =
     record {
       order = omega (arith, r .order, e .order);

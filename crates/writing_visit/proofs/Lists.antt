@@ -30,12 +30,12 @@ fit-wide fit =
     }
 
 -- no bond is there yet
-pub linked-start : {bonds : ℕ → Bond} {m : ℕ} (head after behind : List ℕ) → head ≡ replicate maxAtoms m → Linked bonds m m head after behind
+pub linked-start : {bonds : ℕ → Bond} {m : ℕ} (head after behind : List ℕ) → head ≡ replicate (length head) m → Linked bonds m m head after behind
 unfolding firstFrom
 linked-start {bonds} {m} head after behind e =
     let z : m - m ≡ 0 = omega arith in
     record {
-      heads = λ v i. ap (λ (l : List ℕ). getD l v 0) e ∙ all-same maxAtoms m v i ∙ simp z;
+      heads = λ v i. ap (λ (l : List ℕ). getD l v 0) e ∙ all-same (length head) m v i ∙ simp z;
       afters = λ c g i. absurd (omega arith);
       behinds = λ c g i. absurd (omega arith);
     }
@@ -45,7 +45,7 @@ linked-cast {bonds} {m} b k head after behind e l = subst (λ (j : ℕ). Linked 
 
 module _ {bonds : ℕ → Bond} {m : ℕ} (fit : BondsFit bonds maxAtoms m) (k : ℕ) (h : k < m) (head after behind : List ℕ) (l : Linked bonds m (suc k) head after behind) where
   -- what was the head stands behind the new bond
-  behind-step : (end : ℕ → ℕ) (t : List ℕ) → end k < maxAtoms → k < length t
+  behind-step : (end : ℕ → ℕ) (t : List ℕ) → end k < length head → k < length t
       → ((c : ℕ) → suc k ≤ c → c < m → getD t c 0 ≡ firstFrom (touching bonds (end c)) (suc c) (m - suc c))
       → (c : ℕ) → k ≤ c → c < m → getD (set t k (getD head (end k) 0)) c 0 ≡ firstFrom (touching bonds (end c)) (suc c) (m - suc c)
   behind-step end t g room old c i j = go (eqb c k) refl
@@ -55,7 +55,7 @@ module _ {bonds : ℕ → Bond} {m : ℕ} (fit : BondsFit bonds maxAtoms m) (k :
       go false e = let q = eqb-false c k e in getD-set-other t k c (getD head (end k) 0) 0 q ∙ old c (omega arith) j
 
   head-step : (e f : ℕ) → e ≡ bonds k .lo → f ≡ bonds k .hi → e < length head → f < length head
-      → (v : ℕ) → v < maxAtoms → getD (set (set head e k) f k) v 0 ≡ firstFrom (touching bonds v) k (m - k)
+      → (v : ℕ) → v < length head → getD (set (set head e k) f k) v 0 ≡ firstFrom (touching bonds v) k (m - k)
   unfolding firstFrom touching
   head-step e f ee ef he hf v i =
       let d : m - k ≡ suc (m - suc k) = omega arith in
@@ -71,13 +71,14 @@ module _ {bonds : ℕ → Bond} {m : ℕ} (fit : BondsFit bonds maxAtoms m) (k :
       go false false p q = getD-set-other (set head e k) f v k 0 (λ x. eqb-false f v q (sym x)) ∙ getD-set-other head e v k 0 (λ x. eqb-false e v p (sym x)) ∙ l .heads v i
 
   -- the bond k is put in front
-  pub linked-step : length head ≡ maxAtoms → m ≤ length after → m ≤ length behind → (head2 after2 behind2 : List ℕ)
+  pub linked-step : bonds k .hi < length head → m ≤ length after → m ≤ length behind → (head2 after2 behind2 : List ℕ)
       → head2 ≡ set (set head (bonds k .lo) k) (bonds k .hi) k → after2 ≡ set after k (getD head (bonds k .lo) 0) → behind2 ≡ set behind k (getD head (bonds k .hi) 0)
       → Linked bonds m k head2 after2 behind2
   linked-step rh ra rb head2 after2 behind2 eh ea eb =
       let q = fit .ends k h in
+      let long : (v : ℕ) → v < length head2 → v < length head = λ v i. omega (arith, ap length eh, length-set (set head (bonds k .lo) k) (bonds k .hi) k, length-set head (bonds k .lo) k) in
       record {
-        heads = λ v i. ap (λ (t : List ℕ). getD t v 0) eh ∙ head-step (bonds k .lo) (bonds k .hi) refl refl (omega arith) (omega arith) v i;
+        heads = λ v i. ap (λ (t : List ℕ). getD t v 0) eh ∙ head-step (bonds k .lo) (bonds k .hi) refl refl (omega arith) (omega arith) v (long v i);
         afters = λ c i j. ap (λ (t : List ℕ). getD t c 0) ea ∙ behind-step (λ c. bonds c .lo) after (omega arith) (omega arith) (l .afters) c i j;
         behinds = λ c i j. ap (λ (t : List ℕ). getD t c 0) eb ∙ behind-step (λ c. bonds c .hi) behind (omega arith) (omega arith) (l .behinds) c i j;
       }
@@ -86,10 +87,10 @@ module _ {bonds : ℕ → Bond} {m : ℕ} {head after behind : List ℕ} (l : Li
   first-within : (v from : ℕ) → from ≤ m → firstFrom (touching bonds v) from (m - from) ≤ m
   first-within v from h = next-is bonds v m from (firstFrom (touching bonds v) from (m - from)) h refl .high
 
-  pub head-within : (v : ℕ) → v < maxAtoms → getD head v 0 ≤ m
+  pub head-within : (v : ℕ) → v < length head → getD head v 0 ≤ m
   head-within v h = rw (l .heads v h) (first-within v 0 (omega arith))
 
-  pub head-here : (v : ℕ) → v < maxAtoms → getD head v 0 < m → touching bonds v (getD head v 0) ≡ true
+  pub head-here : (v : ℕ) → v < length head → getD head v 0 < m → touching bonds v (getD head v 0) ≡ true
   head-here v h = next-is bonds v m 0 (getD head v 0) (omega arith) (l .heads v h) .here
 
   pub after-within : (b : ℕ) → b < m → (getD after b 0 ≤ m) × (getD behind b 0 ≤ m)

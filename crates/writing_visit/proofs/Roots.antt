@@ -172,7 +172,7 @@ pub laid-at : (l t : List ℕ) (x : ℕ) → x < length l → length l ≤ lengt
 laid-at l t x h g = let z : 0 + x ≡ x = omega arith in rw z at (lay-at l 0 t x h (omega arith))
 
 module _ {bonds : ℕ → Bond} {n m : ℕ} (fit : BondsFit bonds n m) where
-  pub sofar-end : (o v u k : List ℕ) (y : WalkArrays) (a : ℕ) → n ≤ a → Room o v u k → Sofar bonds n m (walkArrays o v u k 0) a y → Walked (upTo bonds 0 m) n (y .order) (y .number) (y .up) (y .kind)
+  pub sofar-end : (o v u k : List ℕ) (y : WalkArrays) (a : ℕ) → n ≤ a → Room n o v u k → Sofar bonds n m (walkArrays o v u k 0) a y → Walked (upTo bonds 0 m) n (y .order) (y .number) (y .up) (y .kind)
   unfolding walkMark lay
   sofar-end o v u k y a h room b =
       let bs = upTo bonds 0 m in

@@ -21,7 +21,7 @@ use Rattle.kinds.specs.Kind.{maxKind, order}
 use Rattle.writing_walk.specs.Token.{Bond, bond}
 use Rattle.writing.specs.Write.{walkBond, bondList}
 use Rattle.writing_visit.specs.Visit.{touching, firstFrom, BondsFit, Linked, Walked}
-use Rattle.writing_visit.specs.Wires.{wires, Wired, sumFrom, Places}
+use Rattle.writing_visit.specs.Wires.{wires, Wired, sumFrom, LinkRoom, Places}
 use Rattle.writing_visit.proofs.Lists.{linked-start, linked-cast, linked-step}
 
 -- bonds that agree below m
@@ -108,54 +108,62 @@ module _ (bonds : List ℤ) (m : ℕ) where
   zeros k zero = refl
   zeros k (suc len) = let z : m - m ≡ 0 = omega arith in rw (z, zeros (suc k) len)
 
-  pub sums-start : {s : List ℕ} → s ≡ replicate maxAtoms 0 → s ≡ upTo (sumFrom bonds m m) 0 maxAtoms
-  sums-start e = e ∙ zeros 0 maxAtoms
+  pub sums-start : {s : List ℕ} → s ≡ replicate (length s) 0 → s ≡ upTo (sumFrom bonds m m) 0 (length s)
+  sums-start {s} e = e ∙ zeros 0 (length s)
 
-  pub sums-before : (b : ℕ) {s t : List ℕ} → b < m → s ≡ upTo (sumFrom bonds m (suc b)) 0 maxAtoms → t ≡ sumsWithBond bonds b s → t ≡ upTo (sumFrom bonds m b) 0 maxAtoms
-  sums-before b {s} {t} h e q =
-      let n : length s ≡ maxAtoms = ap length e ∙ length-upTo (sumFrom bonds m (suc b)) 0 maxAtoms in
-      let n2 : length t ≡ maxAtoms = ap length q ∙ bond-length bonds b s ∙ n in
-      ext-getD 0 t (upTo (sumFrom bonds m b) 0 maxAtoms) (n2 ∙ sym (length-upTo (sumFrom bonds m b) 0 maxAtoms))
+  pub sums-before : (b len : ℕ) {s t : List ℕ} → b < m → s ≡ upTo (sumFrom bonds m (suc b)) 0 len → t ≡ sumsWithBond bonds b s → t ≡ upTo (sumFrom bonds m b) 0 len
+  sums-before b len {s} {t} h e q =
+      let n : length s ≡ len = ap length e ∙ length-upTo (sumFrom bonds m (suc b)) 0 len in
+      let n2 : length t ≡ len = ap length q ∙ bond-length bonds b s ∙ n in
+      ext-getD 0 t (upTo (sumFrom bonds m b) 0 len) (n2 ∙ sym (length-upTo (sumFrom bonds m b) 0 len))
       (λ a l.
-      let i : a < maxAtoms = omega arith in
+      let i : a < len = omega arith in
       let j : a < length s = omega arith in
       ap (λ (x : List ℕ). getD x a 0) q ∙ bond-at bonds b a s j
-      ∙ ap (λ (x : ℕ). x + share bonds a b) (ap (λ (x : List ℕ). getD x a 0) e ∙ upTo-at (sumFrom bonds m (suc b)) maxAtoms a 0 i)
-      ∙ sym (sum-before b a h) ∙ sym (upTo-at (sumFrom bonds m b) maxAtoms a 0 i))
+      ∙ ap (λ (x : ℕ). x + share bonds a b) (ap (λ (x : List ℕ). getD x a 0) e ∙ upTo-at (sumFrom bonds m (suc b)) len a 0 i)
+      ∙ sym (sum-before b a h) ∙ sym (upTo-at (sumFrom bonds m b) len a 0 i))
 
-  pub sums-bound : (b : ℕ) {s : List ℕ} → m ≤ maxBonds → s ≡ upTo (sumFrom bonds m b) 0 maxAtoms → (a : ℕ) → getD s a 0 ≤ 3 * maxBonds
+  pub sums-bound : (b len : ℕ) {s : List ℕ} → m ≤ maxBonds → s ≡ upTo (sumFrom bonds m b) 0 len → (a : ℕ) → getD s a 0 ≤ 3 * maxBonds
   unfolding sumFrom
-  sums-bound b h e a = rw e (go (ltb a maxAtoms) refl)
+  sums-bound b len h e a = rw e (go (ltb a len) refl)
     where
-      go : (t : Bool) → ltb a maxAtoms ≡ t → getD (upTo (sumFrom bonds m b) 0 maxAtoms) a 0 ≤ 3 * maxBonds
-      go true l = omega (arith, upTo-at (sumFrom bonds m b) maxAtoms a 0 (ltb-true a maxAtoms l), sum-small bonds a b (m - b) 0)
+      go : (t : Bool) → ltb a len ≡ t → getD (upTo (sumFrom bonds m b) 0 len) a 0 ≤ 3 * maxBonds
+      go true l = omega (arith, upTo-at (sumFrom bonds m b) len a 0 (ltb-true a len l), sum-small bonds a b (m - b) 0)
       go false l =
-          let w : length (upTo (sumFrom bonds m b) 0 maxAtoms) ≤ a = omega (arith, length-upTo (sumFrom bonds m b) 0 maxAtoms, ltb-false a maxAtoms l) in
-          omega (arith, List·getD-eq-default (upTo (sumFrom bonds m b) 0 maxAtoms) 0 w)
+          let w : length (upTo (sumFrom bonds m b) 0 len) ≤ a = omega (arith, length-upTo (sumFrom bonds m b) 0 len, ltb-false a len l) in
+          omega (arith, List·getD-eq-default (upTo (sumFrom bonds m b) 0 len) 0 w)
 
-  pub sums-whole : {s : List ℕ} → s ≡ upTo (sumFrom bonds m 0) 0 maxAtoms → s ≡ upTo (bondSum bonds m) 0 maxAtoms
+  pub sums-whole : (len : ℕ) {s : List ℕ} → s ≡ upTo (sumFrom bonds m 0) 0 len → s ≡ upTo (bondSum bonds m) 0 len
   unfolding sumFrom bondSum
-  sums-whole e = let z : m - 0 ≡ m = omega arith in e ∙ upTo-ext (sumFrom bonds m 0) (bondSum bonds m) 0 maxAtoms (λ a h. simp z)
+  sums-whole len e = let z : m - 0 ≡ m = omega arith in e ∙ upTo-ext (sumFrom bonds m 0) (bondSum bonds m) 0 len (λ a h. simp z)
 
 -- the bonds from b on are noted and linked
 pub record Noted (bonds : List ℤ) (m b : ℕ) (head after behind ea eb ks sums : List ℕ) : Type 0 where
   pub within : b ≤ m
   pub linked : Linked (walkBond bonds) m b head after behind
   pub wired : Wired bonds m b ea eb ks
-  pub summed : sums ≡ upTo (sumFrom bonds m b) 0 maxAtoms
-  pub heads : length head ≡ maxAtoms
-  pub places : Places after behind ea eb ks
+  pub summed : sums ≡ upTo (sumFrom bonds m b) 0 (length sums)
+  pub room : LinkRoom bonds m head after behind ea eb ks sums
+
+-- seven arrays are as long as they were
+pub record SameLengths (h a b e f k s h2 a2 b2 e2 f2 k2 s2 : List ℕ) : Type 0 where
+  pub head : length h2 ≡ length h
+  pub after : length a2 ≡ length a
+  pub behind : length b2 ≡ length b
+  pub firsts : length e2 ≡ length e
+  pub seconds : length f2 ≡ length f
+  pub kinds : length k2 ≡ length k
+  pub sums : length s2 ≡ length s
 
 module _ {bonds : List ℤ} {m : ℕ} where
-  pub noted-start : {head after behind ea eb ks sums : List ℕ} → head ≡ replicate maxAtoms m → sums ≡ replicate maxAtoms 0 → Places after behind ea eb ks → Noted bonds m m head after behind ea eb ks sums
+  pub noted-start : {head after behind ea eb ks sums : List ℕ} → head ≡ replicate (length head) m → sums ≡ replicate (length sums) 0 → LinkRoom bonds m head after behind ea eb ks sums → Noted bonds m m head after behind ea eb ks sums
   noted-start {head} {after} {behind} {ea} {eb} {ks} e z p =
       record {
         within = omega arith;
         linked = linked-start head after behind e;
         wired = wired-start ea eb ks;
         summed = sums-start bonds m z;
-        heads = ap length e ∙ length-replicate maxAtoms m;
-        places = p;
+        room = p;
       }
 
   module _ (fit : BondsFit (walkBond bonds) maxAtoms m) {b : ℕ} {head after behind ea eb ks sums : List ℕ} (n : Noted bonds m b head after behind ea eb ks sums) (some : 0 < b) where
@@ -163,31 +171,81 @@ module _ {bonds : List ℤ} {m : ℕ} where
         → (head2 after2 behind2 ea2 eb2 ks2 sums2 : List ℕ)
         → head2 ≡ set (set head e (b - 1)) f (b - 1) → after2 ≡ set after (b - 1) (getD head e 0) → behind2 ≡ set behind (b - 1) (getD head f 0)
         → ea2 ≡ set ea (b - 1) e → eb2 ≡ set eb (b - 1) f → ks2 ≡ set ks (b - 1) q → sums2 ≡ bump (bump sums e (order q)) f (order q)
-        → Noted bonds m (b - 1) head2 after2 behind2 ea2 eb2 ks2 sums2
+        → Noted bonds m (b - 1) head2 after2 behind2 ea2 eb2 ks2 sums2 × SameLengths head after behind ea eb ks sums head2 after2 behind2 ea2 eb2 ks2 sums2
     noted-step e f q ee ef eq head2 after2 behind2 ea2 eb2 ks2 sums2 ph pa pb p1 p2 pk ps =
         let d : b ≡ suc (b - 1) = omega arith in
         let h : b - 1 < m = omega (arith, n .within) in
         let w = fit .ends (b - 1) h in
-        let x = fit .few-bonds in
-        let r = n .places in
+        let r = n .room in
         let ne : e ≡ f → ⊥ = λ i. omega (arith, w .0) in
+        let lh : length head2 ≡ length head = ap length ph ∙ simp length-set in
         let la : length after2 ≡ length after = ap length pa ∙ simp length-set in
         let lb : length behind2 ≡ length behind = ap length pb ∙ simp length-set in
         let l1 : length ea2 ≡ length ea = ap length p1 ∙ simp length-set in
         let l2 : length eb2 ≡ length eb = ap length p2 ∙ simp length-set in
         let lk : length ks2 ≡ length ks = ap length pk ∙ simp length-set in
-        record {
-          within = omega arith;
-          linked = linked-step fit (b - 1) h head after behind (linked-cast b (suc (b - 1)) head after behind d (n .linked)) (n .heads) (omega (arith, r .after)) (omega (arith, r .behind)) head2 after2 behind2 (rw (← ee, ← ef) ph) (rw (← ee) pa) (rw (← ef) pb);
-          wired = wired-step (b - 1) ea eb ks (wired-cast b (suc (b - 1)) ea eb ks d (n .wired)) (omega (arith, r .firsts)) (omega (arith, r .seconds)) (omega (arith, r .kinds)) e f q ee ef eq ea2 eb2 ks2 p1 p2 pk;
-          summed = sums-before bonds m (b - 1) h (n .summed ∙ ap (λ (j : ℕ). upTo (sumFrom bonds m j) 0 maxAtoms) d) (two-ends bonds (b - 1) sums ee ef eq refl ne refl ps);
-          heads = ap length ph ∙ simp length-set (n .heads);
-          places = record { after = omega (arith, r .after); behind = omega (arith, r .behind); firsts = omega (arith, r .firsts); seconds = omega (arith, r .seconds); kinds = omega (arith, r .kinds) };
-        }
+        let ls : length sums2 ≡ length sums = ap length ps ∙ simp length-set in
+        let sm = sums-before bonds m (b - 1) (length sums) h (n .summed ∙ ap (λ (j : ℕ). upTo (sumFrom bonds m j) 0 (length sums)) d) (two-ends bonds (b - 1) sums ee ef eq refl ne refl ps) in (
+          record {
+            within = omega arith;
+            linked = linked-step fit (b - 1) h head after behind (linked-cast b (suc (b - 1)) head after behind d (n .linked)) (r .heads (b - 1) h) (r .afters) (r .behinds) head2 after2 behind2 (rw (← ee, ← ef) ph) (rw (← ee) pa) (rw (← ef) pb);
+            wired = wired-step (b - 1) ea eb ks (wired-cast b (suc (b - 1)) ea eb ks d (n .wired)) (omega (arith, r .firsts)) (omega (arith, r .seconds)) (omega (arith, r .kinds)) e f q ee ef eq ea2 eb2 ks2 p1 p2 pk;
+            summed = sm ∙ ap (upTo (sumFrom bonds m (b - 1)) 0) (sym ls);
+            room = record {
+              heads = λ c i. omega (arith, r .heads c i);
+              afters = omega (arith, r .afters);
+              behinds = omega (arith, r .behinds);
+              firsts = omega (arith, r .firsts);
+              seconds = omega (arith, r .seconds);
+              kinds = omega (arith, r .kinds);
+              summed = λ c i. omega (arith, r .summed c i);
+            };
+          },
+          record { head = lh; after = la; behind = lb; firsts = l1; seconds = l2; kinds = lk; sums = ls },
+        )
 
   pub noted-end : {b : ℕ} {head after behind ea eb ks sums : List ℕ} → Noted bonds m b head after behind ea eb ks sums → b ≤ 0
-      → Linked (wires ea eb ks) m 0 head after behind × Wired bonds m 0 ea eb ks × (sums ≡ upTo (bondSum bonds m) 0 maxAtoms)
+      → Linked (wires ea eb ks) m 0 head after behind × Wired bonds m 0 ea eb ks × (sums ≡ upTo (bondSum bonds m) 0 (length sums))
   noted-end {b} {head} {after} {behind} {ea} {eb} {ks} {sums} n z =
       let d : b ≡ 0 = omega arith in
       let w = wired-cast b 0 ea eb ks d (n .wired) in
-      (linked-same (wired-at w) (linked-cast b 0 head after behind d (n .linked)), w, sums-whole bonds m (n .summed ∙ ap (λ (j : ℕ). upTo (sumFrom bonds m j) 0 maxAtoms) d))
+      (linked-same (wired-at w) (linked-cast b 0 head after behind d (n .linked)), w, sums-whole bonds m (length sums) (n .summed ∙ ap (λ (j : ℕ). upTo (sumFrom bonds m j) 0 (length sums)) d))
+
+pub same-lengths : {h a b e f k s : List ℕ} → SameLengths h a b e f k s h a b e f k s
+same-lengths = record { head = refl; after = refl; behind = refl; firsts = refl; seconds = refl; kinds = refl; sums = refl }
+
+pub lengths-then : {h a b e f k s h2 a2 b2 e2 f2 k2 s2 h3 a3 b3 e3 f3 k3 s3 : List ℕ} → SameLengths h a b e f k s h2 a2 b2 e2 f2 k2 s2 → SameLengths h2 a2 b2 e2 f2 k2 s2 h3 a3 b3 e3 f3 k3 s3 → SameLengths h a b e f k s h3 a3 b3 e3 f3 k3 s3
+lengths-then x y =
+    record {
+      head = y .head ∙ x .head;
+      after = y .after ∙ x .after;
+      behind = y .behind ∙ x .behind;
+      firsts = y .firsts ∙ x .firsts;
+      seconds = y .seconds ∙ x .seconds;
+      kinds = y .kinds ∙ x .kinds;
+      sums = y .sums ∙ x .sums;
+    }
+
+-- the arrays of n atoms and m bonds have room for what is linked
+pub link-room : {bonds : List ℤ} {n m : ℕ} {head after behind ea eb ks sums : List ℕ} → BondsFit (walkBond bonds) n m → Places n m head after behind ea eb ks → n ≤ length sums → LinkRoom bonds m head after behind ea eb ks sums
+link-room fit p s =
+    record {
+      heads = λ b h. omega (arith, fit .ends b h .1, p .heads);
+      afters = p .afters;
+      behinds = p .behinds;
+      firsts = p .firsts;
+      seconds = p .seconds;
+      kinds = p .kinds;
+      summed = λ b h. omega (arith, fit .ends b h .1, s);
+    }
+
+pub places-kept : {n m : ℕ} {h a b e f k h2 a2 b2 e2 f2 k2 : List ℕ} → Places n m h a b e f k → length h2 ≡ length h → length a2 ≡ length a → length b2 ≡ length b → length e2 ≡ length e → length f2 ≡ length f → length k2 ≡ length k → Places n m h2 a2 b2 e2 f2 k2
+places-kept p h a b e f k =
+    record {
+      heads = omega (arith, p .heads, h);
+      afters = omega (arith, p .afters, a);
+      behinds = omega (arith, p .behinds, b);
+      firsts = omega (arith, p .firsts, e);
+      seconds = omega (arith, p .seconds, f);
+      kinds = omega (arith, p .kinds, k);
+    }

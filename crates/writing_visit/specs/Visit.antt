@@ -66,16 +66,16 @@ pub record BondsFit (bonds : ℕ → Bond) (n m : ℕ) : Type 0 where
 
 -- the bonds from b on as lists: the first one at each atom, and behind each bond the next one at either end; m where there is none
 pub record Linked (bonds : ℕ → Bond) (m b : ℕ) (head after behind : List ℕ) : Type 0 where
-  pub heads : (v : ℕ) → v < maxAtoms → getD head v 0 ≡ firstFrom (touching bonds v) b (m - b)
+  pub heads : (v : ℕ) → v < length head → getD head v 0 ≡ firstFrom (touching bonds v) b (m - b)
   pub afters : (c : ℕ) → b ≤ c → c < m → getD after c 0 ≡ firstFrom (touching bonds (bonds c .lo)) (suc c) (m - suc c)
   pub behinds : (c : ℕ) → b ≤ c → c < m → getD behind c 0 ≡ firstFrom (touching bonds (bonds c .hi)) (suc c) (m - suc c)
 
--- the arrays have room
-pub record Room (o v u k : List ℕ) : Type 0 where
-  pub order : maxAtoms ≤ length o
-  pub number : maxAtoms ≤ length v
-  pub up : maxAtoms ≤ length u
-  pub kind : maxAtoms ≤ length k
+-- the arrays have room for n atoms
+pub record Room (n : ℕ) (o v u k : List ℕ) : Type 0 where
+  pub order : n ≤ length o
+  pub number : n ≤ length v
+  pub up : n ≤ length u
+  pub kind : n ≤ length k
 
 -- the arrays are as long as they were
 pub record Kept (o v u k o2 v2 u2 k2 : List ℕ) : Type 0 where

@@ -5,7 +5,6 @@ use mathlib.Core.List.{List}
 use lib.ListN.{length, getD}
 use lib.IntN.{ℤ}
 use Rattle.loops.specs.Loop.{run}
-use Rattle.table.specs.Limits.{maxBonds}
 use Rattle.table.specs.Cells.{end1, end2, kind}
 use Rattle.table_graph.specs.Graph.{addShare}
 use Rattle.writing_walk.specs.Token.{Bond, bond}
@@ -24,10 +23,21 @@ pub record Wired (bonds : List ℤ) (m b : ℕ) (ea eb ks : List ℕ) : Type 0 w
 unfoldable pub sumFrom : List ℤ → ℕ → ℕ → ℕ → ℕ
 sumFrom bonds m b a = run (addShare bonds a) b (m - b) 0
 
--- the arrays have a place for each bond
-pub record Places (a b ea eb ks : List ℕ) : Type 0 where
-  pub after : maxBonds ≤ length a
-  pub behind : maxBonds ≤ length b
-  pub firsts : maxBonds ≤ length ea
-  pub seconds : maxBonds ≤ length eb
-  pub kinds : maxBonds ≤ length ks
+-- the arrays have a place for each of m bonds and a head and a sum for each of their ends
+pub record LinkRoom (bonds : List ℤ) (m : ℕ) (head after behind ea eb ks sums : List ℕ) : Type 0 where
+  pub heads : (b : ℕ) → b < m → end2 bonds b < length head
+  pub afters : m ≤ length after
+  pub behinds : m ≤ length behind
+  pub firsts : m ≤ length ea
+  pub seconds : m ≤ length eb
+  pub kinds : m ≤ length ks
+  pub summed : (b : ℕ) → b < m → end2 bonds b < length sums
+
+-- the arrays have a place for each of n atoms and m bonds
+pub record Places (n m : ℕ) (head after behind ea eb ks : List ℕ) : Type 0 where
+  pub heads : n ≤ length head
+  pub afters : m ≤ length after
+  pub behinds : m ≤ length behind
+  pub firsts : m ≤ length ea
+  pub seconds : m ≤ length eb
+  pub kinds : m ≤ length ks

@@ -12,11 +12,9 @@ ghost use Rattle.table_graph.specs.Graph.{bondSum};
 ghost use Rattle.table_graph.specs.Built.{bump};
 ghost use Rattle.writing.specs.Write.{walkBond, bondList};
 ghost use Rattle.writing_visit.specs.Visit.{touching, grow, rootForest, BondsFit, Linked, Room, Kept, walkArrays, Grown, Walked};
-ghost use Rattle.writing_visit.specs.Wires.{wires, Wired, Places};
+ghost use Rattle.writing_visit.specs.Wires.{wires, Wired, LinkRoom, Places};
 use ids::AtomId;
 use ids::BondId;
-use table::MAX_ATOMS;
-use table::MAX_BONDS;
 
 // The number of an atom in the walk, which is its number in the written text.
 pub struct WalkNumber(pub usize);
@@ -43,15 +41,9 @@ fn read_bond(bonds: &[i32], b: BondId) -> Wire
 }
 
 // Notes a bond: its ends, its kind, and its order at the bond sums of its ends.
-fn note_bond(
-    b: BondId,
-    x: Wire,
-    ea: &mut [u16; MAX_BONDS],
-    eb: &mut [u16; MAX_BONDS],
-    ks: &mut [u8; MAX_BONDS],
-    sums: &mut [u16; MAX_ATOMS],
-)
-    requires { ⌜ b .0 < maxBonds ⌝ }
+fn note_bond(b: BondId, x: Wire, ea: &mut [u16], eb: &mut [u16], ks: &mut [u8], sums: &mut [u16])
+    requires { ⌜ (b .0 < length (now ea)) × (b .0 < length (now eb)) ⌝ }
+    requires { ⌜ (b .0 < length (now ks)) × (x .second .0 < length (now sums)) ⌝ }
     requires { ⌜ (x .first .0 < x .second .0) × (x .second .0 < maxAtoms) ⌝ }
     requires { ⌜ x .kind ≤ maxKind ⌝ }
     requires { ⌜ ((a : ℕ) → getD (now sums) a 0 ≤ 3 * maxBonds) ⌝ }
@@ -72,15 +64,10 @@ fn note_bond(
 }
 
 // Puts a bond in front of the lists of its two ends.
-fn link_bond(
-    b: BondId,
-    x: Wire,
-    head: &mut [u16; MAX_ATOMS],
-    after: &mut [u16; MAX_BONDS],
-    behind: &mut [u16; MAX_BONDS],
-)
+fn link_bond(b: BondId, x: Wire, head: &mut [u16], after: &mut [u16], behind: &mut [u16])
     requires { ⌜ b .0 < maxBonds ⌝ }
-    requires { ⌜ (x .first .0 < maxAtoms) × (x .second .0 < maxAtoms) ⌝ }
+    requires { ⌜ (b .0 < length (now after)) × (b .0 < length (now behind)) ⌝ }
+    requires { ⌜ (x .first .0 < length (now head)) × (x .second .0 < length (now head)) ⌝ }
     ensures { λ _. ⌜ now (head .exit) ≡ set (set (now (head .entry)) (x .first .0) (b .0)) (x .second .0) (b .0) ⌝ }
     ensures { λ _. ⌜ now (after .exit) ≡ set (now (after .entry)) (b .0) (getD (now (head .entry)) (x .first .0) 0) ⌝ }
     ensures { λ _. ⌜ now (behind .exit) ≡ set (now (behind .entry)) (b .0) (getD (now (head .entry)) (x .second .0) 0) ⌝ }
@@ -98,20 +85,20 @@ fn link_bond(
 fn link(
     bonds: &[i32],
     m: usize,
-    head: &mut [u16; MAX_ATOMS],
-    after: &mut [u16; MAX_BONDS],
-    behind: &mut [u16; MAX_BONDS],
-    ea: &mut [u16; MAX_BONDS],
-    eb: &mut [u16; MAX_BONDS],
-    ks: &mut [u8; MAX_BONDS],
-    sums: &mut [u16; MAX_ATOMS],
+    head: &mut [u16],
+    after: &mut [u16],
+    behind: &mut [u16],
+    ea: &mut [u16],
+    eb: &mut [u16],
+    ks: &mut [u8],
+    sums: &mut [u16],
 )
     requires { ⌜ BondsFit (walkBond (now bonds)) maxAtoms m ⌝ }
-    requires { ⌜ (now head ≡ replicate maxAtoms m) × (now sums ≡ replicate maxAtoms 0) ⌝ }
-    requires { ⌜ Places (now after) (now behind) (now ea) (now eb) (now ks) ⌝ }
+    requires { ⌜ (now head ≡ replicate (length (now head)) m) × (now sums ≡ replicate (length (now sums)) 0) ⌝ }
+    requires { ⌜ LinkRoom (now bonds) m (now head) (now after) (now behind) (now ea) (now eb) (now ks) (now sums) ⌝ }
     ensures { λ _. ⌜ Linked (wires (now (ea .exit)) (now (eb .exit)) (now (ks .exit))) m 0 (now (head .exit)) (now (after .exit)) (now (behind .exit)) ⌝ }
     ensures { λ _. ⌜ Wired (now (bonds .entry)) m 0 (now (ea .exit)) (now (eb .exit)) (now (ks .exit)) ⌝ }
-    ensures { λ _. ⌜ now (sums .exit) ≡ upTo (bondSum (now (bonds .entry)) m) 0 maxAtoms ⌝ }
+    ensures { λ _. ⌜ now (sums .exit) ≡ upTo (bondSum (now (bonds .entry)) m) 0 (length (now (sums .entry))) ⌝ }
 {
     let mut b = m;
     while 0 < b {
@@ -131,15 +118,17 @@ struct Step {
 
 // The other end of a bond at an atom, its kind as seen from there, and the next bond at the atom behind it; m where there is none.
 fn follow(
-    ea: &[u16; MAX_BONDS],
-    eb: &[u16; MAX_BONDS],
-    ks: &[u8; MAX_BONDS],
-    after: &[u16; MAX_BONDS],
-    behind: &[u16; MAX_BONDS],
+    ea: &[u16],
+    eb: &[u16],
+    ks: &[u8],
+    after: &[u16],
+    behind: &[u16],
     b: BondId,
     v: AtomId,
 ) -> Step
-    requires { ⌜ b .0 < maxBonds ⌝ }
+    requires { ⌜ (b .0 < length (now ea)) × (b .0 < length (now eb)) ⌝ }
+    requires { ⌜ (b .0 < length (now after)) × (b .0 < length (now behind)) ⌝ }
+    requires { ⌜ b .0 < length (now ks) ⌝ }
     requires { ⌜ (getD (now ea) (b .0) 0 < maxAtoms) × (getD (now eb) (b .0) 0 < maxAtoms) ⌝ }
     requires { ⌜ (getD (now after) (b .0) 0 ≤ maxBonds) × (getD (now behind) (b .0) 0 ≤ maxBonds) ⌝ }
     ensures { λ r. ⌜ r .other .0 ≡ pick (eqb (getD (now (ea .entry)) (b .0) 0) (v .0)) (getD (now (eb .entry)) (b .0) 0) (getD (now (ea .entry)) (b .0) 0) ⌝ }
@@ -169,16 +158,18 @@ fn follow(
 
 // One more atom is visited, with its parent's walk number plus 1 and the kind of the bond to it.
 fn add(
-    order: &mut [u16; MAX_ATOMS],
-    number: &mut [u16; MAX_ATOMS],
-    up: &mut [u16; MAX_ATOMS],
-    kind: &mut [u8; MAX_ATOMS],
+    order: &mut [u16],
+    number: &mut [u16],
+    up: &mut [u16],
+    kind: &mut [u8],
     v: AtomId,
     parent: usize,
     k: u8,
     count: usize,
 )
     requires { ⌜ (v .0 < maxAtoms) × (count < maxAtoms) ⌝ }
+    requires { ⌜ (count < length (now order)) × (v .0 < length (now number)) ⌝ }
+    requires { ⌜ (count < length (now up)) × (count < length (now kind)) ⌝ }
     requires { ⌜ parent ≤ maxAtoms ⌝ }
     ensures { λ _. ⌜ now (order .exit) ≡ set (now (order .entry)) count (v .0) ⌝ }
     ensures { λ _. ⌜ now (number .exit) ≡ set (now (number .entry)) (v .0) (count + 1) ⌝ }
@@ -192,40 +183,42 @@ fn add(
     kind[count] = k;
 }
 
-// The part of the walk at an atom, from one of its bonds on (m for none): each atom not yet visited, with all that is reached from it first. The number of atoms visited then.
+// The part of the walk at an atom, from one of its bonds on (m for none): each atom not yet visited, with all that is reached from it first. The number of atoms visited then. Behind the last bond of an atom the walk goes on in the same turn, so that it calls itself only where it comes back.
 fn visit(
-    ea: &[u16; MAX_BONDS],
-    eb: &[u16; MAX_BONDS],
-    ks: &[u8; MAX_BONDS],
+    ea: &[u16],
+    eb: &[u16],
+    ks: &[u8],
     n: usize,
     m: usize,
-    head: &[u16; MAX_ATOMS],
-    after: &[u16; MAX_BONDS],
-    behind: &[u16; MAX_BONDS],
-    order: &mut [u16; MAX_ATOMS],
-    number: &mut [u16; MAX_ATOMS],
-    up: &mut [u16; MAX_ATOMS],
-    kind: &mut [u8; MAX_ATOMS],
+    head: &[u16],
+    after: &[u16],
+    behind: &[u16],
+    order: &mut [u16],
+    number: &mut [u16],
+    up: &mut [u16],
+    kind: &mut [u8],
     v: AtomId,
     hub: WalkNumber,
     from: BondId,
     count: usize,
 ) -> usize
     requires { ⌜ BondsFit (wires (now ea) (now eb) (now ks)) n m ⌝ }
+    requires { ⌜ Places n m (now head) (now after) (now behind) (now ea) (now eb) (now ks) ⌝ }
     requires { ⌜ Linked (wires (now ea) (now eb) (now ks)) m 0 (now head) (now after) (now behind) ⌝ }
-    requires { ⌜ Room (now order) (now number) (now up) (now kind) ⌝ }
+    requires { ⌜ Room n (now order) (now number) (now up) (now kind) ⌝ }
     requires { ⌜ (hub .0 < maxAtoms) × (from .0 ≤ m) ⌝ }
     requires { ⌜ (from .0 < m → touching (wires (now ea) (now eb) (now ks)) (v .0) (from .0) ≡ true) ⌝ }
     ensures { λ r. ⌜ Grown n (suc (hub .0)) (grow (wires (now (ea .entry)) (now (eb .entry)) (now (ks .entry))) n m (v .0) (from .0)) (walkArrays (now (order .entry)) (now (number .entry)) (now (up .entry)) (now (kind .entry)) count) (walkArrays (now (order .exit)) (now (number .exit)) (now (up .exit)) (now (kind .exit)) r) ⌝ }
     ensures { λ _. ⌜ Kept (now (order .entry)) (now (number .entry)) (now (up .entry)) (now (kind .entry)) (now (order .exit)) (now (number .exit)) (now (up .exit)) (now (kind .exit)) ⌝ }
 {
+    let mut here = v.0;
+    let mut parent = hub.0;
     let mut b = from.0;
     let mut next = count;
     while b < m {
         let i = b;
-        let seen = follow(ea, eb, ks, after, behind, BondId(i), v);
-        let w = seen.other;
-        let a = w.0;
+        let seen = follow(ea, eb, ks, after, behind, BondId(i), AtomId(here));
+        let a = seen.other.0;
         b = seen.next.0;
         if number[a] != 0 {
             continue;
@@ -233,8 +226,15 @@ fn visit(
         if n <= next {
             return next;
         }
-        add(order, number, up, kind, w, hub.0 + 1, seen.kind, next);
+        add(order, number, up, kind, AtomId(a), parent + 1, seen.kind, next);
         let start = head[a] as usize;
+        if m <= b {
+            here = a;
+            parent = next;
+            b = start;
+            next += 1;
+            continue;
+        }
         next = visit(
             ea,
             eb,
@@ -248,7 +248,7 @@ fn visit(
             number,
             up,
             kind,
-            w,
+            AtomId(a),
             WalkNumber(next),
             BondId(start),
             next + 1,
@@ -259,24 +259,25 @@ fn visit(
 
 // A root of the walk, if the atom was not visited, with all that is reached from it. The number of atoms visited then.
 fn root(
-    ea: &[u16; MAX_BONDS],
-    eb: &[u16; MAX_BONDS],
-    ks: &[u8; MAX_BONDS],
+    ea: &[u16],
+    eb: &[u16],
+    ks: &[u8],
     n: usize,
     m: usize,
-    head: &[u16; MAX_ATOMS],
-    after: &[u16; MAX_BONDS],
-    behind: &[u16; MAX_BONDS],
-    order: &mut [u16; MAX_ATOMS],
-    number: &mut [u16; MAX_ATOMS],
-    up: &mut [u16; MAX_ATOMS],
-    kind: &mut [u8; MAX_ATOMS],
+    head: &[u16],
+    after: &[u16],
+    behind: &[u16],
+    order: &mut [u16],
+    number: &mut [u16],
+    up: &mut [u16],
+    kind: &mut [u8],
     a: AtomId,
     count: usize,
 ) -> usize
     requires { ⌜ BondsFit (wires (now ea) (now eb) (now ks)) n m ⌝ }
+    requires { ⌜ Places n m (now head) (now after) (now behind) (now ea) (now eb) (now ks) ⌝ }
     requires { ⌜ Linked (wires (now ea) (now eb) (now ks)) m 0 (now head) (now after) (now behind) ⌝ }
-    requires { ⌜ Room (now order) (now number) (now up) (now kind) ⌝ }
+    requires { ⌜ Room n (now order) (now number) (now up) (now kind) ⌝ }
     requires { ⌜ a .0 < n ⌝ }
     ensures { λ r. ⌜ Grown n 0 (rootForest (wires (now (ea .entry)) (now (eb .entry)) (now (ks .entry))) n m (a .0)) (walkArrays (now (order .entry)) (now (number .entry)) (now (up .entry)) (now (kind .entry)) count) (walkArrays (now (order .exit)) (now (number .exit)) (now (up .exit)) (now (kind .exit)) r) ⌝ }
     ensures { λ _. ⌜ Kept (now (order .entry)) (now (number .entry)) (now (up .entry)) (now (kind .entry)) (now (order .exit)) (now (number .exit)) (now (up .exit)) (now (kind .exit)) ⌝ }
@@ -310,44 +311,35 @@ fn root(
     )
 }
 
-// internal: the walk of a molecule, by walk number: the atom, its parent's walk number plus 1 (0 for a root) and the kind of the bond to it; and each atom's walk number plus 1. Also the bonds: their ends, their kinds and the bond sums.
+// internal: the walk of a molecule, by walk number: the atom, its parent's walk number plus 1 (0 for a root) and the kind of the bond to it; and each atom's walk number plus 1. Also the bonds: their ends, their kinds and the bond sums. Three buffers, the first of them all m, are for the bonds at each atom.
 pub fn walk(
     bonds: &[i32],
     n: usize,
     m: usize,
-    order: &mut [u16; MAX_ATOMS],
-    number: &mut [u16; MAX_ATOMS],
-    up: &mut [u16; MAX_ATOMS],
-    kind: &mut [u8; MAX_ATOMS],
-    ea: &mut [u16; MAX_BONDS],
-    eb: &mut [u16; MAX_BONDS],
-    ks: &mut [u8; MAX_BONDS],
-    sums: &mut [u16; MAX_ATOMS],
+    order: &mut [u16],
+    number: &mut [u16],
+    up: &mut [u16],
+    kind: &mut [u8],
+    ea: &mut [u16],
+    eb: &mut [u16],
+    ks: &mut [u8],
+    sums: &mut [u16],
+    head: &mut [u16],
+    after: &mut [u16],
+    behind: &mut [u16],
 )
     requires { ⌜ BondsFit (walkBond (now bonds)) n m ⌝ }
-    requires { ⌜ Room (now order) (now number) (now up) (now kind) ⌝ }
+    requires { ⌜ Room n (now order) (now number) (now up) (now kind) ⌝ }
     requires { ⌜ now number ≡ replicate (length (now number)) 0 ⌝ }
-    requires { ⌜ (maxBonds ≤ length (now ea)) × (maxBonds ≤ length (now eb)) ⌝ }
-    requires { ⌜ (maxBonds ≤ length (now ks)) × (now sums ≡ replicate maxAtoms 0) ⌝ }
+    requires { ⌜ (now head ≡ replicate (length (now head)) m) × (now sums ≡ replicate (length (now sums)) 0) ⌝ }
+    requires { ⌜ Places n m (now head) (now after) (now behind) (now ea) (now eb) (now ks) ⌝ }
+    requires { ⌜ n ≤ length (now sums) ⌝ }
     ensures { λ _. ⌜ Walked (bondList (now (bonds .entry)) m) n (now (order .exit)) (now (number .exit)) (now (up .exit)) (now (kind .exit)) ⌝ }
     ensures { λ _. ⌜ Kept (now (order .entry)) (now (number .entry)) (now (up .entry)) (now (kind .entry)) (now (order .exit)) (now (number .exit)) (now (up .exit)) (now (kind .exit)) ⌝ }
     ensures { λ _. ⌜ Wired (now (bonds .entry)) m 0 (now (ea .exit)) (now (eb .exit)) (now (ks .exit)) ⌝ }
-    ensures { λ _. ⌜ now (sums .exit) ≡ upTo (bondSum (now (bonds .entry)) m) 0 maxAtoms ⌝ }
+    ensures { λ _. ⌜ now (sums .exit) ≡ upTo (bondSum (now (bonds .entry)) m) 0 (length (now (sums .entry))) ⌝ }
 {
-    let mut head = [m as u16; MAX_ATOMS];
-    let mut after = [0u16; MAX_BONDS];
-    let mut behind = [0u16; MAX_BONDS];
-    link(
-        bonds,
-        m,
-        &mut head,
-        &mut after,
-        &mut behind,
-        ea,
-        eb,
-        ks,
-        sums,
-    );
+    link(bonds, m, head, after, behind, ea, eb, ks, sums);
     let mut count = 0;
     let mut a = 0;
     while a < n {
@@ -357,9 +349,9 @@ pub fn walk(
             ks,
             n,
             m,
-            &head,
-            &after,
-            &behind,
+            head,
+            after,
+            behind,
             order,
             number,
             up,

@@ -18,9 +18,13 @@ mod symbol;
 pub mod tables;
 
 pub use molecule::{Matchings, Molecule, Written};
-pub use refusal::{Code, Refusal};
+pub use refusal::{Code, Excerpt, Refusal};
 pub use register::{Damage, Entries, Register};
 #[cfg(unix)]
 pub use register_file::{FileError, RegisterFile};
 pub use report::{report, report_into};
 pub use symbol::{symbol, Symbol};
+
+/// The edition of the rules: it grows with each change of an answer (`include/balsa.h` lists them).
+/// What is stored of answers is good for one edition.
+pub const EDITION: u32 = 5;

@@ -282,7 +282,7 @@ impl fmt::Display for FileError {
             FileError::Damaged(damage) => {
                 write!(f, "refusal {}: {damage}", damage.code().number())
             }
-            FileError::Refused(code) => write!(f, "refusal {} ({code:?})", code.number()),
+            FileError::Refused(code) => code.fmt(f),
             FileError::Stale => write!(f, "what the file holds is not known: open it anew"),
         }
     }

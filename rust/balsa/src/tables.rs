@@ -4,15 +4,15 @@ use crate::ffi;
 use crate::refusal::{Code, Refusal};
 
 /// Cells of a full atom table.
-pub const ATOM_TABLE: usize = 1200;
+pub const ATOM_TABLE: usize = 6000;
 /// Cells of a full bond table.
-pub const BOND_TABLE: usize = 750;
+pub const BOND_TABLE: usize = 3300;
 /// Cells of a matching row.
-pub const ROW: usize = 250;
+pub const ROW: usize = 1100;
 /// Cells of a renumbering.
-pub const RENUMBERING: usize = 200;
+pub const RENUMBERING: usize = 1000;
 /// Bytes of the longest text.
-pub const TEXT: usize = 4096;
+pub const TEXT: usize = 16_384;
 
 /// How many atoms and bonds the tables hold.
 #[derive(Clone, Copy, Debug, Default, PartialEq, Eq)]

@@ -29,12 +29,12 @@ fn lines_end_with_byte_10_alone() {
 
 #[test]
 fn lines_over_the_limit_are_refused_whole() {
-    let mut input = vec![b'C'; 4097];
+    let mut input = vec![b'C'; 16_385];
     input.extend_from_slice(b"\n");
     input.extend(vec![b'('; 100_000]);
     assert_eq!(
         report(&input),
-        b"balsa report\n1: 2 4096\n2: 2 4096\naccepted 0 refused 2\n"
+        b"balsa report\n1: 2 16384\n2: 2 16384\naccepted 0 refused 2\n"
     );
 }
 

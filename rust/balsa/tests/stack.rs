@@ -1,27 +1,30 @@
-//! Reading needs no more than 192 KiB of stack: a thread that has no more reads what nests and searches deepest.
+//! No call needs more than 512 KiB of stack: threads that have no more make each call on what nests,
+//! walks and searches deepest.
 
-use balsa::tables::{self, Counts, ATOM_TABLE, BOND_TABLE};
+mod graphs;
+
+use balsa::tables::{self, Counts, ATOM_TABLE, BOND_TABLE, RENUMBERING, ROW, TEXT};
 use balsa::Code;
+use graphs::{families, Graph};
 use std::thread;
 
-const STACK: usize = 192 * 1024;
+const STACK: usize = 512 * 1024;
 
-/// 56 hexagons in a parallelogram.
-const HEXAGONS: &str = "c1cc2cc3cc4cc5cc6cc7ccc8c9c7c7c6c6c5c5c4c4c3c3c2c(c1)cc1c3c2c4c3c5c4c6c5c7c6c9c7c(c8)cc8c9c7c7c6c6c5c5c4c4c3c3c2c(c1)cc1c3c2c4c3c5c4c6c5c7c6c9c7c(c8)cc8c9c7c7c6c6c5c5c4c4c3c3c2c(c1)cc1c3c2c4c3c5c4c6c5c7c6c9c7c(c8)cc8c9c7c7c6c6c5c5c4c4c3c3c2c(c1)ccc3cc4cc5cc6cc7cc9ccc8";
+/// Runs a task on a thread with little stack.
+fn on_little_stack<T: Send + 'static>(task: impl FnOnce() -> T + Send + 'static) -> T {
+    thread::Builder::new()
+        .stack_size(STACK)
+        .spawn(task)
+        .expect("a thread starts")
+        .join()
+        .expect("the call ends")
+}
 
-/// Hexagons without two corners of one kind: no matching, and no short reason for a plain search.
-const WITHOUT_CORNERS: &str = "Cccc1c2ccc3cc4cc5cc6ccc7c8c6c6c5c5c4c4c3c2c2c(c1)cc1c3c2c4c2c5c4c6c5c8c6c(c7)cc7c8c6c6c5c5c4c4c2c3c2c(c1)cc1c3c2c4c2c5c4c6c5c8c6c(c7)cc7c8c6c6c5c5c4c4c2c3c2c(c1)cc1c3c2c4c2c5c4c6c5c8c6c(c7)cc7c8c6c6c5c5c4c4c2c3c2c(c1)ccc1c2c4c2c5c3c6c4c8c(c(c7)cC)c(cc4cc3cc2c1)cC";
-
-/// Reads a text on a thread with little stack: the counts, or the refusal's code.
+/// Reads a text: the counts, or the refusal's code.
 fn read(text: String) -> Result<Counts, Code> {
     let mut atoms = vec![0; ATOM_TABLE];
     let mut bonds = vec![0; BOND_TABLE];
-    thread::Builder::new()
-        .stack_size(STACK)
-        .spawn(move || tables::read(text.as_bytes(), &mut atoms, &mut bonds))
-        .expect("a thread starts")
-        .join()
-        .expect("reading ends")
+    on_little_stack(move || tables::read(text.as_bytes(), &mut atoms, &mut bonds))
         .map(|read| read.counts)
         .map_err(|refusal| refusal.code)
 }
@@ -38,21 +41,47 @@ fn nested_branches() {
     assert_eq!(read(deeper), Err(Code::DeepBranch));
 }
 
+/// Nested branches before a ring of many selected atoms, in the longest text.
 #[test]
-fn long_chain() {
+fn nested_and_long() {
+    let nested = format!("C{}{}", "(C".repeat(64), ")".repeat(64));
+    let text = format!("{nested}.c1{}c1", "c".repeat(932));
     let counts = Counts {
-        atoms: 200,
-        bonds: 199,
+        atoms: 999,
+        bonds: 998,
     };
-    assert_eq!(read(format!("C{}C", "c".repeat(198))), Ok(counts));
+    assert_eq!(read(text), Ok(counts));
+    let chain = "C".repeat(13) + &"-[999CoH9-9:9999]".repeat(963);
+    assert!(read(chain).is_ok());
 }
 
+/// Every call on tables, and reading what was written.
 #[test]
-fn many_hexagons() {
-    let counts = Counts {
-        atoms: 142,
-        bonds: 197,
-    };
-    assert_eq!(read(HEXAGONS.to_string()), Ok(counts));
-    assert_eq!(read(WITHOUT_CORNERS.to_string()), Err(Code::Unmatchable));
+fn all_calls_near_the_limits() {
+    let one_chain = Graph::rings(&[1000]).descending();
+    let graphs = families().into_iter().map(|(_, graph, _)| graph);
+    for graph in graphs.chain([one_chain]) {
+        on_little_stack(move || {
+            let (mut atoms, mut bonds, counts) = graph.tables();
+            let mut row = vec![0; ROW];
+            let mut text = vec![0; TEXT];
+            let mut numbers = vec![0; RENUMBERING];
+            assert_eq!(tables::check(&atoms, &bonds, counts), Ok(()));
+            let written = tables::write(&atoms, &bonds, counts, &mut text, &mut numbers);
+            let first = tables::first(&atoms, &bonds, counts, &mut row);
+            let is_matching = tables::is_matching(&atoms, &bonds, counts, &row);
+            assert_eq!(is_matching, Ok(first.is_ok()));
+            let mut later = row.clone();
+            assert!(tables::next(&atoms, &bonds, counts, &mut later).is_ok() == first.is_ok());
+            let mut codes = [0; 2];
+            let replayed = tables::replay(&[0, 1], &atoms, &bonds, counts, &mut later, &mut codes);
+            assert_eq!(replayed, Ok(()));
+            let kekulized = tables::kekulize(&mut atoms, &mut bonds, counts, &row);
+            assert!(kekulized.is_ok() == first.is_ok());
+            if let Ok(length) = written {
+                let read = tables::read(&text[..length], &mut atoms, &mut bonds);
+                assert!(read.is_ok() == first.is_ok());
+            }
+        });
+    }
 }

@@ -8,6 +8,7 @@ mod subject;
 
 use balsa_reference::element::{searched, symbol_of};
 use clock::time;
+use compare::buffers::Buffers;
 use compare::implementation::Reference;
 use compare::proved::Proved;
 use std::hint::black_box;
@@ -19,7 +20,7 @@ const CORPUS: &str = include_str!("../../../corpus/real.smi");
 const ROUNDS: usize = 20;
 /// The texts whose slots are filled before the next call is measured.
 const BATCH: usize = 64;
-const LENGTHS: [usize; 3] = [100, 1000, 4000];
+const LENGTHS: [usize; 4] = [100, 1000, 4000, 16_000];
 /// The readings of each length in a round.
 const READINGS: usize = 500;
 
@@ -89,6 +90,10 @@ fn compare_on(name: &str, texts: &[&[u8]]) {
     row("reference", molecules.map(figure));
     row("reference on tables", tables.map(figure));
     row("proved on tables", proved.map(figure));
+    row(
+        "zeroing its buffers",
+        measure_zeroing(texts.len()).map(figure),
+    );
     let ratio = |others: [f64; 5]| [0, 1, 2, 3, 4].map(|call| figure(proved[call] / others[call]));
     row("ratio to reference", ratio(molecules));
     row("ratio on tables", ratio(tables));
@@ -134,6 +139,45 @@ fn measure_texts<S: Subject>(subject: &S, texts: &[&[u8]]) -> [f64; 5] {
     [0, 1, 2, 3, 4].map(|call| mean(least[call], calls[call]))
 }
 
+/// The mean times of zeroing what the rules ask each call to zero or fill: both tables, the row,
+/// nothing, the text with the renumbering; and all of them. It is a part of the times of the calls on
+/// tables.
+fn measure_zeroing(times: usize) -> [f64; 5] {
+    let mut slots = vec![OnTables(Proved).slot(); BATCH];
+    let mut measure = |used: usize, zero: &dyn Fn(&mut Buffers)| {
+        let mut task = || {
+            for number in 0..times {
+                let slot = &mut slots[number % used];
+                zero(slot);
+                black_box(slot);
+            }
+        };
+        let least = (0..ROUNDS).map(|_| time(&mut task)).min();
+        mean(least.unwrap_or_default(), times)
+    };
+    let tables = |slot: &mut Buffers| {
+        slot.atoms.fill(0);
+        slot.bonds.fill(0);
+    };
+    let row = |slot: &mut Buffers| slot.row.fill(0);
+    let written = |slot: &mut Buffers| {
+        slot.text.fill(0);
+        slot.renumbering.fill(0);
+    };
+    let all = |slot: &mut Buffers| {
+        tables(slot);
+        row(slot);
+        written(slot);
+    };
+    [
+        measure(BATCH, &tables),
+        measure(BATCH, &row),
+        0.0,
+        measure(BATCH, &written),
+        measure(1, &all),
+    ]
+}
+
 /// Adds the times of each call on a batch of texts, and tells how many were accepted.
 fn measure_batch<S: Subject>(
     subject: &S,
@@ -172,7 +216,7 @@ fn text_of_length(length: usize) -> Vec<u8> {
 }
 
 /// The mean times of reading a text of each length, in the quickest round.
-fn measure_lengths<S: Subject>(subject: &S) -> [String; 3] {
+fn measure_lengths<S: Subject>(subject: &S) -> [String; 4] {
     let mut slot = subject.slot();
     LENGTHS.map(|length| {
         let text = text_of_length(length);

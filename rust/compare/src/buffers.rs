@@ -102,8 +102,8 @@ impl Buffers {
             0 => i32::MIN,
             1 => i32::MAX,
             2 => -1,
-            3 => *random.pick(&[9, 10, -9, -10, 118, 119, 199, 200, 999, 1000, 9999, 10_000]),
-            4..7 => random.below(200) as i32,
+            3 => *random.pick(&[9, 10, -9, -10, 118, 119, 999, 1000, 1001, 9999, 10_000]),
+            4..7 => random.below(1000) as i32,
             _ => random.below(5) as i32,
         };
         let atoms = self.counts.atoms.min(MAX_ATOMS);
@@ -130,9 +130,9 @@ impl Buffers {
 
     fn damage_counts(&mut self, random: &mut Random) {
         let count = match random.below(4) {
-            0 => *random.pick(&[200, 201, 250, 251, 1000, 1 << 32, 1 << 63, usize::MAX]),
+            0 => *random.pick(&[1000, 1001, 1100, 1101, 1 << 32, 1 << 63, usize::MAX]),
             1 => 0,
-            _ => random.below(251),
+            _ => random.below(1101),
         };
         if random.percent(50) {
             self.counts.atoms = count;

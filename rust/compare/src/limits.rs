@@ -1,7 +1,7 @@
 //! Molecules at the limits of writing.
 
 use crate::random::Random;
-use balsa_reference::{Atom, Bond, Kind, Molecule, MAX_BONDS};
+use balsa_reference::{Atom, Bond, Kind, Molecule, MAX_ATOMS, MAX_BONDS};
 
 const CARBON: Atom = Atom {
     element: 6,
@@ -59,39 +59,38 @@ pub fn nested(random: &mut Random) -> Molecule {
         molecule.bonds.extend(bonds.take(bridges));
     }
     if random.percent(50) {
-        let atoms = random.between(molecule.atoms.len(), 200);
+        let atoms = random.between(molecule.atoms.len(), MAX_ATOMS);
         molecule.atoms = vec![LONG; atoms];
     }
     molecule
 }
 
-/// Eight spine atoms with 24 leaves each and 51 bridges, all with the longest spellings but for
-/// some bytes: about 4,096 of them. Two leaves with bridges are perhaps delocalized.
+/// A chain of atoms with the longest spellings but for some bytes: about 16,384 of them. It perhaps
+/// begins with a delocalized ring and ends with short atoms.
 pub fn longest(random: &mut Random) -> Molecule {
-    let leaf = |spine: usize, leaf: usize| 8 + 24 * spine + leaf;
-    let mut ends = Vec::new();
-    for spine in 0..8 {
-        ends.extend((0..24).map(|number| (spine, leaf(spine, number))));
-        ends.extend((spine < 7).then_some((spine, spine + 1)));
+    let (ring, long, short) = match random.percent(50) {
+        true => (6, 963, random.below(9)),
+        false => (0, 964, 0),
+    };
+    let atoms = ring + long + short;
+    let chain = (1..atoms).map(|atom| (atom - 1, atom));
+    let mut molecule = of_ends(atoms, chain, Kind::Single);
+    molecule.atoms[ring..ring + long].fill(LONG);
+    if ring > 0 {
+        molecule.bonds.insert(5, Bond::between(0, 5, Kind::Elided));
     }
-    ends.extend((0..51).map(|bridge| (bridge / 17, leaf(7, bridge % 17))));
-    let mut molecule = of_ends(200, ends.into_iter(), Kind::Single);
-    molecule.atoms.fill(LONG);
-    if random.percent(50) {
-        let (inner, outer) = (leaf(7, 15), leaf(7, 16));
-        for bond in &mut molecule.bonds {
-            if bond.ends() == (7, outer) {
-                *bond = Bond::between(inner, outer, Kind::Elided);
-            }
+    for bond in &mut molecule.bonds {
+        if bond.second < ring || bond.first >= ring + long {
+            bond.kind = Kind::Elided;
         }
-        for (number, hydrogens) in [(inner, 1), (outer, 2)] {
-            let atom = &mut molecule.atoms[number];
-            (atom.element, atom.selected) = (7, true);
-            (atom.hydrogens, atom.charge) = (hydrogens, 9);
+    }
+    for (number, atom) in molecule.atoms.iter_mut().enumerate() {
+        if number < ring {
+            (atom.selected, atom.hydrogens) = (true, u8::from(number < 5));
         }
     }
     for number in 0..random.below(9) {
-        molecule.atoms[number].isotope = 99;
+        molecule.atoms[ring + number].isotope = 99;
     }
     molecule
 }

@@ -110,7 +110,7 @@ fn honeycomb(random: &mut Random, size: usize) -> Shape {
         for side in 0..6 {
             shape.join(numbers[side], numbers[(side + 1) % 6]);
         }
-        if shape.atoms + 4 > size || cells.len() > 60 {
+        if shape.atoms + 4 > size || cells.len() > 400 {
             return shape;
         }
         let (from_column, from_row) = *random.pick(&cells);
@@ -148,7 +148,7 @@ fn dense(random: &mut Random) -> Shape {
 
 fn shape(random: &mut Random) -> Shape {
     let mut shape = Shape::default();
-    let size = *random.pick(&[2, 5, 10, 20, 40, 80, 200]);
+    let size = *random.pick(&[2, 5, 5, 10, 10, 20, 20, 40, 40, 80, 200, MAX_ATOMS]);
     let pieces = if random.percent(70) {
         1
     } else {

@@ -84,8 +84,8 @@ fn of_tokens(random: &mut Random) -> Vec<u8> {
 fn of_bytes(random: &mut Random) -> Vec<u8> {
     let length = match random.below(50) {
         0..40 => random.below(40),
-        40..49 => random.between(4090, 4100),
-        _ => random.between(4090, 70_000),
+        40..49 => random.between(MAX_TEXT - 6, MAX_TEXT + 4),
+        _ => random.between(MAX_TEXT - 6, 70_000),
     };
     let is_plain = random.percent(20);
     let mut byte = || if is_plain { b'C' } else { byte(random) };
@@ -114,16 +114,16 @@ fn at_a_limit(random: &mut Random) -> Vec<u8> {
 fn atoms(random: &mut Random) -> String {
     let atom = *random.pick(&["C", "Cl", "[CH4]", ".C", "=C", "(C)"]);
     let first = atom.trim_matches(['.', '=', '(', ')']);
-    first.to_string() + &atom.repeat(random.between(196, 200))
+    first.to_string() + &atom.repeat(random.between(996, 1000))
 }
 
-/// A chain whose atoms are joined to the next but one by bridges: about 250 bonds.
+/// A chain whose atoms are joined to the next but one by bridges: about 1,100 bonds.
 fn bonds(random: &mut Random) -> String {
-    let extra = random.between(56, 60);
+    let extra = random.between(106, 110);
     let numbers = random.pick(&[["1", "2", "3"], ["%10", "=2", "3"]]);
     let number = |atom: usize| numbers[atom % 3];
     let mut text = String::new();
-    for atom in 0..192 {
+    for atom in 0..992 {
         text += "C";
         if (2..extra + 2).contains(&atom) {
             text += number(atom - 2);
@@ -164,12 +164,12 @@ fn bridges(random: &mut Random) -> String {
     text
 }
 
-/// About 4,096 bytes: long atoms in pairs, perhaps delocalized ones.
+/// About 16,384 bytes: long atoms in pairs, perhaps delocalized ones.
 fn bytes(random: &mut Random) -> Vec<u8> {
-    let length = random.between(4090, 4099);
+    let length = random.between(MAX_TEXT - 6, MAX_TEXT + 3);
     let pairs = [
         "[999CoH9-9:9999]=%10.[999CoH9-9:9999]%10.",
-        "[9n+9][9n+9:9999].",
+        "[999n+9:9999][999n+9:9999].",
     ];
     let mut text = String::new();
     while text.len() + 60 < length {

@@ -73,7 +73,7 @@ fn selected_atoms_have_every_charge() {
         .iter()
         .flat_map(|&element| (-9..=9).map(move |charge| (element, charge)));
     assert_eq!(charged, all.collect());
-    assert!(judged.len() > 130, "{}", judged.len());
+    assert!(judged.len() > 120, "{}", judged.len());
 }
 
 /// A molecule in a random spelling is read as the same molecule, renumbered: its atoms and kinds

@@ -87,7 +87,7 @@ fn generated_texts() {
 
 #[test]
 fn an_input_in_pieces() {
-    compare(&generated(300, 9), &[1, 2, 3, 50, 4096]);
+    compare(&generated(300, 9), &[1, 2, 3, 50, 16_384]);
     compare(b"C\nCC\n\n\nc1ccccc1", &[1]);
 }
 
@@ -98,7 +98,7 @@ fn odd_inputs() {
     }
     let mut long = vec![b'C'; 300_000];
     long.push(b'\n');
-    long.extend([b'N'; 4096]);
+    long.extend([b'N'; 16_384]);
     compare(&long, &[65_536]);
     compare(&[b'\n'; 70_000], &[65_535]);
 }

@@ -32,11 +32,11 @@ pub use valence::{delocalized, implied_hydrogens, is_shorthand, reached, Reached
 pub use write::{write, Written};
 
 /// The longest text that is read or written, in bytes.
-pub const MAX_TEXT: usize = 4096;
+pub const MAX_TEXT: usize = 16_384;
 /// The most atoms of a molecule.
-pub const MAX_ATOMS: usize = 200;
+pub const MAX_ATOMS: usize = 1000;
 /// The most bonds of a molecule.
-pub const MAX_BONDS: usize = 250;
+pub const MAX_BONDS: usize = 1100;
 /// The deepest nesting of branches.
 pub const MAX_BRANCHES: usize = 64;
 /// The highest bridge number, and so the most bridges open at once.

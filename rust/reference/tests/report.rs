@@ -39,13 +39,13 @@ fn bytes_other_than_the_line_end_are_text() {
 #[test]
 fn long_lines_are_refused() {
     let input = [
-        "x".repeat(4096),
-        "x".repeat(4097),
+        "x".repeat(16_384),
+        "x".repeat(16_385),
         "C".repeat(1_000_000),
         "CO".to_string(),
-        "x".repeat(5000),
+        "x".repeat(20_000),
     ];
-    let expected = "balsa report\n1: 3 0\n2: 2 4096\n3: 2 4096\n4: 0 2 1 0 0 CO\n5: 2 4096\n\
+    let expected = "balsa report\n1: 3 0\n2: 2 16384\n3: 2 16384\n4: 0 2 1 0 0 CO\n5: 2 16384\n\
         accepted 1 refused 4\n";
     assert_eq!(reported(input.join("\n")), expected);
 }

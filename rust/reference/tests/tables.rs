@@ -351,9 +351,9 @@ fn counts_have_bounds() {
         cells.copy_from_slice(&[first, second, 0]);
     }
     for (atoms, bonds, expected) in [
-        (200, 250, true),
-        (201, 250, false),
-        (200, 251, false),
+        (1000, 1100, true),
+        (1001, 1100, false),
+        (1000, 1101, false),
         (0, 0, true),
         (0, 1, false),
         (51, 50, true),

@@ -373,22 +373,22 @@ fn the_fields_of_a_bracket_are_read() {
 
 #[test]
 fn atoms_are_limited() {
-    accepted("C".repeat(200));
-    accepted("C.".repeat(199) + "C");
-    refused("C".repeat(201), Code::TooManyAtoms, 200);
-    refused("C".repeat(200) + ".C", Code::TooManyAtoms, 201);
-    refused("C".repeat(200) + "=[", Code::TooManyAtoms, 201);
-    refused("C".repeat(200) + "T", Code::TooManyAtoms, 200);
-    refused("C".repeat(200) + "x", Code::Grammar, 200);
-    refused("[CH4]".repeat(200) + "[x", Code::TooManyAtoms, 1000);
-    accepted("C".repeat(199) + "[CH4]");
-    refused("C".repeat(199) + "[x", Code::Grammar, 200);
+    accepted("C".repeat(1000));
+    accepted("C.".repeat(999) + "C");
+    refused("C".repeat(1001), Code::TooManyAtoms, 1000);
+    refused("C".repeat(1000) + ".C", Code::TooManyAtoms, 1001);
+    refused("C".repeat(1000) + "=[", Code::TooManyAtoms, 1001);
+    refused("C".repeat(1000) + "T", Code::TooManyAtoms, 1000);
+    refused("C".repeat(1000) + "x", Code::Grammar, 1000);
+    refused("[CH4]".repeat(1000) + "[x", Code::TooManyAtoms, 5000);
+    accepted("C".repeat(999) + "[CH4]");
+    refused("C".repeat(999) + "[x", Code::Grammar, 1000);
 }
 
-/// A text of 192 atoms in a chain and `extra` bridges: 191 + `extra` bonds.
+/// A text of 992 atoms in a chain and `extra` bridges: 991 + `extra` bonds.
 fn bridged(extra: usize) -> String {
     let mut text = String::new();
-    for atom in 0..192 {
+    for atom in 0..992 {
         text += "C";
         if atom >= 2 && atom - 2 < extra {
             text += ["1", "2", "3"][(atom - 2) % 3];
@@ -402,8 +402,8 @@ fn bridged(extra: usize) -> String {
 
 #[test]
 fn bonds_are_limited() {
-    let full = bridged(59);
-    assert_eq!(molecule(&full).bonds.len(), 250);
+    let full = bridged(109);
+    assert_eq!(molecule(&full).bonds.len(), 1100);
     let place = full.len();
     refused(full.clone() + "C", Code::TooManyBonds, place);
     refused(full.clone() + "=[x", Code::TooManyBonds, place + 1);
@@ -421,8 +421,8 @@ fn bonds_are_limited() {
         Code::TooManyAtoms,
         place + 16,
     );
-    let one_less = bridged(58);
-    assert_eq!(molecule(&one_less).bonds.len(), 249);
+    let one_less = bridged(108);
+    assert_eq!(molecule(&one_less).bonds.len(), 1099);
     accepted(one_less.clone() + "C");
     refused(
         one_less.clone() + "CC",
@@ -448,21 +448,17 @@ fn branches_are_limited() {
 
 #[test]
 fn the_length_is_limited() {
-    refused("x".repeat(4097), Code::TextTooLong, 4096);
-    refused("x".repeat(100_000), Code::TextTooLong, 4096);
-    refused("x".repeat(4096), Code::Grammar, 0);
-    assert_eq!(longest().len(), 4096);
+    refused("x".repeat(16_385), Code::TextTooLong, 16_384);
+    refused("x".repeat(100_000), Code::TextTooLong, 16_384);
+    refused("x".repeat(16_384), Code::Grammar, 0);
+    assert_eq!(longest().len(), 16_384);
     accepted(longest());
-    refused(longest() + "C", Code::TextTooLong, 4096);
+    refused(longest() + "C", Code::TextTooLong, 16_384);
 }
 
-/// An accepted text of 4,096 bytes: 200 long atoms, 88 pairs of them joined.
+/// An accepted text of 16,384 bytes: a chain of 13 short atoms and 963 long ones.
 fn longest() -> String {
-    let atom = "[999CoH9-9:9999]";
-    let pair = |pair| format!("{atom}=%10.{atom}{}%10", if pair < 81 { "=" } else { "" });
-    let mut parts: Vec<String> = (0..88).map(pair).collect();
-    parts.resize(88 + 24, atom.to_string());
-    parts.join(".")
+    "C".repeat(13) + &"-[999CoH9-9:9999]".repeat(963)
 }
 
 #[test]

@@ -228,7 +228,7 @@ fn nested_and_bridged(depth: usize, bridges: usize, is_long: bool) -> Molecule {
     let bonds = ends.map(|end| Bond::between(0, end, Kind::Triple));
     molecule.bonds.extend(bonds.take(bridges));
     if is_long {
-        molecule.atoms = vec![LONG; 200];
+        molecule.atoms = vec![LONG; 1000];
     }
     molecule
 }
@@ -248,19 +248,10 @@ fn refusals_come_by_number_over_the_whole_walk() {
     assert_eq!(answer(64, 99, false), Ok(()));
 }
 
-/// Eight spine atoms, each with 24 leaves, and 51 bridges, all with the longest spellings, but
-/// with `less` bytes less.
+/// A chain of 964 atoms with the longest spellings, but with `less` bytes less.
 fn longest(less: usize) -> Molecule {
-    let leaf = |spine: usize, leaf: usize| 8 + 24 * spine + leaf;
-    let mut ends = Vec::new();
-    for spine in 0..8 {
-        ends.extend((0..24).map(|number| (spine, leaf(spine, number))));
-        if spine < 7 {
-            ends.push((spine, spine + 1));
-        }
-    }
-    ends.extend((0..51).map(|bridge| (bridge / 17, leaf(7, bridge % 17))));
-    let mut molecule = molecule(200, &ends);
+    let ends: Vec<_> = (1..964).map(|atom| (atom - 1, atom)).collect();
+    let mut molecule = molecule(964, &ends);
     for (number, atom) in molecule.atoms.iter_mut().enumerate() {
         *atom = LONG;
         atom.isotope = if number < less { 99 } else { 999 };
@@ -271,33 +262,26 @@ fn longest(less: usize) -> Molecule {
 #[test]
 fn the_written_length_is_limited() {
     assert_eq!(write(&longest(0)), Err(Code::WrittenTooLong));
-    assert_eq!(write(&longest(5)), Err(Code::WrittenTooLong));
-    assert_eq!(write(&longest(6)).unwrap().text.len(), MAX_TEXT);
-    assert_read_back(&longest(6));
+    assert_eq!(write(&longest(2)), Err(Code::WrittenTooLong));
+    assert_eq!(write(&longest(3)).unwrap().text.len(), MAX_TEXT);
+    assert_read_back(&longest(3));
 }
 
-/// The text is as long as a text may be, and the kekulized one has a symbol more.
+/// The kekulized text has three symbols more: 16,384 bytes, and one too many.
 #[test]
 fn a_kekulized_text_can_be_too_long() {
-    let mut molecule = longest(0);
-    let (inner, outer) = (8 + 24 * 7 + 15, 8 + 24 * 7 + 16);
-    let bonds = molecule.bonds.iter_mut();
-    for bond in bonds.filter(|bond| bond.ends() == (7, outer)) {
-        *bond = Bond::between(inner, outer, Kind::Elided);
+    let text = |tail| "c1ccccc1".to_string() + &"-[999CoH9-9:9999]".repeat(963) + tail;
+    for tail in ["CC", "CCC"] {
+        let molecule = read(text(tail).as_bytes()).unwrap();
+        assert_read_back(&molecule);
+        assert_eq!(rewritten(&text(tail)), text(tail));
     }
-    for (number, hydrogens) in [(inner, 1), (outer, 2)] {
-        molecule.atoms[number] = Atom {
-            element: 7,
-            selected: true,
-            hydrogens,
-            charge: 9,
-            ..LONG
-        };
-    }
-    assert_read_back(&molecule);
-    let text = write(&molecule).unwrap().text;
-    assert_eq!(text.len(), MAX_TEXT);
-    assert_eq!(report_line(&text), Err(Code::WrittenTooLong.into()));
+    let written = report_line(text("CC").as_bytes()).unwrap();
+    assert_eq!(written.text.len(), MAX_TEXT);
+    assert_eq!(
+        report_line(text("CCC").as_bytes()),
+        Err(Code::WrittenTooLong.into())
+    );
 }
 
 #[test]

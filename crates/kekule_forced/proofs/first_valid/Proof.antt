@@ -1,4 +1,4 @@
-use mathlib.Core.Path.{sym}
+use mathlib.Core.Path.{refl, sym}
 use native.Mathlib.Omega.{arith}
 use denote.Ref.{now}
 use Rattle.table_graph.proofs.Graph.{built-shape, length-first, length-second, length-elided, length-flags}
@@ -19,37 +19,42 @@ slice-aggregate-build-3 c = search needs
 slice-aggregate-build-4 : tie.Need-slice-aggregate-build-4
 slice-aggregate-build-4 c = search needs
 
+slice-aggregate-build-5 : tie.Need-slice-aggregate-build-5
+slice-aggregate-build-5 c = search needs
+
 build-requires : tie.Need-build-requires
-build-requires c κs = search needs
+build-requires c κs =
+    let s = c .before .before .before .before .before .before .before in
+    (s .pre .0, (record { atoms = omega (arith, s .pre .0 .few-atoms); firsts = omega (arith, s .pre .0 .few-bonds); seconds = omega (arith, s .pre .0 .few-bonds); elided = omega (arith, s .pre .0 .few-bonds); summed = omega (arith, s .pre .0 .few-atoms) }, refl))
 
 array-share-prefix-ea : tie.Need-array-share-prefix-ea
 array-share-prefix-ea c = search needs
 
 slice-aggregate-first-forced : tie.Need-slice-aggregate-first-forced
-slice-aggregate-first-forced c = sym (length-first (c .before .before .before .before .before .build .ensures))
+slice-aggregate-first-forced c = sym (length-first (c .before .before .before .before .before .before .build .ensures))
 
 array-share-prefix-eb : tie.Need-array-share-prefix-eb
 array-share-prefix-eb c = search needs
 
 slice-aggregate-first-forced-2 : tie.Need-slice-aggregate-first-forced-2
-slice-aggregate-first-forced-2 c = sym (length-second (c .before .before .before .before .before .before .build .ensures))
+slice-aggregate-first-forced-2 c = sym (length-second (c .before .before .before .before .before .before .before .build .ensures))
 
 array-borrow-prefix-el : tie.Need-array-borrow-prefix-el
 array-borrow-prefix-el c = search needs
 
 slice-aggregate-first-forced-3 : tie.Need-slice-aggregate-first-forced-3
-slice-aggregate-first-forced-3 c = sym (length-elided (c .before .before .before .before .before .before .before .build .ensures))
+slice-aggregate-first-forced-3 c = sym (length-elided (c .before .before .before .before .before .before .before .before .build .ensures))
 
 array-borrow-prefix-flags : tie.Need-array-borrow-prefix-flags
 array-borrow-prefix-flags c = search needs
 
 slice-aggregate-first-forced-4 : tie.Need-slice-aggregate-first-forced-4
-slice-aggregate-first-forced-4 c = sym (length-flags (c .before .before .before .before .before .before .before .before .build .ensures))
+slice-aggregate-first-forced-4 c = sym (length-flags (c .before .before .before .before .before .before .before .before .before .build .ensures))
 
 first-forced-requires : tie.Need-first-forced-requires
 first-forced-requires c κs =
-    let s = c .before .before .before .before .before .before .before .before .before .before .before .before .before .before .before .before .before in
-    let b = c .before .before .before .before .before .before .before .before .before .before .build .ensures in
+    let s = c .before .before .before .before .before .before .before .before .before .before .before .before .before .before .before .before .before .before .before in
+    let b = c .before .before .before .before .before .before .before .before .before .before .before .build .ensures in
     (built-shape b (s .pre .0) (now (s .args .row)) (s .pre .1 .0), (built-roomy b (s .pre .0) (s .pre .1 .1), omega (arith, length-first b, s .pre .0 .few-bonds, s .pre .1 .1)))
 
 same-length : tie.Need-same-length
@@ -60,8 +65,8 @@ same-length-2 c = search needs
 
 returns : tie.Need-returns
 returns c =
-    let s = c .before .before .before .before .before .before .before .before .before .before .before .before .before .before .before .before .before .before .before .before .before .before .before .before in
-    first-listed (c .before .before .before .before .before .before .before .before .before .before .before .before .before .before .before .before .before .build .ensures) (now (s .args .row)) (now (s .args .pairs)) (c .before .before .before .before .before .before .first-forced .ensures)
+    let s = c .before .before .before .before .before .before .before .before .before .before .before .before .before .before .before .before .before .before .before .before .before .before .before .before .before .before in
+    first-listed (c .before .before .before .before .before .before .before .before .before .before .before .before .before .before .before .before .before .before .build .ensures) (now (s .args .row)) (now (s .args .pairs)) (c .before .before .before .before .before .before .first-forced .ensures)
 
 pub first-valid-spec : {M : Type 1} → statement M
 first-valid-spec =
@@ -71,6 +76,7 @@ first-valid-spec =
     slice-aggregate-build-2
     slice-aggregate-build-3
     slice-aggregate-build-4
+    slice-aggregate-build-5
     build-requires
     array-share-prefix-ea
     slice-aggregate-first-forced

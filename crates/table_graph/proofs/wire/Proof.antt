@@ -1,27 +1,27 @@
 use Prim.Native.Nat.{_-_, _*_, _<_}
 use native.Mathlib.Omega.{arith}
-use mathlib.Core.Path.{_≡_, refl, _∙_}
+use mathlib.Core.Path.{_≡_, refl, sym, _∙_}
+use lib.ListN.{length, length-set}
 use denote.Ref.{now}
 use Rattle.loops.proofs.Loops.{Edited, fills, edited-start, filled-step, filled-end, filled-part}
-use Rattle.table.specs.Limits.{maxAtoms}
 use Rattle.table.specs.Cells.{end1, end2}
 use Rattle.table_graph.specs.Graph.{elidedFlag}
 use Rattle.kinds.proofs.Kind.{order-small}
-use Rattle.table_graph.proofs.Sums.{row-cells, sumsTo, sums-none, sums-bound, second-bound, sums-step, two-ends}
+use Rattle.table_graph.proofs.Sums.{row-cells, sumsTo, sums-none, sums-bound, sums-length, second-bound, sums-step, two-ends}
 use Rattle.table_graph.proofs.wire.Statement.{statement}
 use Rattle.table_graph.proofs.wire.Tie as tie
 
 abbrev Inv-loop : tie.InvT-loop
 Inv-loop bonds m ea₀ eb₀ el₀ sums₀ i₀ ea eb el sums i =
-    Edited (fills (end1 bonds)) ea₀ m i ea × Edited (fills (end2 bonds)) eb₀ m i eb × Edited (fills (elidedFlag bonds)) el₀ m i el × (sums ≡ sumsTo bonds i maxAtoms)
+    Edited (fills (end1 bonds)) ea₀ m i ea × Edited (fills (end2 bonds)) eb₀ m i eb × Edited (fills (elidedFlag bonds)) el₀ m i el × (sums ≡ sumsTo bonds i (length sums₀))
 
 abbrev μ-loop : tie.MeasureT-loop
 μ-loop bonds m ea₀ eb₀ el₀ sums₀ i₀ ea eb el sums i = m - i
 
 loop-holds : tie.Need-loop-holds Inv-loop μ-loop
 loop-holds c =
-    let s = c .before .before .before in
-    (edited-start, edited-start, edited-start, s .pre .1 ∙ sums-none (now (s .args .bonds)) maxAtoms)
+    let s = c .before .before .before .before in
+    (edited-start, edited-start, edited-start, s .pre .1 ∙ sums-none (now (s .args .bonds)) (length (now (s .args .sums))))
 
 get-bond-requires : tie.Need-get-bond-requires Inv-loop μ-loop
 get-bond-requires c κs = tt
@@ -46,7 +46,7 @@ cast-x c =
 
 cast-ea : tie.Need-cast-ea Inv-loop μ-loop
 cast-ea c =
-    let s = c .before .before .before .before .before .before .before .before .before .before .before .before .before in
+    let s = c .before .before .before .before .before .before .before .before .before .before .before .before .before .before in
     let a = c .before .before .before .before .before .before .before .before .before .loop in
     let l = c .before .before .before .before .before .before .before .before .loop-test .taken in
     let w = s .pre .0 in
@@ -63,7 +63,7 @@ slice-write-ea c = omega arith
 
 cast-eb : tie.Need-cast-eb Inv-loop μ-loop
 cast-eb c =
-    let s = c .before .before .before .before .before .before .before .before .before .before .before .before .before in
+    let s = c .before .before .before .before .before .before .before .before .before .before .before .before .before .before in
     let a = c .before .before .before .before .before .before .before .before .before .loop in
     let l = c .before .before .before .before .before .before .before .before .loop-test .taken in
     let w = s .pre .0 in
@@ -86,71 +86,71 @@ slice-write-el c = omega arith
 
 mul-sums : tie.Need-mul-sums Inv-loop μ-loop
 mul-sums c =
-    let s = c .before .before .before .before .before .before .before .before .before .before .before .before .before .before in
+    let s = c .before .before .before .before .before .before .before .before .before .before .before .before .before .before .before in
     let a = c .before .before .before .before .before .before .before .before .before .before .loop in
     let l = c .before .before .before .before .before .before .before .before .before .loop-test .taken in
     let w = s .pre .0 in
     let bs = now (s .args .bonds) in
     let r = row-cells bs (a .i) (c .before .before .before .before .before .before .before .before .get-bond .result) (c .before .before .before .before .before .before .before .before .get-bond .ensures) (omega (arith, w .few, l)) in
     let e = c .before .before .before .before .before .before .number in
-    omega (arith, e .ensures, r .0, w .order (a .i) l, w .second-fits (a .i) l)
+    omega (arith, e .ensures, r .0, w .order (a .i) l, w .second-summed (a .i) l, sums-length bs (a .i) _ (a .inv .3))
 
-element-copy-out-sums : tie.Need-element-copy-out-sums Inv-loop μ-loop
-element-copy-out-sums c =
-    let s = c .before .before .before .before .before .before .before .before .before .before .before .before .before .before in
-    let a = c .before .before .before .before .before .before .before .before .before .before .loop in
-    let l = c .before .before .before .before .before .before .before .before .before .loop-test .taken in
+slice-read-sums : tie.Need-slice-read-sums Inv-loop μ-loop
+slice-read-sums c =
+    let s = c .before .before .before .before .before .before .before .before .before .before .before .before .before .before .before .before in
+    let a = c .before .before .before .before .before .before .before .before .before .before .before .loop in
+    let l = c .before .before .before .before .before .before .before .before .before .before .loop-test .taken in
     let w = s .pre .0 in
     let bs = now (s .args .bonds) in
-    let r = row-cells bs (a .i) (c .before .before .before .before .before .before .before .before .get-bond .result) (c .before .before .before .before .before .before .before .before .get-bond .ensures) (omega (arith, w .few, l)) in
-    let e = c .before .before .before .before .before .before .number in
-    omega (arith, e .ensures, r .0, w .order (a .i) l, w .second-fits (a .i) l)
+    let r = row-cells bs (a .i) (c .before .before .before .before .before .before .before .before .before .get-bond .result) (c .before .before .before .before .before .before .before .before .before .get-bond .ensures) (omega (arith, w .few, l)) in
+    let e = c .before .before .before .before .before .before .before .number in
+    omega (arith, e .ensures, r .0, w .order (a .i) l, w .second-summed (a .i) l, sums-length bs (a .i) _ (a .inv .3))
 
 add-sums : tie.Need-add-sums Inv-loop μ-loop
 add-sums c =
-    let s = c .before .before .before .before .before .before .before .before .before .before .before .before .before .before .before in
+    let s = c .before .before .before .before .before .before .before .before .before .before .before .before .before .before .before .before in
     let a = c .before .before .before .before .before .before .before .before .before .before .before .loop in
     let e = c .before .before .before .before .before .before .before .number in
     let k = c .before .before .before .number3 in
     let o = c .before .before .order in
-    omega (arith, sums-bound (now (s .args .bonds)) (a .i) maxAtoms (a .inv .3) (e .result), o .ensures, order-small (k .result))
+    omega (arith, sums-bound (now (s .args .bonds)) (a .i) (length (now (s .args .sums))) (a .inv .3) (e .result), o .ensures, order-small (k .result))
 
-element-write-sums : tie.Need-element-write-sums Inv-loop μ-loop
-element-write-sums c =
-    let s = c .before .before .before .before .before .before .before .before .before .before .before .before .before .before .before in
+slice-write-sums : tie.Need-slice-write-sums Inv-loop μ-loop
+slice-write-sums c =
+    let s = c .before .before .before .before .before .before .before .before .before .before .before .before .before .before .before .before in
     let a = c .before .before .before .before .before .before .before .before .before .before .before .loop in
     let l = c .before .before .before .before .before .before .before .before .before .before .loop-test .taken in
     let w = s .pre .0 in
     let bs = now (s .args .bonds) in
     let r = row-cells bs (a .i) (c .before .before .before .before .before .before .before .before .before .get-bond .result) (c .before .before .before .before .before .before .before .before .before .get-bond .ensures) (omega (arith, w .few, l)) in
     let e = c .before .before .before .before .before .before .before .number in
-    omega (arith, e .ensures, r .0, w .order (a .i) l, w .second-fits (a .i) l)
+    omega (arith, e .ensures, r .0, w .order (a .i) l, w .second-summed (a .i) l, sums-length bs (a .i) _ (a .inv .3))
 
 mul-sums-2 : tie.Need-mul-sums-2 Inv-loop μ-loop
 mul-sums-2 c =
-    let s = c .before .before .before .before .before .before .before .before .before .before .before .before .before .before .before in
+    let s = c .before .before .before .before .before .before .before .before .before .before .before .before .before .before .before .before in
     let a = c .before .before .before .before .before .before .before .before .before .before .before .loop in
     let l = c .before .before .before .before .before .before .before .before .before .before .loop-test .taken in
     let w = s .pre .0 in
     let bs = now (s .args .bonds) in
     let r = row-cells bs (a .i) (c .before .before .before .before .before .before .before .before .before .get-bond .result) (c .before .before .before .before .before .before .before .before .before .get-bond .ensures) (omega (arith, w .few, l)) in
     let f = c .before .before .before .before .before .number2 in
-    omega (arith, f .ensures, r .1, w .second-fits (a .i) l)
+    omega (arith, f .ensures, r .1, w .second-summed (a .i) l, sums-length bs (a .i) _ (a .inv .3))
 
-element-copy-out-sums-2 : tie.Need-element-copy-out-sums-2 Inv-loop μ-loop
-element-copy-out-sums-2 c =
-    let s = c .before .before .before .before .before .before .before .before .before .before .before .before .before .before .before in
-    let a = c .before .before .before .before .before .before .before .before .before .before .before .loop in
-    let l = c .before .before .before .before .before .before .before .before .before .before .loop-test .taken in
+slice-read-sums-2 : tie.Need-slice-read-sums-2 Inv-loop μ-loop
+slice-read-sums-2 c =
+    let s = c .before .before .before .before .before .before .before .before .before .before .before .before .before .before .before .before .before in
+    let a = c .before .before .before .before .before .before .before .before .before .before .before .before .loop in
+    let l = c .before .before .before .before .before .before .before .before .before .before .before .loop-test .taken in
     let w = s .pre .0 in
     let bs = now (s .args .bonds) in
-    let r = row-cells bs (a .i) (c .before .before .before .before .before .before .before .before .before .get-bond .result) (c .before .before .before .before .before .before .before .before .before .get-bond .ensures) (omega (arith, w .few, l)) in
-    let f = c .before .before .before .before .before .number2 in
-    omega (arith, f .ensures, r .1, w .second-fits (a .i) l)
+    let r = row-cells bs (a .i) (c .before .before .before .before .before .before .before .before .before .before .get-bond .result) (c .before .before .before .before .before .before .before .before .before .before .get-bond .ensures) (omega (arith, w .few, l)) in
+    let f = c .before .before .before .before .before .before .number2 in
+    simp length-set (omega (arith, f .ensures, r .1, w .second-summed (a .i) l, sums-length bs (a .i) _ (a .inv .3)))
 
 add-sums-2 : tie.Need-add-sums-2 Inv-loop μ-loop
 add-sums-2 c =
-    let s = c .before .before .before .before .before .before .before .before .before .before .before .before .before .before .before .before in
+    let s = c .before .before .before .before .before .before .before .before .before .before .before .before .before .before .before .before .before in
     let a = c .before .before .before .before .before .before .before .before .before .before .before .before .loop in
     let l = c .before .before .before .before .before .before .before .before .before .before .before .loop-test .taken in
     let w = s .pre .0 in
@@ -161,18 +161,18 @@ add-sums-2 c =
     let k = c .before .before .before .before .number3 in
     let o = c .before .before .before .order in
     let g : e .result < f .result = omega (arith, e .ensures, f .ensures, r .0, r .1, w .order (a .i) l) in
-    omega (arith, second-bound (a .sums) (e .result) (f .result) (o .result) (3 * a .i) g (sums-bound bs (a .i) maxAtoms (a .inv .3)), o .ensures, order-small (k .result))
+    omega (arith, second-bound (a .sums) (e .result) (f .result) (o .result) (3 * a .i) g (sums-bound bs (a .i) (length (now (s .args .sums))) (a .inv .3)), o .ensures, order-small (k .result))
 
-element-write-sums-2 : tie.Need-element-write-sums-2 Inv-loop μ-loop
-element-write-sums-2 c =
-    let s = c .before .before .before .before .before .before .before .before .before .before .before .before .before .before .before .before in
+slice-write-sums-2 : tie.Need-slice-write-sums-2 Inv-loop μ-loop
+slice-write-sums-2 c =
+    let s = c .before .before .before .before .before .before .before .before .before .before .before .before .before .before .before .before .before in
     let a = c .before .before .before .before .before .before .before .before .before .before .before .before .loop in
     let l = c .before .before .before .before .before .before .before .before .before .before .before .loop-test .taken in
     let w = s .pre .0 in
     let bs = now (s .args .bonds) in
     let r = row-cells bs (a .i) (c .before .before .before .before .before .before .before .before .before .before .get-bond .result) (c .before .before .before .before .before .before .before .before .before .before .get-bond .ensures) (omega (arith, w .few, l)) in
     let f = c .before .before .before .before .before .before .number2 in
-    omega (arith, f .ensures, r .1, w .second-fits (a .i) l)
+    simp length-set (omega (arith, f .ensures, r .1, w .second-summed (a .i) l, sums-length bs (a .i) _ (a .inv .3)))
 
 add-i : tie.Need-add-i Inv-loop μ-loop
 add-i c = omega arith
@@ -182,7 +182,7 @@ loop-less c = omega arith
 
 loop-again : tie.Need-loop-again Inv-loop μ-loop
 loop-again c =
-    let s = c .before .before .before .before .before .before .before .before .before .before .before .before .before .before .before .before in
+    let s = c .before .before .before .before .before .before .before .before .before .before .before .before .before .before .before .before .before in
     let a = c .before .before .before .before .before .before .before .before .before .before .before .before .loop in
     let l = c .before .before .before .before .before .before .before .before .before .before .before .loop-test .taken in
     let w = s .pre .0 in
@@ -212,9 +212,14 @@ same-length-2 c = c .before .loop .inv .1 .room
 same-length-3 : tie.Need-same-length-3 Inv-loop μ-loop
 same-length-3 c = c .before .loop .inv .2 .room
 
+same-length-4 : tie.Need-same-length-4 Inv-loop μ-loop
+same-length-4 c =
+    let s = c .before .before .before .before .before .before in
+    sums-length (now (s .args .bonds)) (c .before .loop .i) _ (c .before .loop .inv .3)
+
 returns : tie.Need-returns Inv-loop μ-loop
 returns c =
-    let s = c .before .before .before .before .before in
+    let s = c .before .before .before .before .before .before in
     let v = c .before .loop .inv in
     let q = c .loop-test .left in
     let bs = now (s .args .bonds) in
@@ -249,17 +254,18 @@ wire-spec =
     flag-requires
     slice-write-el
     mul-sums
-    element-copy-out-sums
+    slice-read-sums
     add-sums
-    element-write-sums
+    slice-write-sums
     mul-sums-2
-    element-copy-out-sums-2
+    slice-read-sums-2
     add-sums-2
-    element-write-sums-2
+    slice-write-sums-2
     add-i
     loop-less
     loop-again
     same-length
     same-length-2
     same-length-3
+    same-length-4
     returns)

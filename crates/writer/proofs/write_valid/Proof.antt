@@ -4,22 +4,27 @@ use Rattle.ids.specs.Limits.{maxText}
 use lib.Seq.{length-take-le}
 use lib.ListN.{drop}
 use mathlib.Core.List.{_++_}
-use mathlib.Core.Path.{sym, _∙_}
+use mathlib.Core.Path.{refl, sym, _∙_}
 use native.Mathlib.Omega.{arith}
 use borrow.Author.Needs.{needs}
 use Rattle.writer.proofs.write_valid.Statement.{statement}
 use Rattle.writer.proofs.write_valid.Tie as tie
 
+slice-aggregate-text : tie.Need-slice-aggregate-text
+slice-aggregate-text c = search needs
+
 slice-relend-prefix-text : tie.Need-slice-relend-prefix-text
 slice-relend-prefix-text c = search needs
 
-slice-aggregate-text : tie.Need-slice-aggregate-text
-slice-aggregate-text c =
+slice-aggregate-text-2 : tie.Need-slice-aggregate-text-2
+slice-aggregate-text-2 c =
     let s = c .before .before .before .before in
     sym (length-take-le maxText (s .args .out .now) (s .pre .1 .0))
 
 text-requires : tie.Need-text-requires
-text-requires c κs = search needs
+text-requires c κs =
+    let s = c .before .before .before .before in
+    (s .pre .0, (refl, omega (arith, s .pre .0 .few-atoms)))
 
 clear-all-requires : tie.Need-clear-all-requires
 clear-all-requires c κs = search needs
@@ -32,11 +37,11 @@ same-length-2 c = search needs
 
 returns : tie.Need-returns
 returns c =
-    let s = c .before .before .before .before .before .before .before .before .before .before .before .before .before .before .before in
+    let s = c .before .before .before .before .before .before .before .before .before .before .before .before .before .before .before .before in
     let room = s .pre .1 .0 in
     let out = s .args .out .now in
     let ren = s .args .ren .now in
-    let t = c .before .before .before .before .before .before .before .before .before .before .text in
+    let t = c .before .before .before .before .before .before .before .before .before .before .before .text in
     let o = t .last .1 .1 .1 .1 .1 .0 in
     let k = t .kept .1 .1 .1 .1 .1 .0 in
     let z = c .before .before .before .before .clear-all in
@@ -53,11 +58,11 @@ same-length-4 c = search needs
 
 returns-2 : tie.Need-returns-2
 returns-2 c =
-    let s = c .before .before .before .before .before .before .before .before .before .before .before .before .before .before .before .before in
+    let s = c .before .before .before .before .before .before .before .before .before .before .before .before .before .before .before .before .before in
     let room = s .pre .1 .0 in
     let out = s .args .out .now in
     let ren = s .args .ren .now in
-    let t = c .before .before .before .before .before .before .before .before .before .before .before .text in
+    let t = c .before .before .before .before .before .before .before .before .before .before .before .before .text in
     let o = t .last .1 .1 .1 .1 .1 .0 in
     let k = t .kept .1 .1 .1 .1 .1 .0 in
     let z = c .before .before .before .before .clear-all2 in
@@ -74,11 +79,11 @@ same-length-6 c = search needs
 
 returns-3 : tie.Need-returns-3
 returns-3 c =
-    let s = c .before .before .before .before .before .before .before .before .before .before .before .before .before .before .before .before .before in
+    let s = c .before .before .before .before .before .before .before .before .before .before .before .before .before .before .before .before .before .before in
     let room = s .pre .1 .0 in
     let out = s .args .out .now in
     let ren = s .args .ren .now in
-    let t = c .before .before .before .before .before .before .before .before .before .before .before .before .text in
+    let t = c .before .before .before .before .before .before .before .before .before .before .before .before .before .text in
     let o = t .last .1 .1 .1 .1 .1 .0 in
     let k = t .kept .1 .1 .1 .1 .1 .0 in
     let z = c .before .before .before .before .clear-all3 in
@@ -92,10 +97,10 @@ slice-aggregate-renumber c = search needs
 
 renumber-requires : tie.Need-renumber-requires
 renumber-requires c κs =
-    let s = c .before .before .before .before .before .before .before .before .before .before .before .before .before .before .before .before in
+    let s = c .before .before .before .before .before .before .before .before .before .before .before .before .before .before .before .before .before in
     let v = s .pre .0 in
-    let n = c .before .before .before .before .before .before .before .before .before .before .before .text .ensures .1 in
-    ((omega (arith, v .few-atoms, n .long), omega (arith, v .few-atoms, s .pre .1 .1)), λ a h. (let q = n .place-at a h in omega arith))
+    let n = c .before .before .before .before .before .before .before .before .before .before .before .before .text .ensures .1 in
+    ((n .long, omega (arith, v .few-atoms, s .pre .1 .1)), λ a h. (let q = n .place-at a h in omega arith))
 
 same-length-7 : tie.Need-same-length-7
 same-length-7 c = search needs
@@ -105,11 +110,11 @@ same-length-8 c = search needs
 
 returns-4 : tie.Need-returns-4
 returns-4 c =
-    let s = c .before .before .before .before .before .before .before .before .before .before .before .before .before .before .before .before .before .before .before in
+    let s = c .before .before .before .before .before .before .before .before .before .before .before .before .before .before .before .before .before .before .before .before in
     let room = s .pre .1 .0 in
     let out = s .args .out .now in
     let ren = s .args .ren .now in
-    let t = c .before .before .before .before .before .before .before .before .before .before .before .before .before .before .text in
+    let t = c .before .before .before .before .before .before .before .before .before .before .before .before .before .before .before .text in
     let o = t .last .1 .1 .1 .1 .1 .0 in
     let k = t .kept .1 .1 .1 .1 .1 .0 in
     let f = c .before .before .before .before .before .before .before .clear-from in
@@ -120,8 +125,9 @@ pub write-valid-spec : {M : Type 1} → statement M
 write-valid-spec =
     tie.close
     (tie.spec
-    slice-relend-prefix-text
     slice-aggregate-text
+    slice-relend-prefix-text
+    slice-aggregate-text-2
     text-requires
     clear-all-requires
     same-length

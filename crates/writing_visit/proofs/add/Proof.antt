@@ -9,8 +9,8 @@ cast-order c = search needs
 mul-order : tie.Need-mul-order
 mul-order c = search needs
 
-element-write-order : tie.Need-element-write-order
-element-write-order c = search needs
+slice-write-order : tie.Need-slice-write-order
+slice-write-order c = search needs
 
 add-number : tie.Need-add-number
 add-number c = search needs
@@ -21,8 +21,8 @@ cast-number c = search needs
 mul-number : tie.Need-mul-number
 mul-number c = search needs
 
-element-write-number : tie.Need-element-write-number
-element-write-number c = search needs
+slice-write-number : tie.Need-slice-write-number
+slice-write-number c = search needs
 
 cast-up : tie.Need-cast-up
 cast-up c = search needs
@@ -30,11 +30,23 @@ cast-up c = search needs
 mul-up : tie.Need-mul-up
 mul-up c = search needs
 
-element-write-up : tie.Need-element-write-up
-element-write-up c = search needs
+slice-write-up : tie.Need-slice-write-up
+slice-write-up c = search needs
 
-element-write-kind : tie.Need-element-write-kind
-element-write-kind c = search needs
+slice-write-kind : tie.Need-slice-write-kind
+slice-write-kind c = search needs
+
+same-length : tie.Need-same-length
+same-length c = search needs
+
+same-length-2 : tie.Need-same-length-2
+same-length-2 c = search needs
+
+same-length-3 : tie.Need-same-length-3
+same-length-3 c = search needs
+
+same-length-4 : tie.Need-same-length-4
+same-length-4 c = search needs
 
 returns : tie.Need-returns
 returns c = (refl, (refl, (refl, refl)))
@@ -45,13 +57,17 @@ add-spec =
     (tie.spec
     cast-order
     mul-order
-    element-write-order
+    slice-write-order
     add-number
     cast-number
     mul-number
-    element-write-number
+    slice-write-number
     cast-up
     mul-up
-    element-write-up
-    element-write-kind
+    slice-write-up
+    slice-write-kind
+    same-length
+    same-length-2
+    same-length-3
+    same-length-4
     returns)

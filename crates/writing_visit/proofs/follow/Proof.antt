@@ -6,20 +6,20 @@ use Rattle.writing_visit.proofs.follow.Tie as tie
 mul-first : tie.Need-mul-first
 mul-first c = search needs
 
-element-copy-out-first : tie.Need-element-copy-out-first
-element-copy-out-first c = search needs
+shared-slice-read-first : tie.Need-shared-slice-read-first
+shared-slice-read-first c = search needs
 
 cast-first : tie.Need-cast-first
 cast-first c = search needs
 
-element-copy-out-kind : tie.Need-element-copy-out-kind
-element-copy-out-kind c = search needs
+shared-slice-read-kind : tie.Need-shared-slice-read-kind
+shared-slice-read-kind c = search needs
 
 mul-second : tie.Need-mul-second
 mul-second c = search needs
 
-element-copy-out-second : tie.Need-element-copy-out-second
-element-copy-out-second c = search needs
+shared-slice-read-second : tie.Need-shared-slice-read-second
+shared-slice-read-second c = search needs
 
 cast-second : tie.Need-cast-second
 cast-second c = search needs
@@ -27,8 +27,8 @@ cast-second c = search needs
 mul-next : tie.Need-mul-next
 mul-next c = search needs
 
-element-copy-out-next : tie.Need-element-copy-out-next
-element-copy-out-next c = search needs
+shared-slice-read-next : tie.Need-shared-slice-read-next
+shared-slice-read-next c = search needs
 
 cast-next : tie.Need-cast-next
 cast-next c = search needs
@@ -39,8 +39,8 @@ returns c = let e = eq-eqb _ _ (c .before .before .if1 .taken) in (simp e, (simp
 mul-next-2 : tie.Need-mul-next-2
 mul-next-2 c = search needs
 
-element-copy-out-next-2 : tie.Need-element-copy-out-next-2
-element-copy-out-next-2 c = search needs
+shared-slice-read-next-2 : tie.Need-shared-slice-read-next-2
+shared-slice-read-next-2 c = search needs
 
 cast-next-2 : tie.Need-cast-next-2
 cast-next-2 c = search needs
@@ -56,18 +56,18 @@ follow-spec =
     tie.close
     (tie.spec
     mul-first
-    element-copy-out-first
+    shared-slice-read-first
     cast-first
-    element-copy-out-kind
+    shared-slice-read-kind
     mul-second
-    element-copy-out-second
+    shared-slice-read-second
     cast-second
     mul-next
-    element-copy-out-next
+    shared-slice-read-next
     cast-next
     returns
     mul-next-2
-    element-copy-out-next-2
+    shared-slice-read-next-2
     cast-next-2
     turned-requires
     returns-2)

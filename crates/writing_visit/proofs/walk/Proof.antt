@@ -1,10 +1,9 @@
 use Rattle.writing_visit.proofs.Lists.{fit-wide}
-use Rattle.writing_visit.proofs.Wires.{fit-same, wired-at, walked-table}
+use Rattle.writing_visit.proofs.Wires.{fit-same, wired-at, walked-table, link-room, places-kept}
 use Rattle.writing_visit.proofs.Laws.{kept-same, kept-then, room-kept}
 use Rattle.writing_visit.proofs.Roots.{Sofar, sofar-start, sofar-step, sofar-end}
 use Rattle.writing_visit.specs.Visit.{Kept, walkArrays}
 use Rattle.writing_visit.specs.Wires.{wires}
-use mathlib.Core.Path.{refl}
 use Prim.Native.Nat.{_-_}
 use native.Mathlib.Omega.{arith}
 use Rattle.writing_visit.proofs.walk.Statement.{statement}
@@ -17,45 +16,88 @@ Inv-loop bonds n m order₀ number₀ up₀ kind₀ ea eb ks sums head after beh
 abbrev μ-loop : tie.MeasureT-loop
 μ-loop bonds n m order₀ number₀ up₀ kind₀ ea eb ks sums head after behind count₀ a₀ order number up kind count a = n - a
 
-cast-head : tie.Need-cast-head Inv-loop μ-loop
-cast-head c = let fit = c .pre .0 in omega (arith, fit .few-bonds)
-
 link-requires : tie.Need-link-requires Inv-loop μ-loop
 link-requires c κs =
-    let p = c .before .before .before .before .before .before .before .pre in
-    (fit-wide (p .0), ((refl, p .1 .1 .1 .1 .1), record { after = omega arith; behind = omega arith; firsts = p .1 .1 .1 .0 .0; seconds = p .1 .1 .1 .0 .1; kinds = p .1 .1 .1 .1 .0 }))
+    let s = c .before .before .before .before .before .before .before .before .before .before .before .before .before .before .before .before .before .before in
+    let p = s .pre in
+    (fit-wide (p .0), (p .1 .1 .1 .0, link-room (p .0) (p .1 .1 .1 .1 .0) (p .1 .1 .1 .1 .1)))
 
 loop-holds : tie.Need-loop-holds Inv-loop μ-loop
 loop-holds c =
-    let s = c .before .before .before .before .before .before .before .before in
-    (sofar-start (fit-same (wired-at (c .link .ensures .1 .0)) (s .pre .0)) _ _ _ _ (s .pre .1 .1 .0), kept-same)
+    let s = c .before .before .before .before .before .before .before .before .before .before .before .before .before .before .before .before .before .before .before .before .before .before .before .before .before .before .before .before .before .before .before .before .before in
+    (sofar-start (fit-same (wired-at (c .before .before .before .before .before .before .before .before .before .before .before .before .before .before .link .ensures .1 .0)) (s .pre .0)) _ _ _ _ (s .pre .1 .1 .0), kept-same)
 
 root-requires : tie.Need-root-requires Inv-loop μ-loop
 root-requires c κs =
-    let s = c .before .before .before .before .before .before .before .before .before .before .before .before .before .before .before .before .before .before .before .before in
-    let l = c .before .before .before .before .before .before .before .before .before .before .before .before .link .ensures in
-    (fit-same (wired-at (l .1 .0)) (s .pre .0), (l .0, (room-kept (s .pre .1 .0) (c .before .before .before .before .before .before .before .before .before .before .before .loop .inv .1), c .before .before .before .before .before .before .before .before .before .before .loop-test .taken)))
+    let s = c .before .before .before .before .before .before .before .before .before .before .before .before .before .before .before .before .before .before .before .before .before .before .before .before .before .before .before .before .before .before .before .before .before .before .before .before .before .before .before .before .before .before .before .before .before in
+    let l = c .before .before .before .before .before .before .before .before .before .before .before .before .before .before .before .before .before .before .before .before .before .before .before .before .before .before .link .ensures in
+    let k = c .before .before .before .before .before .before .before .before .before .before .before .before .before .before .before .before .before .before .before .before .before .before .before .before .before .before .link .kept in
+    (fit-same (wired-at (l .1 .0)) (s .pre .0), (places-kept (s .pre .1 .1 .1 .1 .0) (k .1 .1 .0) (k .1 .1 .1 .0) (k .1 .1 .1 .1 .0) (k .1 .1 .1 .1 .1 .0) (k .1 .1 .1 .1 .1 .1 .0) (k .1 .1 .1 .1 .1 .1 .1 .0), (l .0, (room-kept (s .pre .1 .0) (c .before .before .before .before .before .before .before .before .before .before .before .loop .inv .1), c .before .before .before .before .before .before .before .before .before .before .loop-test .taken))))
 
 add-a : tie.Need-add-a Inv-loop μ-loop
 add-a c =
-    let fit = c .before .before .before .before .before .before .before .before .before .before .before .before .before .before .before .before .before .before .before .before .before .pre .0 in
-    omega (arith, fit .few-atoms, c .before .before .before .before .before .before .before .before .before .before .before .loop-test .taken)
+    let fit = c .before .before .before .before .before .before .before .before .before .before .before .before .before .before .before .before .before .before .before .before .before .before .before .before .before .before .before .before .before .before .before .before .before .before .before .before .before .before .before .before .before .before .before .before .before .before .before .before .before .before .before .before .before .before .pre .0 in
+    omega (arith, fit .few-atoms, c .before .before .before .before .before .before .before .before .before .before .before .before .before .before .before .before .before .before .before .loop-test .taken)
 
 loop-less : tie.Need-loop-less Inv-loop μ-loop
-loop-less c = omega (arith, c .before .before .before .before .before .before .before .before .before .before .before .loop-test .taken)
+loop-less c = omega (arith, c .before .before .before .before .before .before .before .before .before .before .before .before .before .before .before .before .before .before .before .loop-test .taken)
 
 loop-again : tie.Need-loop-again Inv-loop μ-loop
 loop-again c =
-    let s = c .before .before .before .before .before .before .before .before .before .before .before .before .before .before .before .before .before .before .before .before .before in
-    let l = c .before .before .before .before .before .before .before .before .before .before .before .before .before .link .ensures in
-    let i = c .before .before .before .before .before .before .before .before .before .before .before .before .loop .inv in
-    let r = c .root .ensures in
-    (sofar-step (fit-same (wired-at (l .1 .0)) (s .pre .0)) _ _ _ _ (c .before .before .before .before .before .before .before .before .before .before .before .loop-test .taken) (i .0) (r .0), kept-then (i .1) (r .1))
+    let s = c .before .before .before .before .before .before .before .before .before .before .before .before .before .before .before .before .before .before .before .before .before .before .before .before .before .before .before .before .before .before .before .before .before .before .before .before .before .before .before .before .before .before .before .before .before .before .before .before .before .before .before .before .before .before in
+    let l = c .before .before .before .before .before .before .before .before .before .before .before .before .before .before .before .before .before .before .before .before .before .before .before .before .before .before .before .before .before .before .before .before .before .before .before .link .ensures in
+    let i = c .before .before .before .before .before .before .before .before .before .before .before .before .before .before .before .before .before .before .before .before .loop .inv in
+    let r = c .before .before .before .before .before .before .before .before .root .ensures in
+    (sofar-step (fit-same (wired-at (l .1 .0)) (s .pre .0)) _ _ _ _ (c .before .before .before .before .before .before .before .before .before .before .before .before .before .before .before .before .before .before .before .loop-test .taken) (i .0) (r .0), kept-then (i .1) (r .1))
+
+same-length : tie.Need-same-length Inv-loop μ-loop
+same-length c =
+    c .before .loop .inv .1 .order
+
+same-length-2 : tie.Need-same-length-2 Inv-loop μ-loop
+same-length-2 c =
+    c .before .loop .inv .1 .number
+
+same-length-3 : tie.Need-same-length-3 Inv-loop μ-loop
+same-length-3 c =
+    c .before .loop .inv .1 .up
+
+same-length-4 : tie.Need-same-length-4 Inv-loop μ-loop
+same-length-4 c =
+    c .before .loop .inv .1 .kind
+
+same-length-5 : tie.Need-same-length-5 Inv-loop μ-loop
+same-length-5 c =
+    c .before .before .before .before .before .before .before .before .before .before .before .before .before .before .before .before .link .kept .1 .1 .1 .1 .1 .0
+
+same-length-6 : tie.Need-same-length-6 Inv-loop μ-loop
+same-length-6 c =
+    c .before .before .before .before .before .before .before .before .before .before .before .before .before .before .before .before .link .kept .1 .1 .1 .1 .1 .1 .0
+
+same-length-7 : tie.Need-same-length-7 Inv-loop μ-loop
+same-length-7 c =
+    c .before .before .before .before .before .before .before .before .before .before .before .before .before .before .before .before .link .kept .1 .1 .1 .1 .1 .1 .1 .0
+
+same-length-8 : tie.Need-same-length-8 Inv-loop μ-loop
+same-length-8 c =
+    c .before .before .before .before .before .before .before .before .before .before .before .before .before .before .before .before .link .kept .1 .1 .1 .1 .1 .1 .1 .1 .0
+
+same-length-9 : tie.Need-same-length-9 Inv-loop μ-loop
+same-length-9 c =
+    c .before .before .before .before .before .before .before .before .before .before .before .before .before .before .before .before .link .kept .1 .1 .0
+
+same-length-10 : tie.Need-same-length-10 Inv-loop μ-loop
+same-length-10 c =
+    c .before .before .before .before .before .before .before .before .before .before .before .before .before .before .before .before .link .kept .1 .1 .1 .0
+
+same-length-11 : tie.Need-same-length-11 Inv-loop μ-loop
+same-length-11 c =
+    c .before .before .before .before .before .before .before .before .before .before .before .before .before .before .before .before .link .kept .1 .1 .1 .1 .0
 
 returns : tie.Need-returns Inv-loop μ-loop
 returns c =
-    let s = c .before .before .before .before .before .before .before .before .before .before in
-    let l = c .before .before .link .ensures in
+    let s = c .before .before .before .before .before .before .before .before .before .before .before .before .before .before .before .before .before .before .before .before .before .before .before .before .before .before .before .before .before .before .before .before .before .before .before in
+    let l = c .before .before .before .before .before .before .before .before .before .before .before .before .before .before .before .before .link .ensures in
     let i = c .before .loop .inv in
     let w = sofar-end (fit-same (wired-at (l .1 .0)) (s .pre .0)) _ _ _ _ _ _ (c .loop-test .left) (s .pre .1 .0) (i .0) in
     (walked-table (l .1 .0) w, (i .1, (l .1 .0, l .1 .1)))
@@ -66,11 +108,21 @@ walk-spec =
     (tie.spec
     Inv-loop
     μ-loop
-    cast-head
     link-requires
     loop-holds
     root-requires
     add-a
     loop-less
     loop-again
+    same-length
+    same-length-2
+    same-length-3
+    same-length-4
+    same-length-5
+    same-length-6
+    same-length-7
+    same-length-8
+    same-length-9
+    same-length-10
+    same-length-11
     returns)

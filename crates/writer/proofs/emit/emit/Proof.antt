@@ -27,8 +27,9 @@ slice-aggregate-emit-atom c =
 
 emit-atom-requires : tie.Need-emit-atom-requires Inv-loop μ-loop
 emit-atom-requires c κs =
-    let p = c .before .before .before .before .before .before .before .before .before .before .before .before .before .pre in
-    (p .0 _ (c .before .before .loop-test .taken), (p .1, omega (arith, c .before .before .before .loop .inv .2)))
+    let p = c .before .before .before .before .before .before .before .before .before .before .before .before .before .before .pre in
+    let t = c .before .before .loop-test .taken in
+    (p .0 _ t, (p .1 .0, (omega (arith, c .before .before .before .loop .inv .2), omega (arith, t, p .1 .1))))
 
 same-length : tie.Need-same-length Inv-loop μ-loop
 same-length c =
@@ -40,7 +41,7 @@ returns c =
 
 add-x : tie.Need-add-x Inv-loop μ-loop
 add-x c =
-    let s = c .before .before .before .before .before .before .before .before .before .before .before .before .before .before .before .before .before .before in
+    let s = c .before .before .before .before .before .before .before .before .before .before .before .before .before .before .before .before .before .before .before in
     omega (arith, c .before .before .before .before .before .before .before .loop-test .taken, s .fits .n)
 
 loop-less : tie.Need-loop-less Inv-loop μ-loop

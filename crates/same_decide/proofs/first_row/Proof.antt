@@ -1,0 +1,121 @@
+-- `same_decide::first_row` meets its contract: what is left of the rows falls, and leads to the same. Assumes nothing.
+use mathlib.Core.Path.{_≡_, refl, sym, ap, _∙_}
+use native.Mathlib.Omega.{arith}
+use lib.ListN.{length}
+use lib.Seq.{length-take-le}
+use denote.Ref.{now}
+use Rattle.table_graph.specs.Graph.{matchingOf}
+use Rattle.same_decide.specs.Decide.{hasSecond}
+use Rattle.same_decide.proofs.Walk.{Walking, rest, walking-first, walking-next, fewer, first-length}
+use Rattle.same_decide.proofs.Rows.{ready, first-hit, first-none}
+use Rattle.same_decide.proofs.first_row.Statement.{statement}
+use Rattle.same_decide.proofs.first_row.Tie as tie
+
+abbrev Inv-loop : tie.InvT-loop
+Inv-loop ok atoms1 bonds1 m1 atoms2 bonds2 n m2 row1₀ row2₀ ren₀ more₀ row1 row2 ren more =
+    Walking (matchingOf atoms1 bonds1 n m1) m1 (hasSecond ok bonds1 m1 atoms2 bonds2 n m2) (length row1₀) more row1 × (length row2 ≡ length row2₀) × (length ren ≡ length ren₀)
+
+abbrev μ-loop : tie.MeasureT-loop
+μ-loop ok atoms1 bonds1 m1 atoms2 bonds2 n m2 row1₀ row2₀ ren₀ more₀ row1 row2 ren more = length (rest (matchingOf atoms1 bonds1 n m1) m1 more row1)
+
+ask-requires : tie.Need-ask-requires Inv-loop μ-loop
+ask-requires c κs = let s = c .before .before .before in (s .pre .0, s .pre .1 .1 .0 .0)
+
+loop-holds : tie.Need-loop-holds Inv-loop μ-loop
+loop-holds c =
+    let s = c .before .before .before .before .before .before in
+    let k = first-length _ (s .args .m1) (now (s .args .row1)) (s .pre .1 .1 .0 .0) (c .before .before .ask .ensures) in
+    (walking-first _ _ _ _ (omega (arith, s .pre .1 .1 .0 .0)) (now (s .args .row1)) (sym k) (c .before .before .ask .ensures), refl, refl)
+
+slice-reshare-prefix-second-for : tie.Need-slice-reshare-prefix-second-for Inv-loop μ-loop
+slice-reshare-prefix-second-for c =
+    let s = c .before .before .before .before .before .before .before .before in
+    let k = first-length _ (s .args .m1) (now (s .args .row1)) (s .pre .1 .1 .0 .0) (c .before .before .before .before .ask .ensures) in
+    omega (arith, s .pre .1 .1 .0 .0, c .before .loop .inv .0 .long)
+
+slice-aggregate-second-for : tie.Need-slice-aggregate-second-for Inv-loop μ-loop
+slice-aggregate-second-for c =
+    let s = c .before .before .before .before .before .before .before .before .before in
+    let k = first-length _ (s .args .m1) (now (s .args .row1)) (s .pre .1 .1 .0 .0) (c .before .before .before .before .before .ask .ensures) in
+    sym (length-take-le (s .args .m1) (c .before .before .loop .row1) (omega (arith, s .pre .1 .1 .0 .0, c .before .before .loop .inv .0 .long)))
+
+second-for-requires : tie.Need-second-for-requires Inv-loop μ-loop
+second-for-requires c κs =
+    let s = c .before .before .before .before .before .before .before .before .before .before .before in
+    let k = first-length _ (s .args .m1) (now (s .args .row1)) (s .pre .1 .1 .0 .0) (c .before .before .before .before .before .before .before .ask .ensures) in
+    let v = c .before .before .before .before .loop .inv in
+    (ready _ (s .pre .0) (s .pre .1 .1 .1 .few) (omega (arith, s .pre .1 .1 .0 .0, v .0 .long)), (s .pre .1 .0, (omega (arith, s .pre .1 .1 .0 .1, v .1), record { few = s .pre .1 .1 .1 .few; room = omega (arith, s .pre .1 .1 .1 .room, v .2) })))
+
+same-length : tie.Need-same-length Inv-loop μ-loop
+same-length c =
+    let s = c .before .before .before .before .before .before .before .before .before .before .before .before .before .before .before in
+    let k = first-length _ (s .args .m1) (now (s .args .row1)) (s .pre .1 .1 .0 .0) (c .before .before .before .before .before .before .before .before .before .before .before .ask .ensures) in
+    c .before .before .before .before .before .before .before .before .loop .inv .0 .long ∙ k
+
+same-length-2 : tie.Need-same-length-2 Inv-loop μ-loop
+same-length-2 c = c .before .before .before .second-for .ensures .long ∙ c .before .before .before .before .before .before .before .before .loop .inv .1
+
+returns : tie.Need-returns Inv-loop μ-loop
+returns c =
+    let s = c .before .before .before .before .before .before .before .before .before .before .before .before .before .before .before in
+    let k = first-length _ (s .args .m1) (now (s .args .row1)) (s .pre .1 .1 .0 .0) (c .before .before .before .before .before .before .before .before .before .before .before .ask .ensures) in
+    let v = c .before .before .before .before .before .before .before .before .loop .inv in
+    first-hit _ _ _ _ _ _ _ _ (now (s .args .row1)) (now (s .args .row2)) (now (s .args .ren)) (s .pre .1 .1 .0 .0) k (v .0) (c .before .before .before .before .before .before .before .loop-test .taken) (v .1) (v .2) (c .before .before .before .second-for .ensures) (c .if1 .taken)
+
+ask-requires-2 : tie.Need-ask-requires-2 Inv-loop μ-loop
+ask-requires-2 c κs =
+    let s = c .before .before .before .before .before .before .before .before .before .before .before .before .before .before .before .before in
+    let k = first-length _ (s .args .m1) (now (s .args .row1)) (s .pre .1 .1 .0 .0) (c .before .before .before .before .before .before .before .before .before .before .before .before .ask .ensures) in
+    (s .pre .0, omega (arith, s .pre .1 .1 .0 .0, c .before .before .before .before .before .before .before .before .before .loop .inv .0 .long))
+
+loop-less : tie.Need-loop-less Inv-loop μ-loop
+loop-less c =
+    let s = c .before .before .before .before .before .before .before .before .before .before .before .before .before .before .before .before .before .before .before in
+    let k = first-length _ (s .args .m1) (now (s .args .row1)) (s .pre .1 .1 .0 .0) (c .before .before .before .before .before .before .before .before .before .before .before .before .before .before .before .ask .ensures) in
+    let p = c .before .before .before .before .before .before .before .second-for .ensures in
+    fewer _ _ _ _ (omega (arith, s .pre .1 .1 .0 .0)) (c .before .before .before .before .before .before .before .before .before .before .before .before .loop .inv .0) (c .before .before .before .before .before .before .before .before .before .before .before .loop-test .taken) (sym (p .told) ∙ c .before .before .before .before .if1 .left) (c .before .before .ask2 .ensures)
+
+loop-again : tie.Need-loop-again Inv-loop μ-loop
+loop-again c =
+    let s = c .before .before .before .before .before .before .before .before .before .before .before .before .before .before .before .before .before .before .before in
+    let k = first-length _ (s .args .m1) (now (s .args .row1)) (s .pre .1 .1 .0 .0) (c .before .before .before .before .before .before .before .before .before .before .before .before .before .before .before .ask .ensures) in
+    let p = c .before .before .before .before .before .before .before .second-for .ensures in
+    let v = c .before .before .before .before .before .before .before .before .before .before .before .before .loop .inv in
+    (walking-next _ _ _ _ (omega (arith, s .pre .1 .1 .0 .0)) (v .0) (c .before .before .before .before .before .before .before .before .before .before .before .loop-test .taken) (sym (p .told) ∙ c .before .before .before .before .if1 .left) (c .before .before .ask2 .ensures), p .long ∙ v .1, p .size ∙ v .2)
+
+same-length-3 : tie.Need-same-length-3 Inv-loop μ-loop
+same-length-3 c =
+    let s = c .before .before .before .before .before .before .before .before in
+    let k = first-length _ (s .args .m1) (now (s .args .row1)) (s .pre .1 .1 .0 .0) (c .before .before .before .before .ask .ensures) in
+    c .before .loop .inv .0 .long ∙ k
+
+same-length-4 : tie.Need-same-length-4 Inv-loop μ-loop
+same-length-4 c = c .before .loop .inv .1
+
+returns-2 : tie.Need-returns-2 Inv-loop μ-loop
+returns-2 c =
+    let s = c .before .before .before .before .before .before .before .before in
+    let k = first-length _ (s .args .m1) (now (s .args .row1)) (s .pre .1 .1 .0 .0) (c .before .before .before .before .ask .ensures) in
+    let v = c .before .loop .inv in
+    first-none _ _ _ _ _ _ _ _ (now (s .args .row1)) (now (s .args .row2)) (now (s .args .ren)) (s .pre .1 .1 .0 .0) k (v .0) (c .loop-test .left) (v .1) (v .2)
+
+pub first-row-spec : {M : Type 1} → statement M
+first-row-spec =
+    tie.close
+    (tie.spec
+    Inv-loop
+    μ-loop
+    ask-requires
+    loop-holds
+    slice-reshare-prefix-second-for
+    slice-aggregate-second-for
+    second-for-requires
+    same-length
+    same-length-2
+    returns
+    ask-requires-2
+    loop-less
+    loop-again
+    same-length-3
+    same-length-4
+    returns-2)

@@ -1,0 +1,4 @@
+pub mod Matrix
+pub mod Five
+pub mod Drawn
+pub mod Fitting

@@ -1,0 +1,10 @@
+pub mod Lists
+pub mod Words
+pub mod Onto
+pub mod Cells
+pub mod Sameness
+pub mod Relation
+pub mod Totals
+pub mod Orders
+pub mod Settling
+pub mod Redrawn

@@ -1,0 +1,34 @@
+"""Balsa text, a line notation for molecules of the SMILES family, by a proved library.
+
+>>> import balsa
+>>> benzene = balsa.Molecule("c1ccccc1")
+>>> len(benzene.atoms), len(benzene.bonds)
+(6, 6)
+>>> list(benzene.matchings())
+[(1, 0, 1, 0, 1, 0), (0, 1, 0, 1, 0, 1)]
+>>> benzene.kekulized().text
+'C1=CC=CC=C1'
+
+What is refused is told with its number, its place and a caret:
+
+>>> balsa.Molecule("C11")
+Traceback (most recent call last):
+    ...
+balsa.Refusal: refusal 7 at byte 2: a bridge joins an atom to itself
+  C11
+    ^
+
+Molecules may be used from any threads at once, a register from one at a time.
+"""
+
+from ._molecule import Atom, Bond, Molecule, Written
+from ._native import lib as _lib
+from ._refusal import Refusal
+from ._register import Register
+from ._report import report
+
+__all__ = ["Atom", "Bond", "EDITION", "Molecule", "Refusal", "Register", "Written", "report"]
+__version__ = _lib.balsa_version().decode("ascii")
+
+#: The edition of the rules: it grows with each change of an answer.
+EDITION = _lib.balsa_edition()

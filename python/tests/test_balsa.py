@@ -1,0 +1,188 @@
+"""The module beside the header, the proved report and the golden words; types, pickles and threads.
+
+    BALSA_LIBRARY=target/shared/lib/libbalsa.so PYTHONPATH=python python3 -m unittest discover -s python/tests
+"""
+
+import copy
+import doctest
+import os
+import pickle
+import re
+import subprocess
+import threading
+import unittest
+
+import balsa
+from balsa import Molecule, Refusal, Register, _native
+
+ROOT = os.path.join(os.path.dirname(os.path.abspath(__file__)), "..", "..")
+
+
+def content(path):
+    with open(os.path.join(ROOT, path), "rb") as file:
+        return file.read()
+
+
+CORPUS = content("corpus/real.smi").split()
+TEXTS = CORPUS + [b"C11", b"C1CC", b"cc", b"", b"C\x00", b"c1cccc1", b"x" * (_native.TEXT + 1)]
+
+
+def load_tests(loader, tests, pattern):
+    tests.addTests(doctest.DocTestSuite(balsa))
+    for readme in ["README.md", os.path.join("python", "README.md")]:
+        tests.addTests(doctest.DocFileSuite(os.path.join(ROOT, readme), module_relative=False))
+    return tests
+
+
+def refused(call, *arguments):
+    """The refusal that a call raises."""
+    try:
+        call(*arguments)
+    except Refusal as refusal:
+        return refusal
+    raise AssertionError("accepted")
+
+
+class Agreement(unittest.TestCase):
+    def test_header(self):
+        header = content("include/balsa.h").decode()
+        numbers = dict(re.findall(r"BALSA_(\w+) = (\d+)", header))
+        for name in ["ATOM_TABLE", "BOND_TABLE", "ROW", "TEXT", "RENUMBERING", "END"]:
+            self.assertEqual(getattr(_native, name), int(numbers[name]), name)
+        for name in ["REGISTER", "REGISTER_ENTRIES", "REGISTER_BODY"]:
+            self.assertEqual(getattr(_native, name), int(numbers[name]), name)
+        self.assertEqual(_native.ATOM_TABLE, _native.ATOM_CELLS * _native.RENUMBERING)
+        self.assertEqual(_native.BOND_TABLE, _native.BOND_CELLS * _native.ROW)
+        self.assertIn(f'#define BALSA_VERSION "{balsa.__version__}"', header)
+        self.assertIn(f"#define BALSA_EDITION {balsa.EDITION}\n", header)
+        self.assertIn(f'version = "{balsa.__version__}"', content("python/pyproject.toml").decode())
+
+    def test_words(self):
+        listed = [line.split(" ", 1) for line in content("c/refusals.out").decode().splitlines()]
+        for number, words in listed:
+            self.assertEqual(Refusal(int(number)).message, words)
+        self.assertRaises(ValueError, Refusal, 0)
+        self.assertRaises(ValueError, Refusal, 300)
+
+    def test_messages(self):
+        """As the command line's, but for where the text stands."""
+        told = str(refused(Molecule, "C" * 100 + "*(]" + "C" * 100)).split("\n")
+        golden = content("rust/cli/tests/refusals.golden").decode().split("\n")
+        place = golden.index("<arguments>:5:103: refusal 3: no text of the grammar continues so")
+        self.assertEqual(told[0], "refusal 3 at byte 102: no text of the grammar continues so")
+        self.assertEqual(told[1:], golden[place + 1 : place + 3])
+        self.assertEqual(str(refused(Molecule, "cc")), "refusal 22: a selected atom has fewer than two bonds\n  cc")
+
+    def test_report(self):
+        """What objects say of each text is what the proved program reports."""
+        lines = b"".join(text + b"\n" for text in TEXTS)
+        program = os.path.join(ROOT, "target", "bin", "report")
+        proved = subprocess.run([program], input=lines, stdout=subprocess.PIPE, check=True).stdout
+        self.assertEqual(balsa.report(lines), proved)
+        for line, text in zip(proved.decode().split("\n")[1:], TEXTS):
+            self.assertEqual(line.partition(": ")[2], self.said_of(text))
+
+    @staticmethod
+    def said_of(text):
+        try:
+            molecule = Molecule(text)
+            row = "".join(map(str, next(molecule.matchings())))
+            counts = len(molecule.atoms), len(molecule.bonds), molecule.overfull
+            return "0 %d %d %d " % counts + f"{row or '-'} {molecule.kekulized().text or '-'}"
+        except Refusal as refusal:
+            return f"{refusal.code} {refusal.place or 0}"
+
+
+class Molecules(unittest.TestCase):
+    def test_types(self):
+        for wrong in [5, None, 1.5, ["C"], object()]:
+            self.assertRaises(TypeError, Molecule, wrong)
+        for text in ["CC", b"CC", bytearray(b"CC"), memoryview(b"CC")]:
+            self.assertEqual(Molecule(text), Molecule("CC"))
+        self.assertEqual(refused(Molecule, "C\u00e9").place, 1)
+        self.assertEqual(refused(Molecule, "C\ud800").place, 1)
+
+    def test_places(self):
+        self.assertEqual(refused(Molecule, "x").place, 0)
+        self.assertIsNone(refused(Molecule, "cc").place)
+
+    def test_matchings(self):
+        benzene = Molecule("c1ccccc1")
+        for wrong in [(), (1,), (1, 1, 1, 0, 0, 0), [1000] * 6, (1, 0, 1, 0, 1, 0, 0), [-1] * 6]:
+            self.assertEqual(refused(benzene.kekulized, wrong).code, 12)
+        for wrong in ["101010", 6, 1.5]:
+            self.assertRaises(TypeError, benzene.kekulized, wrong)
+        self.assertEqual(benzene.kekulized([1, 0, 1, 0, 1, 0]), benzene.kekulized())
+        self.assertEqual(list(Molecule("C").matchings()), [()])
+        self.assertEqual(len(list(Molecule("c1ccc2ccccc2c1").matchings())), 3)
+
+    def test_side_by_side(self):
+        """Two enumerations in turn do not disturb each other."""
+        one, two = Molecule("c1ccc2ccccc2c1"), Molecule("c1ccccc1")
+        rows = list(zip(one.matchings(), two.matchings()))
+        self.assertEqual([a for a, _ in rows], list(one.matchings())[:2])
+        self.assertEqual([b for _, b in rows], list(two.matchings()))
+
+    def test_pickles_and_copies(self):
+        molecule = Molecule("FC(F)(F)(F)F")
+        for again in [pickle.loads(pickle.dumps(molecule)), copy.copy(molecule), copy.deepcopy(molecule)]:
+            self.assertEqual((again, again.overfull), (molecule, 1))
+        refusal = refused(Molecule, "C11")
+        again = pickle.loads(pickle.dumps(refusal))
+        self.assertEqual((again.code, again.place, again.message), (7, 2, refusal.message))
+        self.assertEqual(str(again), str(refusal))
+        self.assertIsInstance(again, ValueError)
+
+    def test_sets(self):
+        self.assertEqual(len({Molecule("CC"), Molecule("C(C)"), Molecule("CO")}), 2)
+        self.assertNotEqual(Molecule("C"), "C")
+
+    def test_unwritable(self):
+        spine = "".join(f"C%{10 + n}" for n in range(65)) + "C" + "".join(f".C%{10 + n}" for n in range(65))
+        molecule = Molecule(spine)
+        self.assertEqual(refused(molecule.written).code, 15)
+        self.assertEqual(repr(molecule), "<Molecule of 131 atoms and 130 bonds>")
+
+    def test_threads(self):
+        expected = [Molecule(text).kekulized().text for text in CORPUS[:500]]
+        seen = []
+
+        def work():
+            seen.append([Molecule(text).kekulized().text for text in CORPUS[:500]])
+
+        threads = [threading.Thread(target=work) for _ in range(8)]
+        for thread in threads:
+            thread.start()
+        for thread in threads:
+            thread.join()
+        self.assertEqual(seen, [expected] * 8)
+
+
+class Registers(unittest.TestCase):
+    def test_entries(self):
+        register = Register()
+        self.assertEqual((len(register), list(register)), (0, []))
+        register.add(7, "CC")
+        register.add(65535, b"\x00")
+        self.assertEqual(list(register), [(7, b"CC"), (65535, b"\x00")])
+        self.assertEqual((register[-1], register[:1]), ((65535, b"\x00"), [(7, b"CC")]))
+        self.assertRaises(IndexError, lambda: register[2])
+        self.assertRaises(IndexError, lambda: register[-3])
+        self.assertEqual(pickle.loads(pickle.dumps(register)), register)
+        register.empty()
+        self.assertEqual(list(register), [])
+
+    def test_refusals(self):
+        register = Register()
+        self.assertEqual(refused(register.add, 1, b"C" * (_native.REGISTER_BODY + 1)).code, 18)
+        self.assertRaises(ValueError, register.add, 65536, "C")
+        self.assertRaises(ValueError, register.add, -1, "C")
+        self.assertRaises(TypeError, register.add, "1", "C")
+        self.assertRaises(TypeError, register.add, 1, 5)
+        self.assertEqual(refused(Register, bytes(_native.REGISTER)).code, 17)
+        self.assertEqual(refused(Register, b"").code, 1)
+        self.assertRaises(TypeError, Register, 5)
+
+
+if __name__ == "__main__":
+    unittest.main()
