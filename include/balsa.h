@@ -115,7 +115,7 @@ typedef struct {
     size_t length;
 } balsa_report_reply;
 
-/* Reads a text. Output: atoms, bonds. Refusals 1 to 11. */
+/* Reads a text. Output: atoms, bonds. Refusals 1 to 11, 20 to 22. */
 balsa_read_reply balsa_read(const uint8_t *text, size_t text_len, int32_t *atoms, size_t atoms_len,
                             int32_t *bonds, size_t bonds_len);
 
@@ -141,9 +141,14 @@ uint32_t balsa_is_matching(const int32_t *atoms, size_t atoms_len, const int32_t
                            size_t bonds_len, size_t n, size_t m, const uint8_t *row, size_t row_len);
 
 /* Makes the bonds of the matching row double and every atom unselected, in place. A refusal changes
- * nothing: 1, 13, 12. */
+ * nothing: 1, 13, 12, 20. */
 uint32_t balsa_kekulize(int32_t *atoms, size_t atoms_len, int32_t *bonds, size_t bonds_len, size_t n,
                         size_t m, const uint8_t *row, size_t row_len);
+
+/* The row of sides: 1 at each double bond whose two ends have their lowest marked neighbours on the same
+ * side, 2 if on opposite sides, else 0. Output: row. Refusals 1, 13. */
+uint32_t balsa_sides(const int32_t *atoms, size_t atoms_len, const int32_t *bonds, size_t bonds_len,
+                     size_t n, size_t m, uint8_t *row, size_t row_len);
 
 /* Runs calls on row one after the other, 0 for the first matching, any other byte for the next, and
  * stores the code of each in codes; the rest of codes is zeroed. Refusal 1 where codes is shorter

@@ -4,8 +4,8 @@ use mathlib.Core.Bool.{Bool, true, false, _&&_, _||_, not}
 use mathlib.Core.List.{List, [], _∷_, map}
 use Prim.Native.Nat.{ℕ}
 use lib.IntN.{ℤ, pos, negsuc}
-use Rattle.kinds.specs.Kind.{order, symbolKind, bondSymbol}
-use Rattle.loops.specs.Loop.{each, run, upTo}
+use Rattle.kinds.specs.Kind.{order, symbolKind, bondSymbol, markOf, turned}
+use Rattle.loops.specs.Loop.{each, howMany, run, upTo}
 use Rattle.element.specs.Symbols.{among, listed, starts, sameBytes, symbols, letters, marks}
 use Rattle.element.specs.Lookup.{indexFrom, numberOf, selectedOf, letterOf, bare, bytesOf, selectedBytes}
 use Rattle.valence.specs.Valence.{targets, firstTarget, firstFitting, reachedIn, hydrogensOf, shiftedTarget, delocalized}
@@ -17,7 +17,9 @@ use Rattle.matching.specs.Graph.{isMatching, eachOnce, degree, chosenInduced}
 use Rattle.table.specs.Cells.{number}
 use Rattle.table.specs.Rows.{withAtom, withBond}
 use Rattle.table.specs.Valid.{enough}
-use Rattle.table.specs.Sound.{touches, bondDegree, noneLoose, lateCode}
+use Rattle.table.specs.Cells.{touches}
+use Rattle.table.specs.Marks.{side, sideCount, doubleCount, noneCrowded, noneStray}
+use Rattle.table.specs.Sound.{bondDegree, noneLoose, lateCode}
 use Rattle.table_graph.specs.Graph.{share, bondSum, matchable}
 use Rattle.reading_state.specs.State.{started, opened, closed, joined}
 use Rattle.reading.specs.Memory.{begun, joins, joinedAlready, closeRefusal}
@@ -71,5 +73,5 @@ expected =
     []
 
 pub marked-texts : map said texts ≡ expected
-unfolding texts expected bondDegree noneLoose lateCode each run upTo among listed starts sameBytes symbols letters marks indexFrom numberOf selectedOf letterOf bare bytesOf selectedBytes order bondSymbol targets firstTarget firstFitting reachedIn hydrogensOf shiftedTarget delocalized nonzero digits several bondSymbols signs step next accepting resting atomOr bridgeOr closing extending charging hydrating symbolOr feed read rows passing isMatching eachOnce degree chosenInduced number withAtom withBond enough touches share bondSum started opened closed joined symbolKind begun joins joinedAlready closeRefusal symbolled atomAct bridgeAct branchAct modeAct act hydrogenated overfullAtoms leftmost matchable ended readFrom readOf forestOf renumbered unused write decimal hydrogenBytes sizeBytes bracketBytes withoutBrackets spelledAtom kindBytes bridgeBytes restBytes tokensBytes tokens textOf
+unfolding texts expected bondDegree noneLoose side sideCount doubleCount noneCrowded noneStray lateCode each howMany run upTo among listed starts sameBytes symbols letters marks indexFrom numberOf selectedOf letterOf bare bytesOf selectedBytes order bondSymbol markOf turned targets firstTarget firstFitting reachedIn hydrogensOf shiftedTarget delocalized nonzero digits several bondSymbols signs step next accepting resting atomOr bridgeOr closing extending charging hydrating symbolOr feed read rows passing isMatching eachOnce degree chosenInduced number withAtom withBond enough touches share bondSum started opened closed joined symbolKind begun joins joinedAlready closeRefusal symbolled atomAct bridgeAct branchAct modeAct act hydrogenated overfullAtoms leftmost matchable ended readFrom readOf forestOf renumbered unused write decimal hydrogenBytes sizeBytes bracketBytes withoutBrackets spelledAtom kindBytes bridgeBytes restBytes tokensBytes tokens textOf
 marked-texts = refl
