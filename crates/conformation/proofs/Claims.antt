@@ -134,7 +134,7 @@ joins {bonds} {m} {a} {w} {s} l = go (eqb (end1 bonds (l .bond)) a) refl (eqb (e
     go false e false f = let z : side bonds a (l .bond) ≡ 0 = rw (e, f) in absurd (omega (arith, l .marked, l .placed, z))
 
 module _ {atoms bonds : List ℤ} {n m : ℕ} (v : Valid atoms bonds n m) where
-  not-twice : (i j : ℕ) → i < m → j < m → end1 bonds i ≡ end1 bonds j → end2 bonds i ≡ end2 bonds j → i ≡ j
+  pub not-twice : (i j : ℕ) → i < m → j < m → end1 bonds i ≡ end1 bonds j → end2 bonds i ≡ end2 bonds j → i ≡ j
   unfolding sameEnds
   not-twice i j l k e f = go (ltb i j) refl (ltb j i) refl
     where
@@ -254,12 +254,12 @@ module _ (atoms bonds : List ℤ) (n m : ℕ) where
         go true e true f false g k = absurd (omega arith)
         go true e true f true g k = record { tables = g; filled = rw (e, f, g) }
 
+    pub row-cell : (b : ℕ) → b < m → getD (sidesOf atoms bonds n m row .row) b 0 ≡ sideOf bonds m b
+    row-cell b l = filled-at (sideOf bonds m) m b 0 (sidesOf atoms bonds n m row .row) (replicate (length row - m) 0) (filled-row .filled) l
+
     -- THE STATEMENT: each cell of the row up to the last bond says what its number means, and those after it are 0
     pub row-iff : (b k : ℕ) → b < m → (getD (sidesOf atoms bonds n m row .row) b 0 ≡ k) ↔ Entry bonds m b k
-    row-iff b k l =
-        let e = filled-at (sideOf bonds m) m b 0 (sidesOf atoms bonds n m row .row) (replicate (length row - m) 0) (filled-row .filled) l in
-        let i = entry-iff (filled-row .tables) b k in
-        (λ q. i .0 (sym e ∙ q), λ w. e ∙ i .1 w)
+    row-iff b k l = let i = entry-iff (filled-row .tables) b k in (λ q. i .0 (sym (row-cell b l) ∙ q), λ w. row-cell b l ∙ i .1 w)
 
     pub row-rest : (b : ℕ) → m ≤ b → getD (sidesOf atoms bonds n m row .row) b 0 ≡ 0
     row-rest b l = go (ltb (b - m) (length row - m)) refl

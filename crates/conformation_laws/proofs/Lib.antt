@@ -1,0 +1,3 @@
+pub mod Kept
+pub mod Claims
+pub mod Back
