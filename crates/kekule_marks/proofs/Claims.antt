@@ -157,6 +157,16 @@ module _ (atoms bonds : List ℤ) (n m : ℕ) where
           let s = kekulize-settles atoms bonds n m row (ap (λ (o : KekulizeReply). o .code) (sym q)) .still-sound in
           is q (Kekulizing.settles e f g (λ k. true≢false (sym c ∙ chosen-kept row g ∙ kept-told k)) (subst (λ (o : KekulizeReply). sound (o .atoms) (o .bonds) n m ≡ true) (sym q) s))
 
+  -- THE STATEMENT: kekulizing sound tables by one of their matchings gives 20 exactly if a delocalized atom is crowded
+  pub gives-20-iff : (row : List ℕ) → roomy atoms bonds (length row) ≡ true → sound atoms bonds n m ≡ true → isMatchingOf atoms bonds n m row ≡ true → (kekulizedOf atoms bonds n m row .code ≡ 20) ↔ CrowdedKept atoms bonds n m
+  gives-20-iff row e f g = (there (noneCrowdedBy bonds m row) refl, λ k. ap (λ (o : KekulizeReply). o .code) (sym (kekulize-crowded atoms bonds n m row e f g (chosen-kept row g ∙ kept-told k))))
+    where
+      there : (x : Bool) → noneCrowdedBy bonds m row ≡ x → kekulizedOf atoms bonds n m row .code ≡ 20 → CrowdedKept atoms bonds n m
+      there false c q = kept-found (sym (chosen-kept row g) ∙ c)
+      there true c q =
+          let z : kekulizedOf atoms bonds n m row .code ≡ 0 = ap (λ (o : KekulizeReply). o .code) (sym (kekulize-done atoms bonds n m row e f g c refl)) in
+          absurd (omega (arith, q, z))
+
   -- THE STATEMENT: with any two of its matchings a molecule gets the same answer
   pub same-answer : (r s : List ℕ) → roomy atoms bonds (length r) ≡ true → roomy atoms bonds (length s) ≡ true → isMatchingOf atoms bonds n m r ≡ true → isMatchingOf atoms bonds n m s ≡ true
       → kekulizedOf atoms bonds n m r .code ≡ kekulizedOf atoms bonds n m s .code
