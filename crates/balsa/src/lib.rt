@@ -2,6 +2,7 @@
 ghost use mathlib.Core.Path.{_≡_};
 ghost use Rattle.matching.specs.declared.Call.the-variants.{First, Next};
 ghost use Rattle.kekule.specs.Kekule.{callReply, callOn, askedOf, kekulizeReply, kekulizedOf};
+ghost use Rattle.conformation.specs.Sides.{sidesReply, sidesOf};
 ghost use Rattle.kekule.specs.Calls.{replayOut, replayedOf};
 ghost use Rattle.table.specs.Sound.{checkOf};
 ghost use Rattle.table.specs.Valid.{checkCode};
@@ -52,7 +53,7 @@ fn read_reply(a: ReadAnswer) -> ReadReply
     }
 }
 
-// Reads a text into the tables: 0 with the counts, or 1 to 11 with the offset.
+// Reads a text into the tables: 0 with the counts, or 1 to 11 or 20 to 22 with the offset.
 #[no_mangle]
 pub extern "C" fn balsa_read(text: &[u8], atoms: &mut [i32], bonds: &mut [i32]) -> ReadReply
     ensures { λ r. ⌜ readOut r (now (atoms .exit)) (now (bonds .exit)) ≡ readOf (now (text .entry)) (now (atoms .entry)) (now (bonds .entry)) ⌝ }
@@ -165,7 +166,7 @@ pub extern "C" fn balsa_is_matching(
     check_code(kekule::is_matching(atoms, bonds, n, m, row))
 }
 
-// Kekulizes the tables by the row: 0, 1, 13 or 12.
+// Kekulizes the tables by the row: 0, 1, 13, 12 or 20.
 #[no_mangle]
 pub extern "C" fn balsa_kekulize(
     atoms: &mut [i32],
@@ -177,6 +178,20 @@ pub extern "C" fn balsa_kekulize(
     ensures { λ r. ⌜ kekulizeReply r (now (atoms .exit)) (now (bonds .exit)) ≡ kekulizedOf (now (atoms .entry)) (now (bonds .entry)) n m (now (row .entry)) ⌝ }
 {
     check_code(kekule::kekulize(atoms, bonds, n, m, row))
+}
+
+// The row of sides, into the row: 0, 1 or 13.
+#[no_mangle]
+pub extern "C" fn balsa_sides(
+    atoms: &[i32],
+    bonds: &[i32],
+    n: usize,
+    m: usize,
+    row: &mut [u8],
+) -> u32
+    ensures { λ r. ⌜ sidesReply r (now (row .exit)) ≡ sidesOf (now (atoms .entry)) (now (bonds .entry)) n m (now (row .entry)) ⌝ }
+{
+    check_code(conformation::sides(atoms, bonds, n, m, row))
 }
 
 // A list of calls on one row, 0 for the first matching and any other byte for the next; the code of each answer: 0, or 1 where

@@ -8,10 +8,15 @@ use borrow.Author.Tests.{not-true, not-false, leb-true}
 use lib.ListN.{length, take, replicate}
 use lib.IntN.{ℤ}
 use lib.Dec.{leb}
-use Rattle.loops.proofs.Loops.{and-left}
+use Rattle.loops.proofs.Loops.{and-left, and-right}
 use Rattle.table.specs.Limits.{maxBonds}
 use Rattle.table.specs.Valid.{Valid, enough}
 use Rattle.table.specs.Sound.{sound}
+use Rattle.table.specs.Marks.{noneCrowded}
+use Rattle.table.specs.Edits.{doubledBonds}
+use Rattle.table.proofs.Sound.{sound-valid, sound-late, late-none}
+use Rattle.table.proofs.Valid.{enough-facts}
+use Rattle.table_marks.specs.Chosen.{noneCrowdedBy}
 use Rattle.matching.specs.Enumeration.{Reply, rowFirst, rowNext, rowCall}
 use Rattle.matching.specs.Graph.{isMatching}
 use Rattle.matching.specs.Model.{bondsOf, matchingFrom, part}
@@ -22,6 +27,7 @@ use Rattle.table_graph.specs.Graph.{matchingOf}
 use Rattle.table_graph.specs.Built.{Built}
 use Rattle.table_graph.proofs.Graph.{built-bonds, length-first}
 use Rattle.kekule.specs.Kekule.{CallReply, callReply, callReplyOf, roomy, callOn, isMatchingOf, KekulizeReply, kekulizeReply, kekulized, kekulizedOf}
+use Rattle.kekule.proofs.Crowding.{crowded-by, elides}
 
 module _ {atoms bonds : List ℤ} {n m : ℕ} {flags ea eb el : List ℕ} (b : Built atoms bonds n m flags ea eb el) where
   pub first-built : (c : Call) (row : List ℕ) {g : Reply} → c ≡ First → g ≡ rowFirst (isMatching (take n flags) (bondsOf (take m ea) (take m eb) (take m el))) (length (take m ea)) (length row)
@@ -66,7 +72,7 @@ module _ (c : Call) (atoms bonds : List ℤ) (n m : ℕ) (row : List ℕ) where
   unfolding callOn
   call-done e f h = h ∙ simp (e, f)
 
--- the return paths of kekulizing: 1, 13, 12, and the tables kekulized
+-- the return paths of kekulizing: 1, 13, 12, 20, and the tables kekulized
 module _ (atoms bonds : List ℤ) (n m : ℕ) (row : List ℕ) where
   pub kekulize-short : roomy atoms bonds (length row) ≡ false → kekulizeReply 1 atoms bonds ≡ kekulizedOf atoms bonds n m row
   unfolding kekulizedOf
@@ -80,6 +86,18 @@ module _ (atoms bonds : List ℤ) (n m : ℕ) (row : List ℕ) where
   unfolding kekulizedOf
   kekulize-wrong e f g = simp (e, f, g)
 
-  pub kekulize-done : {o : KekulizeReply} → roomy atoms bonds (length row) ≡ true → sound atoms bonds n m ≡ true → isMatchingOf atoms bonds n m row ≡ true → o ≡ kekulized atoms bonds n m row → o ≡ kekulizedOf atoms bonds n m row
-  unfolding kekulizedOf
-  kekulize-done e f g h = h ∙ simp (e, f, g)
+  module _ (e : roomy atoms bonds (length row) ≡ true) (f : sound atoms bonds n m ≡ true) (g : isMatchingOf atoms bonds n m row ≡ true) where
+    -- what is asked of the ends of the chosen bonds is 20 of the kekulized ones
+    chosen-is : noneCrowded (doubledBonds row m bonds) m ≡ noneCrowdedBy bonds m row
+    chosen-is =
+        let v = sound-valid atoms bonds n m f in
+        let r = enough-facts atoms bonds (and-right (leb maxBonds (length row)) (enough atoms bonds) e) in
+        crowded-by bonds m row (λ b l. omega (arith, v .few-bonds, r .bonds-room)) (elides atoms bonds n m row g) (late-none atoms bonds n m (sound-late atoms bonds n m f) .uncrowded)
+
+    pub kekulize-crowded : noneCrowdedBy bonds m row ≡ false → kekulizeReply 20 atoms bonds ≡ kekulizedOf atoms bonds n m row
+    unfolding kekulizedOf
+    kekulize-crowded d = sym (rw (e, f, g, chosen-is ∙ d))
+
+    pub kekulize-done : {o : KekulizeReply} → noneCrowdedBy bonds m row ≡ true → o ≡ kekulized atoms bonds n m row → o ≡ kekulizedOf atoms bonds n m row
+    unfolding kekulizedOf
+    kekulize-done d h = h ∙ sym (rw (e, f, g, chosen-is ∙ d))

@@ -13,9 +13,10 @@ use Rattle.loops.proofs.Loops.{and-right, each-all, each-same, length-upTo}
 use Rattle.table.specs.Limits.{maxBonds, atomCells, ELEMENT, SELECTED, ISOTOPE, HYDROGENS, CHARGE, EXTENSION, FIRST, SECOND, KIND}
 use Rattle.table.specs.Cells.{number, inRange, bondPlace, atomCell, bondCell, element, selected, hydrogens}
 use Rattle.table.specs.Valid.{selectedOk, sameEnds, fresh, distinct, atomOk, bondOk, Valid, enough}
-use Rattle.table.specs.Sound.{sound}
+use Rattle.table.specs.Sound.{lateCode, sound}
+use Rattle.table.specs.Marks.{noneCrowded}
 use Rattle.table.specs.Edits.{unselectedAtoms, doubledBonds}
-use Rattle.table.proofs.Sound.{sound-valid, sound-back, unselected-late}
+use Rattle.table.proofs.Sound.{sound-valid, sound-late, sound-back, late-fine, late-none, unselected-tight}
 use Rattle.table.proofs.Valid.{enough-facts, Enough, AtomFine, atom-row, atom-fine-back, BondFine, bond-row, bond-fine-back}
 use Rattle.table.proofs.Edits.{unselected-cell, unselected-field, doubled-kind, doubled-field}
 use Rattle.valence.specs.Valence.{delocalized}
@@ -23,6 +24,7 @@ use Rattle.matching.specs.Enumeration.{matchings}
 use Rattle.matching.specs.Graph.{noneFlagged}
 use Rattle.matching.proofs.Graph.{only-zeros, matching-pairs}
 use Rattle.table_graph.specs.Graph.{delocalizedAt, delocalizedFlag, delocalizedFlags, flag, bondOf, graphOf, matchingOf}
+use Rattle.kekule.proofs.Crowding.{still-touching}
 use Rattle.kekule.specs.Kekule.{roomy, isMatchingOf, kekulizeReply, kekulized, kekulizedOf}
 
 -- flags that are all 0
@@ -107,10 +109,12 @@ module _ {atoms bonds : List ℤ} {n m : ℕ} (v : Valid atoms bonds n m) (r : E
         apart = same-distinct ∙ v .apart;
       }
 
-  -- and sound
-  pub kekulized-sound : sound atoms′ bonds′ n m ≡ true
+  -- and sound, where 20 is not given over the new double bonds
+  pub kekulized-sound : lateCode atoms bonds n m ≡ 0 → noneCrowded bonds′ m ≡ true → sound atoms′ bonds′ n m ≡ true
   unfolding number
-  kekulized-sound = sound-back atoms′ bonds′ n m kekulized-valid (unselected-late atoms′ bonds′ n m (λ a l. ap number (none-selected a l)))
+  kekulized-sound h e =
+      sound-back atoms′ bonds′ n m kekulized-valid
+      (late-fine atoms′ bonds′ n m e (still-touching bonds m row (λ b l. omega (arith, v .few-bonds, r .bonds-room)) (late-none atoms bonds n m h .touching)) (unselected-tight atoms′ bonds′ n m (λ a l. ap number (none-selected a l))))
 
   -- no atom is delocalized
   pub none-delocalized : (a : ℕ) → a < n → delocalizedAt atoms′ bonds′ m a ≡ false
@@ -137,14 +141,15 @@ pub record Settled (atoms bonds : List ℤ) (n m : ℕ) : Type 0 where
 
 pub kekulize-settles : (atoms bonds : List ℤ) (n m : ℕ) (row : List ℕ) → kekulizedOf atoms bonds n m row .code ≡ 0 → Settled (kekulizedOf atoms bonds n m row .atoms) (kekulizedOf atoms bonds n m row .bonds) n m
 unfolding kekulizedOf
-kekulize-settles atoms bonds n m row = go (roomy atoms bonds (length row)) (sound atoms bonds n m) (isMatchingOf atoms bonds n m row) refl refl
+kekulize-settles atoms bonds n m row = go (roomy atoms bonds (length row)) (sound atoms bonds n m) (isMatchingOf atoms bonds n m row) (noneCrowded (doubledBonds row m bonds) m) refl refl refl
   where
-    go : (x y z : Bool) → roomy atoms bonds (length row) ≡ x → sound atoms bonds n m ≡ y
-        → let o = pick x (pick y (pick z (kekulized atoms bonds n m row) (kekulizeReply 12 atoms bonds)) (kekulizeReply 13 atoms bonds)) (kekulizeReply 1 atoms bonds) in o .code ≡ 0 → Settled (o .atoms) (o .bonds) n m
-    go false y z e f h = absurd (omega arith)
-    go true false z e f h = absurd (omega arith)
-    go true true false e f h = absurd (omega arith)
-    go true true true e f h =
+    go : (x y z w : Bool) → roomy atoms bonds (length row) ≡ x → sound atoms bonds n m ≡ y → noneCrowded (doubledBonds row m bonds) m ≡ w
+        → let o = pick x (pick y (pick z (pick w (kekulized atoms bonds n m row) (kekulizeReply 20 atoms bonds)) (kekulizeReply 12 atoms bonds)) (kekulizeReply 13 atoms bonds)) (kekulizeReply 1 atoms bonds) in o .code ≡ 0 → Settled (o .atoms) (o .bonds) n m
+    go false y z w e f g h = absurd (omega arith)
+    go true false z w e f g h = absurd (omega arith)
+    go true true false w e f g h = absurd (omega arith)
+    go true true true false e f g h = absurd (omega arith)
+    go true true true true e f g h =
         let v = sound-valid atoms bonds n m f in
         let r = enough-facts atoms bonds (and-right (leb maxBonds (length row)) (enough atoms bonds) e) in
-        record { still-sound = kekulized-sound v r row; unselected = none-selected v r row; localized = none-delocalized v r row }
+        record { still-sound = kekulized-sound v r row (sound-late atoms bonds n m f) g; unselected = none-selected v r row; localized = none-delocalized v r row }

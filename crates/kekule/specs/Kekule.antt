@@ -9,6 +9,7 @@ use Rattle.loops.specs.Loop.{pick, each}
 use Rattle.table.specs.Limits.{maxAtoms, maxBonds}
 use Rattle.table.specs.Valid.{enough, checkCode}
 use Rattle.table.specs.Sound.{sound}
+use Rattle.table.specs.Marks.{noneCrowded}
 use Rattle.table.specs.Edits.{unselectedAtoms, doubledBonds}
 use Rattle.table.specs.declared.Check.{Check}
 use Rattle.matching.specs.Enumeration.{Reply, isRow, rowCall}
@@ -70,12 +71,14 @@ tables a atoms bonds = kekulizeReply (checkCode a) atoms bonds
 abbrev pub kekulized : List ℤ → List ℤ → ℕ → ℕ → List ℕ → KekulizeReply
 kekulized atoms bonds n m row = kekulizeReply 0 (unselectedAtoms n atoms) (doubledBonds row m bonds)
 
--- "a refusal leaves those tables untouched": 1, 13, then 12
+-- "a refusal leaves those tables untouched": 1, 13, then 12; "Settling checks 20 again over the new double bonds, last of its checks" (02, P5)
 unfoldable pub kekulizedOf : List ℤ → List ℤ → ℕ → ℕ → List ℕ → KekulizeReply
 kekulizedOf atoms bonds n m row =
     pick (roomy atoms bonds (length row))
     (pick (sound atoms bonds n m)
-    (pick (isMatchingOf atoms bonds n m row) (kekulized atoms bonds n m row) (kekulizeReply 12 atoms bonds))
+    (pick (isMatchingOf atoms bonds n m row)
+    (pick (noneCrowded (doubledBonds row m bonds) m) (kekulized atoms bonds n m row) (kekulizeReply 20 atoms bonds))
+    (kekulizeReply 12 atoms bonds))
     (kekulizeReply 13 atoms bonds))
     (kekulizeReply 1 atoms bonds)
 

@@ -387,7 +387,8 @@ pub fn kekulize_valid(atoms: &mut [i32], bonds: &mut [i32], n: usize, m: usize, 
 }
 
 // Kekulizes a molecule in its tables by a row: the row's bonds become kind 2 and every selected cell 0. 1: a table or the row
-// is too short, 13: the tables are not valid, 12: the row is no matching; a refusal changes nothing.
+// is too short, 13: the tables are not sound, 12: the row is no matching, 20: marks would place two neighbours of an end of a
+// new double bond on the same side; a refusal changes nothing.
 pub fn kekulize(atoms: &mut [i32], bonds: &mut [i32], n: usize, m: usize, row: &[u8]) -> Check
     ensures { λ r. ⌜ tables r (now (atoms .exit)) (now (bonds .exit)) ≡ kekulizedOf (now (atoms .entry)) (now (bonds .entry)) n m (now (row .entry)) ⌝ }
 {
@@ -399,6 +400,9 @@ pub fn kekulize(atoms: &mut [i32], bonds: &mut [i32], n: usize, m: usize, row: &
     }
     if !is_matching_valid(atoms, bonds, n, m, row) {
         return Check::Refused(Refusal::NotMatching);
+    }
+    if !table_marks::none_crowded_by(bonds, m, row) {
+        return Check::Refused(Refusal::CrowdedEnd);
     }
     kekulize_valid(atoms, bonds, n, m, row);
     Check::Fine

@@ -2,13 +2,14 @@
 use Prim.Native.Nat.{ℕ, zero, suc, _+_, _-_, _*_, _≤_, _<_}
 use native.Mathlib.Omega.{arith}
 use mathlib.Core.Path.{_≡_, refl, sym, ap, _∙_, subst⁻¹}
-use mathlib.Core.Bool.{Bool, true, false}
+use mathlib.Core.Bool.{Bool, true, false, _&&_, not}
 use mathlib.Core.List.{List}
 use lib.ListN.{length, getD}
 use lib.IntN.{ℤ}
-use lib.Dec.{eqb}
-use borrow.Author.Tests.{ne-eqb, eqb-true}
+use lib.Dec.{eqb, leb}
+use borrow.Author.Tests.{ne-eqb, eqb-true, leb-true, not-true}
 use Rattle.loops.specs.Loop.{pick}
+use Rattle.loops.proofs.Loops.{and-left, and-right}
 use Rattle.element.specs.Symbols.{among, letters}
 use Rattle.element.specs.Lookup.{letterOf, selectedOf}
 use Rattle.element.specs.declared.Letter.{Letter}
@@ -23,7 +24,7 @@ use Rattle.reading_grammar.specs.Fold.{keeps, refuses}
 use Rattle.reading_grammar.proofs.Ends.{each}
 use Rattle.reading_state.specs.declared.Fields.{Fields}
 use Rattle.reading_state.specs.State.{Steering, joined, bridged}
-use Rattle.kinds.specs.Kind.{elided, single, double, triple, symbolKind}
+use Rattle.kinds.specs.Kind.{elided, single, double, triple, up, down, symbolKind}
 use Rattle.reading.specs.Memory.{Memory, nothing, dotted, symbol, counting, moved, kindOf, closeRefusal}
 use Rattle.reading.specs.Bracket.{digit}
 use Rattle.reading.specs.Act.{Acts, modeAct, bridgeAct, orRefuse, bridgeBond}
@@ -83,23 +84,27 @@ inside-dot s p {b} μ k z h = by-letter (letterOf b) refl
 -- ---- a bond symbol and a dot
 pub no-kind : (b : ℕ) → symbolKind b ≡ 0 → among b bondSymbols ≡ false
 unfolding symbolKind bondSymbols among
-no-kind b h = split (eqb b 45) (eqb b 61) (eqb b 35) h
+no-kind b h = split (eqb b 45) (eqb b 61) (eqb b 35) (eqb b 47) (eqb b 92) h
   where
-    split : (t u v : Bool) → _≡_ {A = ℕ} (pick t single (pick u double (pick v triple elided))) 0 → pick t true (pick u true (pick v true false)) ≡ false
-    split true u v h = absurd (omega arith)
-    split false true v h = absurd (omega arith)
-    split false false true h = absurd (omega arith)
-    split false false false h = refl
+    split : (t u v w x : Bool) → _≡_ {A = ℕ} (pick t single (pick u double (pick v triple (pick w up (pick x down elided))))) 0 → pick t true (pick u true (pick v true (pick w true (pick x true false)))) ≡ false
+    split true u v w x h = absurd (omega arith)
+    split false true v w x h = absurd (omega arith)
+    split false false true w x h = absurd (omega arith)
+    split false false false true x h = absurd (omega arith)
+    split false false false false true h = absurd (omega arith)
+    split false false false false false h = refl
 
 kind-symbol : (b : ℕ) → (symbolKind b ≡ 0 → ⊥) → among b bondSymbols ≡ true
 unfolding symbolKind bondSymbols among
-kind-symbol b h = split (eqb b 45) (eqb b 61) (eqb b 35) h
+kind-symbol b h = split (eqb b 45) (eqb b 61) (eqb b 35) (eqb b 47) (eqb b 92) h
   where
-    split : (t u v : Bool) → (_≡_ {A = ℕ} (pick t single (pick u double (pick v triple elided))) 0 → ⊥) → pick t true (pick u true (pick v true false)) ≡ true
-    split true u v h = refl
-    split false true v h = refl
-    split false false true h = refl
-    split false false false h = absurd (h refl)
+    split : (t u v w x : Bool) → (_≡_ {A = ℕ} (pick t single (pick u double (pick v triple (pick w up (pick x down elided))))) 0 → ⊥) → pick t true (pick u true (pick v true (pick w true (pick x true false)))) ≡ true
+    split true u v w x h = refl
+    split false true v w x h = refl
+    split false false true w x h = refl
+    split false false false true x h = refl
+    split false false false false true h = refl
+    split false false false false false h = absurd (h refl)
 
 -- what a bond symbol does after an atom, and at the start of a branch
 record Joins (b : ℕ) : Type 0 where
@@ -113,13 +118,7 @@ record Joins (b : ℕ) : Type 0 where
 
 symbol-joins : (b : ℕ) → among b bondSymbols ≡ true → Joins b
 unfolding next atomOr bridgeOr letters among nonzero bondSymbols letterOf selectedOf
-symbol-joins = each Joins bondSymbols (
-  record { out = refl; inner = refl; letter = refl; digit = refl; percent = refl; point = refl; some = omega arith },
-  (
-    record { out = refl; inner = refl; letter = refl; digit = refl; percent = refl; point = refl; some = omega arith },
-    (record { out = refl; inner = refl; letter = refl; digit = refl; percent = refl; point = refl; some = omega arith }, tt),
-  ),
-)
+symbol-joins = each Joins bondSymbols (record { out = refl; inner = refl; letter = refl; digit = refl; percent = refl; point = refl; some = omega arith }, (record { out = refl; inner = refl; letter = refl; digit = refl; percent = refl; point = refl; some = omega arith }, (record { out = refl; inner = refl; letter = refl; digit = refl; percent = refl; point = refl; some = omega arith }, (record { out = refl; inner = refl; letter = refl; digit = refl; percent = refl; point = refl; some = omega arith }, (record { out = refl; inner = refl; letter = refl; digit = refl; percent = refl; point = refl; some = omega arith }, tt)))))
 
 module _ (s : List ℕ) (p : ℕ) {b : ℕ} (k : Peeked s p b) where
   module _ {x : ℕ} (e : x ≡ symbolKind b) (n : x ≡ 0 → ⊥) where
@@ -177,18 +176,18 @@ module _ (s : List ℕ) (p : ℕ) {b : ℕ} (k : Peeked s p b) where
   }
 
   -- a letter or `[`, which no other piece begins with
-  pub seen-letter : p < length s → 65 ≤ b → Seen s p (seq plain) nothing (Piece.Atom Joint.Elided p)
+  pub seen-letter : p < length s → (leb 65 b && not (eqb b 92)) ≡ true → Seen s p (seq plain) nothing (Piece.Atom Joint.Elided p)
   unfolding bondSymbols among
-  seen-letter l h = record {
+  seen-letter l both = let h = leb-true 65 b (and-left (leb 65 b) (not (eqb b 92)) both) in let mark = not-true (eqb b 92) (and-right (leb 65 b) (not (eqb b 92)) both) in record {
     within = omega arith;
     later = omega arith;
     is = λ t a c i f. plain-dot s p (memory t a c nothing i f) k l (high (among b nonzero) refl) (ne-eqb b 37 (λ z. omega arith))
-        (rw (ne-eqb b 45 (λ z. omega arith), ne-eqb b 61 (λ z. omega arith), ne-eqb b 35 (λ z. omega arith)))
+        (rw (ne-eqb b 45 (λ z. omega arith), ne-eqb b 61 (λ z. omega arith), ne-eqb b 35 (λ z. omega arith), ne-eqb b 47 (λ z. omega arith), mark))
         (ne-eqb b 46 (λ z. omega arith)) (ne-eqb b 40 (λ z. omega arith)) (ne-eqb b 41 (λ z. omega arith));
   }
     where
       high : (t : Bool) → among b nonzero ≡ t → t ≡ false
-      high true e = absurd (omega (arith, digit-high b (nonzero-digit b e)))
+      high true e = absurd (omega (arith, digit-high b (nonzero-digit b e), leb-true 65 b (and-left (leb 65 b) (not (eqb b 92)) both)))
       high false e = refl
 
   pub seen-branch : b ≡ 40 → Seen s p (seq plain) nothing (Piece.Branch p)

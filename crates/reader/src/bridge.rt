@@ -77,7 +77,7 @@ fn joined_already(bonds: &[i32], m: BondId, a: AtomId, b: AtomId) -> bool
     false
 }
 
-// The bond between two atoms: the lower number first.
+// The bond between two atoms, its kind as seen from the first: the lower number first.
 fn between(a: AtomId, b: AtomId, k: u8) -> Bond
     requires { ⌜ (a .0 < 65536) × (b .0 < 65536) ⌝ }
     ensures { λ r. ⌜ r ≡ between (a .0) (b .0) k ⌝ }
@@ -85,7 +85,8 @@ fn between(a: AtomId, b: AtomId, k: u8) -> Bond
     if a.0 < b.0 {
         return bond_of(a, b, k);
     }
-    bond_of(b, a, k)
+    let back = kinds::turned(k);
+    bond_of(b, a, back)
 }
 
 // The bridge that was opened at the atom u with the symbol j, and closes at the hub with k; m is the number that its bond gets.

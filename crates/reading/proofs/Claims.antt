@@ -12,7 +12,7 @@ pub use Rattle.reading.proofs.Kept.{atom-kept, letter-kept, first-row, 
 pub use Rattle.reading.proofs.Texts.{reads-texts}
 -- "given exactly when": each refusal by 01's conditions, the one that is told; and none exactly where a text is accepted
 pub use Rattle.reading.proofs.First.{refused-iff, accepted-iff}
--- a late code exactly where the molecule read fails that check first, 22 where a selected atom has fewer than two bonds; 11 exactly where it passes them and has no matching
-pub use Rattle.reading.proofs.Ending.{late-iff, loose-read, unmatched-iff}
+-- a late code exactly where the molecule read fails that check first, 20, 21 and 22 in their words; 11 exactly where it passes them and has no matching
+pub use Rattle.reading.proofs.Ending.{late-iff, crowded-read, stray-read, loose-read, unmatched-iff}
 -- 1 and 2 exactly as said; 1 changes nothing by definition, and every other refusal zeroes both tables and both counts
 pub use Rattle.reading.proofs.Refused.{short-iff, long-iff, refusal-zeroes}

@@ -9,8 +9,9 @@ use lib.IntN.{ℤ}
 use borrow.Author.Tests.{ne-eqb, le-leb, le-ltb, lt-ltb}
 use Rattle.ids.specs.Limits.{maxText}
 use Rattle.reading.specs.Read.{ReadResult, refused, short, leftmost, ended, readFrom, readOf}
+use Rattle.table.specs.Marks.{CrowdedEnd, StrayMark}
 use Rattle.table.specs.Sound.{LooseAtom}
-use Rattle.table.proofs.Sound.{loose-iff}
+use Rattle.table.proofs.Sound.{crowded-late, stray-late, loose-late}
 use Rattle.reading.specs.Conditions.{atomsOf, Unclosed, Late, Unmatched}
 use Rattle.reading.proofs.Leftmost.{closed-none, leftmost-open, none-open, opening-leftmost}
 use Rattle.reading.proofs.Outcome.{Outcome, outcome}
@@ -106,9 +107,16 @@ module _ (s : List ℕ) (atoms bonds : List ℤ) where
   pub late-iff : {c : ℕ} → 20 ≤ c → (readOf s atoms bonds .code ≡ c) ↔ Late s atoms bonds c
   late-iff l = (read-late l, λ u. ap (λ (t : ReadResult). t .code) (late-read u))
 
-  -- 22 exactly where a selected atom of the molecule read has fewer than two bonds, no bridge being open
-  pub loose-read : readOf s atoms bonds .code ≡ 22 → (u : Late s atoms bonds 22) × LooseAtom (atomsOf (u .memory)) (u .memory .bonds) (u .memory .st .atoms) (u .memory .st .bonds)
-  loose-read e = let u = read-late (omega arith) e in (u, loose-iff (atomsOf (u .memory)) (u .memory .bonds) (u .memory .st .atoms) (u .memory .st .bonds) .0 (u .fails))
+  -- 20 exactly where two marked neighbours of an end of a double bond of the molecule read lie on the same side, 21 where else a mark touches no double bond, 22 where else a selected atom has fewer than two bonds; no bridge being open
+  pub crowded-read : readOf s atoms bonds .code ≡ 20 → (u : Late s atoms bonds 20) × CrowdedEnd (u .memory .bonds) (u .memory .st .bonds)
+  crowded-read e = let u = read-late (omega arith) e in (u, crowded-late (atomsOf (u .memory)) (u .memory .bonds) (u .memory .st .atoms) (u .memory .st .bonds) .0 (u .fails))
+
+  pub stray-read : readOf s atoms bonds .code ≡ 21 → (u : Late s atoms bonds 21) × ((¬ CrowdedEnd (u .memory .bonds) (u .memory .st .bonds)) × StrayMark (u .memory .bonds) (u .memory .st .bonds))
+  stray-read e = let u = read-late (omega arith) e in (u, stray-late (atomsOf (u .memory)) (u .memory .bonds) (u .memory .st .atoms) (u .memory .st .bonds) .0 (u .fails))
+
+  pub loose-read : readOf s atoms bonds .code ≡ 22
+      → (u : Late s atoms bonds 22) × ((¬ CrowdedEnd (u .memory .bonds) (u .memory .st .bonds)) × (¬ StrayMark (u .memory .bonds) (u .memory .st .bonds)) × LooseAtom (atomsOf (u .memory)) (u .memory .bonds) (u .memory .st .atoms) (u .memory .st .bonds))
+  loose-read e = let u = read-late (omega arith) e in (u, loose-late (atomsOf (u .memory)) (u .memory .bonds) (u .memory .st .atoms) (u .memory .st .bonds) .0 (u .fails))
 
   pub unclosed-read : {p : ℕ} (u : Unclosed s atoms bonds p) → readOf s atoms bonds ≡ refused 10 p (u .memory .atoms) (u .memory .bonds)
   unfolding readOf readFrom ended

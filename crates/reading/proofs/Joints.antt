@@ -9,8 +9,8 @@ use lib.Dec.{eqb, leb}
 use borrow.Author.Tests.{eqb-false, eq-eqb, leb-false, ltb-true, ltb-false, not-true, not-false}
 use Rattle.loops.specs.Loop.{pick, each}
 use Rattle.loops.proofs.Loops.{each-at}
-use Rattle.kinds.specs.Kind.{maxKind, symbolKind, meet, clash}
-use Rattle.kinds.proofs.Kind.{symbol-small, meet-small}
+use Rattle.kinds.specs.Kind.{maxKind, symbolKind, turned, meet, clash}
+use Rattle.kinds.proofs.Kind.{symbol-small, turned-small, meet-small}
 use Rattle.reading_grammar.specs.declared.Last.the-variants.{Plain as plain}
 use Rattle.reading_grammar.specs.declared.Mode.the-variants.{Seq as seq, Inside as inside}
 use Rattle.reading_grammar.specs.declared.MachineState.the-variants.{At as at}
@@ -69,7 +69,7 @@ bridge-tables : {p q n m : ℕ} {atoms bonds : List ℤ} (u h k : ℕ) → Table
 bridge-tables {p} {q} {n} {m} {atoms} {bonds} u h k w a un hn k3 =
     by-test (λ x. Tables p q n (m + 1) atoms (withBond bonds m x)) _ _ _
     (λ e. bond-added w u h k (a .few) (ltb-true u h e) hn k3 (λ j l. no-way bonds u h j (a .fresh j l)))
-    (λ e. bond-added w h u k (a .few) (not-above (ltb-false u h e)) un k3 (λ j l. no-way-back bonds u h j (a .fresh j l)))
+    (λ e. bond-added w h u (turned k) (a .few) (not-above (ltb-false u h e)) un (turned-small k k3) (λ j l. no-way-back bonds u h j (a .fresh j l)))
   where
     not-above : h ≤ u → h < u
     not-above g = omega (arith, a .apart)

@@ -12,7 +12,7 @@ use Rattle.loops.specs.Loop.{each}
 use Rattle.loops.proofs.Loops.{and-left, and-right, each-at}
 use Rattle.reading_grammar.proofs.Ends.{never}
 use Rattle.table.specs.Cells.{end1, end2}
-use Rattle.kinds.specs.Kind.{clash}
+use Rattle.kinds.specs.Kind.{turned, clash}
 use Rattle.reading.specs.Memory.{Memory, Pending, nothing, dotted, symbol, afterDot, bonded, joins, joinedAlready}
 use Rattle.reading.specs.Conditions.{ToBeBonded, HaveBond, Differ}
 
@@ -36,13 +36,13 @@ bonded-so μ w = rw (ne-eqb (μ .st .atoms) 0 (λ e. omega (arith, w .not-first)
 
 pub differ : (j k : ℕ) → clash j k ≡ true → Differ j k
 differ j k h =
-    let r = and-left (not (eqb j 0) && not (eqb k 0)) (not (eqb j k)) h in
+    let r = and-left (not (eqb j 0) && not (eqb k 0)) (not (eqb j (turned k))) h in
     let a = eqb-false j 0 (not-true (eqb j 0) (and-left (not (eqb j 0)) (not (eqb k 0)) r)) in
     let b = eqb-false k 0 (not-true (eqb k 0) (and-right (not (eqb j 0)) (not (eqb k 0)) r)) in
-    record { at-opening = omega arith; at-closing = omega arith; unequal = eqb-false j k (not-true (eqb j k) (and-right (not (eqb j 0) && not (eqb k 0)) (not (eqb j k)) h)) }
+    record { at-opening = omega arith; at-closing = omega arith; unequal = eqb-false j (turned k) (not-true (eqb j (turned k)) (and-right (not (eqb j 0) && not (eqb k 0)) (not (eqb j (turned k))) h)) }
 
 pub clashes : (j k : ℕ) → Differ j k → clash j k ≡ true
-clashes j k w = rw (ne-eqb j 0 (λ e. omega (arith, w .at-opening)), ne-eqb k 0 (λ e. omega (arith, w .at-closing)), ne-eqb j k (w .unequal))
+clashes j k w = rw (ne-eqb j 0 (λ e. omega (arith, w .at-opening)), ne-eqb k 0 (λ e. omega (arith, w .at-closing)), ne-eqb j (turned k) (w .unequal))
 
 -- a loop that does not pass stops at a number
 record Stops (p : ℕ → Bool) (k m : ℕ) : Type 0 where

@@ -6,6 +6,7 @@ use mathlib.Core.Logic.{_⊎_, _≢_}
 use mathlib.Core.List.{List}
 use lib.ListN.{length, getD, take}
 use lib.IntN.{ℤ}
+use Rattle.kinds.specs.Kind.{turned}
 use Rattle.element.specs.declared.Letter.the-variants.{Nothing}
 use Rattle.element.specs.Symbols.{among}
 use Rattle.element.specs.Lookup.{letterOf}
@@ -73,11 +74,11 @@ pub record HaveBond (bonds : List ℤ) (m a b : ℕ) : Type 0 where
   pub stands : number < m
   pub ends : ((end1 bonds number ≡ a) × (end2 bonds number ≡ b)) ⊎ ((end1 bonds number ≡ b) × (end2 bonds number ≡ a))
 
--- "at both ends they must be equal": the kinds j and k of symbols (0: none)
+-- "at both ends they must be equal", and marks opposite: the kinds j and k of symbols (0: none)
 pub record Differ (j k : ℕ) : Type 0 where
   pub at-opening : 0 < j
   pub at-closing : 0 < k
-  pub unequal : j ≢ k
+  pub unequal : j ≢ turned k
 
 -- p is the smallest offset of a bridge that is open
 pub record LeftmostOpening (opener offset : List ℕ) (p : ℕ) : Type 0 where
@@ -163,7 +164,7 @@ module _ (s : List ℕ) (atoms bonds : List ℤ) where
     pub reads : Read state memory
     pub leftmost : LeftmostOpening (memory .st .opener) (memory .st .offset) p
 
-  -- a late check (02, P6: 22): the code of the first that the molecule read fails, no bridge being open
+  -- a late check (02, P5: 20, 21; P6: 22): the code of the first that the molecule read fails, no bridge being open
   pub record Late (c : ℕ) : Type 0 where
     pub state : MachineState
     pub memory : Memory

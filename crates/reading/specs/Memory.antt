@@ -6,7 +6,7 @@ use lib.ListN.{getD, set}
 use lib.IntN.{ℤ, pos}
 use lib.Dec.{eqb, leb, ltb}
 use Rattle.loops.specs.Loop.{pick, each}
-use Rattle.kinds.specs.Kind.{elided, clash}
+use Rattle.kinds.specs.Kind.{elided, turned, clash}
 use Rattle.table.specs.declared.Atom.{Atom}
 use Rattle.table.specs.declared.Bond.{Bond}
 use Rattle.table.specs.Limits.{maxAtoms, maxBonds}
@@ -64,9 +64,9 @@ bareRow e selected = record { element = pos e; selected = pos selected; isotope 
 abbrev pub newBond : ℕ → ℕ → ℕ → Bond
 newBond a b k = record { first = pos a; second = pos b; kind = pos k }
 
--- the first end is "the lower atom number, wherever a bridge opened"
+-- the first end is "the lower atom number, wherever a bridge opened"; k is the kind as seen from a, and "a mark is stored as seen from the lower-numbered end"
 abbrev pub between : ℕ → ℕ → ℕ → Bond
-between a b k = pick (ltb a b) (newBond a b k) (newBond b a k)
+between a b k = pick (ltb a b) (newBond a b k) (newBond b a (turned k))
 
 -- ---- a new atom
 

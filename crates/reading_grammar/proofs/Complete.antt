@@ -224,11 +224,11 @@ atoms-start = record { begins = λ b. (_, refl) }
 -- bond symbols and bridges
 seq-symbol : (x : Last) (b : ℕ) → among b bondSymbols ≡ true → Goes (seq x) b (to bond)
 unfolding next atomOr bridgeOr among letters nonzero bondSymbols
-seq-symbol x = each (λ b. Goes (seq x) b (to bond)) bondSymbols (record { is = refl }, (record { is = refl }, (record { is = refl }, tt)))
+seq-symbol x = each (λ b. Goes (seq x) b (to bond)) bondSymbols (record { is = refl }, (record { is = refl }, (record { is = refl }, (record { is = refl }, (record { is = refl }, tt)))))
 
 inside-symbol : (b : ℕ) → among b bondSymbols ≡ true → Goes inside b (to atomNext)
 unfolding next atomOr among letters bondSymbols
-inside-symbol = each (λ b. Goes inside b (to atomNext)) bondSymbols (record { is = refl }, (record { is = refl }, (record { is = refl }, tt)))
+inside-symbol = each (λ b. Goes inside b (to atomNext)) bondSymbols (record { is = refl }, (record { is = refl }, (record { is = refl }, (record { is = refl }, (record { is = refl }, tt)))))
 
 on-bridge : (b : ℕ) → among b nonzero ≡ true → (k : Move) → atomOr b (bridgeOr b k) ≡ to (seq plain)
 unfolding atomOr bridgeOr among letters nonzero

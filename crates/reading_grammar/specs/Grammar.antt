@@ -16,9 +16,9 @@ digits = 48 ∷ 49 ∷ 50 ∷ 51 ∷ 52 ∷ 53 ∷ 54 ∷ 55 ∷ 56 ∷ 57 ∷ [
 unfoldable pub several : List ℕ
 several = 50 ∷ 51 ∷ 52 ∷ 53 ∷ 54 ∷ 55 ∷ 56 ∷ 57 ∷ []
 
--- - = #
+-- - = # / \
 unfoldable pub bondSymbols : List ℕ
-bondSymbols = 45 ∷ 61 ∷ 35 ∷ []
+bondSymbols = 45 ∷ 61 ∷ 35 ∷ 47 ∷ 92 ∷ []
 
 -- + -
 unfoldable pub signs : List ℕ

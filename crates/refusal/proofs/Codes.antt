@@ -6,11 +6,11 @@ use mathlib.Core.List.{List, [], _∷_}
 use lib.ListN.{getD}
 use Rattle.refusal.specs.Code.{codeOf}
 use Rattle.refusal.specs.declared.Refusal.{Refusal}
-use Rattle.refusal.specs.declared.Refusal.the-variants.{Short, LongText, Grammar, ManyAtoms, ManyBonds, DeepBranch, SelfBridge, RepeatedBond, SymbolClash, OpenBridge, Unmatchable, NotMatching, Invalid, ManyBridges, DeepWriting, LongWriting, LooseAtom}
+use Rattle.refusal.specs.declared.Refusal.the-variants.{Short, LongText, Grammar, ManyAtoms, ManyBonds, DeepBranch, SelfBridge, RepeatedBond, SymbolClash, OpenBridge, Unmatchable, NotMatching, Invalid, ManyBridges, DeepWriting, LongWriting, CrowdedEnd, StrayMark, LooseAtom}
 
 -- the refusal with a code, from 1 on
 abbrev refusalOf : ℕ → Refusal
-refusalOf c = getD (Short ∷ Short ∷ LongText ∷ Grammar ∷ ManyAtoms ∷ ManyBonds ∷ DeepBranch ∷ SelfBridge ∷ RepeatedBond ∷ SymbolClash ∷ OpenBridge ∷ Unmatchable ∷ NotMatching ∷ Invalid ∷ ManyBridges ∷ DeepWriting ∷ LongWriting ∷ Short ∷ Short ∷ Short ∷ Short ∷ Short ∷ LooseAtom ∷ []) c Short
+refusalOf c = getD (Short ∷ Short ∷ LongText ∷ Grammar ∷ ManyAtoms ∷ ManyBonds ∷ DeepBranch ∷ SelfBridge ∷ RepeatedBond ∷ SymbolClash ∷ OpenBridge ∷ Unmatchable ∷ NotMatching ∷ Invalid ∷ ManyBridges ∷ DeepWriting ∷ LongWriting ∷ Short ∷ Short ∷ Short ∷ CrowdedEnd ∷ StrayMark ∷ LooseAtom ∷ []) c Short
 
 back : (r : Refusal) → refusalOf (codeOf r) ≡ r
 back Short = refl
@@ -29,6 +29,8 @@ back Invalid = refl
 back ManyBridges = refl
 back DeepWriting = refl
 back LongWriting = refl
+back CrowdedEnd = refl
+back StrayMark = refl
 back LooseAtom = refl
 
 pub one-code : (r s : Refusal) → codeOf r ≡ codeOf s → r ≡ s
@@ -55,4 +57,6 @@ code-range Invalid = record { positive = omega arith; small = omega arith }
 code-range ManyBridges = record { positive = omega arith; small = omega arith }
 code-range DeepWriting = record { positive = omega arith; small = omega arith }
 code-range LongWriting = record { positive = omega arith; small = omega arith }
+code-range CrowdedEnd = record { positive = omega arith; small = omega arith }
+code-range StrayMark = record { positive = omega arith; small = omega arith }
 code-range LooseAtom = record { positive = omega arith; small = omega arith }

@@ -20,6 +20,9 @@ pub enum Refusal {
     ManyBridges,
     DeepWriting,
     LongWriting,
+    // 02, P5.
+    CrowdedEnd,
+    StrayMark,
     // 02, P6.
     LooseAtom,
 }
@@ -45,6 +48,8 @@ pub fn code(r: Refusal) -> u8
         Refusal::ManyBridges => 14,
         Refusal::DeepWriting => 15,
         Refusal::LongWriting => 16,
+        Refusal::CrowdedEnd => 20,
+        Refusal::StrayMark => 21,
         Refusal::LooseAtom => 22,
     }
 }

@@ -2,8 +2,8 @@
 use mathlib.Core.Path.{_≡_, refl}
 use mathlib.Core.List.{List, [], _∷_}
 use Prim.Native.Nat.{ℕ}
-use Rattle.kinds.specs.Kind.{order, symbolKind, bondSymbol}
-use Rattle.loops.specs.Loop.{each, run, upTo}
+use Rattle.kinds.specs.Kind.{order, symbolKind, bondSymbol, markOf, turned}
+use Rattle.loops.specs.Loop.{each, howMany, run, upTo}
 use Rattle.element.specs.Symbols.{among, listed, starts, sameBytes, symbols, letters, marks}
 use Rattle.element.specs.Lookup.{indexFrom, numberOf, selectedOf, letterOf, bare, bytesOf, selectedBytes}
 use Rattle.valence.specs.Valence.{targets, firstTarget, firstFitting, reachedIn, hydrogensOf, shiftedTarget, delocalized}
@@ -16,7 +16,9 @@ use Rattle.table.specs.Cells.{number, inRange}
 use Rattle.table.specs.Rows.{withAtom, withBond}
 use Rattle.table.specs.Edits.{doubled, doubledBonds, unselectedAtoms}
 use Rattle.table.specs.Valid.{selectedOk, sameEnds, fresh, distinct, atomOk, bondOk, valid, enough}
-use Rattle.table.specs.Sound.{touches, bondDegree, noneLoose, lateCode, sound}
+use Rattle.table.specs.Cells.{touches}
+use Rattle.table.specs.Marks.{side, sideCount, doubleCount, noneCrowded, noneStray}
+use Rattle.table.specs.Sound.{bondDegree, noneLoose, lateCode, sound}
 use Rattle.table_graph.specs.Graph.{share, bondSum, matchable}
 use Rattle.reading_state.specs.State.{started, opened, closed, joined}
 use Rattle.reading.specs.Memory.{begun, joins, joinedAlready, closeRefusal}
@@ -49,5 +51,5 @@ output =
     []
 
 pub sample : reportOf input ≡ output
-unfolding input output bondDegree noneLoose lateCode sound each run upTo among listed starts sameBytes symbols letters marks indexFrom numberOf selectedOf letterOf bare bytesOf selectedBytes order bondSymbol targets firstTarget firstFitting reachedIn hydrogensOf shiftedTarget delocalized nonzero digits several bondSymbols signs step next accepting resting atomOr bridgeOr closing extending charging hydrating symbolOr feed read rows passing isRow rowCall isMatching eachOnce degree chosenInduced number inRange withAtom withBond doubled doubledBonds unselectedAtoms selectedOk sameEnds fresh distinct atomOk bondOk valid enough touches share bondSum started opened closed joined symbolKind begun joins joinedAlready closeRefusal symbolled atomAct bridgeAct branchAct modeAct act hydrogenated overfullAtoms leftmost matchable ended readFrom readOf callOn kekulizedOf forestOf renumbered unused write decimal hydrogenBytes sizeBytes bracketBytes withoutBrackets spelledAtom kindBytes bridgeBytes restBytes tokensBytes tokens textOf renumbering fewBridges writeValid writeOf firstRow kekuleOf writtenOf ofMolecule entryOf linesAfter decBy decOf acceptedLine refusedLine totalsLine lineOf acceptedOf reportFrom reportOf
+unfolding input output bondDegree noneLoose side sideCount doubleCount noneCrowded noneStray lateCode sound each howMany run upTo among listed starts sameBytes symbols letters marks indexFrom numberOf selectedOf letterOf bare bytesOf selectedBytes order bondSymbol markOf turned targets firstTarget firstFitting reachedIn hydrogensOf shiftedTarget delocalized nonzero digits several bondSymbols signs step next accepting resting atomOr bridgeOr closing extending charging hydrating symbolOr feed read rows passing isRow rowCall isMatching eachOnce degree chosenInduced number inRange withAtom withBond doubled doubledBonds unselectedAtoms selectedOk sameEnds fresh distinct atomOk bondOk valid enough touches share bondSum started opened closed joined symbolKind begun joins joinedAlready closeRefusal symbolled atomAct bridgeAct branchAct modeAct act hydrogenated overfullAtoms leftmost matchable ended readFrom readOf callOn kekulizedOf forestOf renumbered unused write decimal hydrogenBytes sizeBytes bracketBytes withoutBrackets spelledAtom kindBytes bridgeBytes restBytes tokensBytes tokens textOf renumbering fewBridges writeValid writeOf firstRow kekuleOf writtenOf ofMolecule entryOf linesAfter decBy decOf acceptedLine refusedLine totalsLine lineOf acceptedOf reportFrom reportOf
 sample = refl

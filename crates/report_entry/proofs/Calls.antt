@@ -10,9 +10,10 @@ use lib.Dec.{eqb}
 use Rattle.loops.specs.Loop.{pick}
 use Rattle.refusal.specs.Code.{codeOf}
 use Rattle.refusal.specs.declared.Refusal.{Refusal}
-use Rattle.refusal.specs.declared.Refusal.the-variants.{Short, LongText, Grammar, ManyAtoms, ManyBonds, DeepBranch, SelfBridge, RepeatedBond, SymbolClash, OpenBridge, Unmatchable, NotMatching, Invalid, ManyBridges, DeepWriting, LongWriting, LooseAtom}
+use Rattle.refusal.specs.declared.Refusal.the-variants.{Short, LongText, Grammar, ManyAtoms, ManyBonds, DeepBranch, SelfBridge, RepeatedBond, SymbolClash, OpenBridge, Unmatchable, NotMatching, Invalid, ManyBridges, DeepWriting, LongWriting, CrowdedEnd, StrayMark, LooseAtom}
 use Rattle.table.specs.Limits.{maxAtoms, maxBonds, atomCells, bondCells}
 use Rattle.table.specs.declared.Check.{Check}
+use Rattle.table.specs.declared.Check.the-variants as check
 use Rattle.ids.specs.Limits.{maxText}
 use Rattle.matching.specs.declared.Call.the-variants.{First}
 use Rattle.reading.specs.Read as read
@@ -49,6 +50,8 @@ code-not-zero Invalid = refl
 code-not-zero ManyBridges = refl
 code-not-zero DeepWriting = refl
 code-not-zero LongWriting = refl
+code-not-zero CrowdedEnd = refl
+code-not-zero StrayMark = refl
 code-not-zero LooseAtom = refl
 
 abbrev readBlank : List ℕ → read.ReadResult
@@ -84,7 +87,18 @@ module _ (s : List ℕ) (a b : List ℤ) (x : reply.ReadAnswer) (told : reader.t
 abbrev writeBlank : List ℤ → List ℤ → ℕ → ℕ → write.WriteResult
 writeBlank a b n m = write.writeOf a b n m (replicate maxText 0) (replicate maxAtoms 0)
 
-module _ (atoms bonds : List ℤ) (n m k : ℕ) (row : List ℕ) (a b : List ℤ) (text numbers : List ℕ) (f : Found) (c : Check) (w : Written) (first : out f row ≡ callOn First atoms bonds n m (replicate maxBonds 0)) (kekule : tables c a b ≡ kekulizedOf atoms bonds n m row) (write : told w text numbers ≡ writeBlank a b n m) where
+module _ (atoms bonds : List ℤ) (n m k : ℕ) (row text numbers : List ℕ) (w : Written) (write : told w text numbers ≡ writeBlank atoms bonds n m) where
+  pub written-accepted : {size : ℕ} → w ≡ Text size → ofWritten n m k row (writeBlank atoms bonds n m) ≡ acceptedAs n m k (take m row) (take size text)
+  written-accepted e = ap (ofWritten n m k row) (sym write) ∙ ap (λ y. ofWritten n m k row (told y text numbers)) e
+
+  pub written-refused : {r : Refusal} → w ≡ Refused r → ofWritten n m k row (writeBlank atoms bonds n m) ≡ refusedAs (codeOf r) 0
+  written-refused {r} e =
+      ap (ofWritten n m k row) (sym write) ∙ ap (λ y. ofWritten n m k row (told y text numbers)) e
+      ∙ ap (λ t. pick t (acceptedAs n m k (take m row) (take 0 text)) (refusedAs (codeOf r) 0)) (code-not-zero r)
+
+-- ---- kekulizing it
+
+module _ (atoms bonds : List ℤ) (n m k : ℕ) (row : List ℕ) (a b : List ℤ) (f : Found) (c : Check) (first : out f row ≡ callOn First atoms bonds n m (replicate maxBonds 0)) (kekule : tables c a b ≡ kekulizedOf atoms bonds n m row) where
   the-row : row ≡ firstRow atoms bonds n m
   unfolding firstRow
   the-row = ap (λ (o : CallReply). o .row) first
@@ -93,21 +107,19 @@ module _ (atoms bonds : List ℤ) (n m k : ℕ) (row : List ℕ) (a b : List ℤ
   unfolding kekuleOf
   the-tables = kekule ∙ ap (kekulizedOf atoms bonds n m) the-row
 
-  the-text : told w text numbers ≡ writtenOf atoms bonds n m
-  unfolding writtenOf
-  the-text = write ∙ ap (λ (t : KekulizeReply). writeBlank (t .atoms) (t .bonds) n m) the-tables
+  -- the entry, by what kekulizing hands back
+  abbrev byTables : KekulizeReply → Entry
+  byTables t = pick (eqb (t .code) 0) (ofWritten n m k (firstRow atoms bonds n m) (writeBlank (t .atoms) (t .bonds) n m)) (refusedAs (t .code) 0)
 
-  the-entry : ofMolecule atoms bonds n m k ≡ ofWritten n m k row (told w text numbers)
-  unfolding ofMolecule
-  the-entry = ap (λ r. ofWritten n m k r (writtenOf atoms bonds n m)) (sym the-row) ∙ ap (ofWritten n m k row) (sym the-text)
+  the-entry : {x : Check} → c ≡ x → ofMolecule atoms bonds n m k ≡ byTables (tables x a b)
+  unfolding ofMolecule writtenOf
+  the-entry e = ap byTables (sym the-tables) ∙ ap (λ (x : Check). byTables (tables x a b)) e
 
-  pub molecule-accepted : {size : ℕ} → w ≡ Text size → ofMolecule atoms bonds n m k ≡ acceptedAs n m k (take m row) (take size text)
-  molecule-accepted e = the-entry ∙ ap (λ y. ofWritten n m k row (told y text numbers)) e
+  pub molecule-written : c ≡ check.Fine → ofMolecule atoms bonds n m k ≡ ofWritten n m k row (writeBlank a b n m)
+  molecule-written e = the-entry e ∙ ap (λ r. ofWritten n m k r (writeBlank a b n m)) (sym the-row)
 
-  pub molecule-refused : {r : Refusal} → w ≡ Refused r → ofMolecule atoms bonds n m k ≡ refusedAs (codeOf r) 0
-  molecule-refused {r} e =
-      the-entry ∙ ap (λ y. ofWritten n m k row (told y text numbers)) e
-      ∙ ap (λ t. pick t (acceptedAs n m k (take m row) (take 0 text)) (refusedAs (codeOf r) 0)) (code-not-zero r)
+  pub molecule-refused : {r : Refusal} → c ≡ check.Refused r → ofMolecule atoms bonds n m k ≡ refusedAs (codeOf r) 0
+  molecule-refused {r} e = the-entry e ∙ ap (λ t. pick t (ofWritten n m k (firstRow atoms bonds n m) (writeBlank a b n m)) (refusedAs (codeOf r) 0)) (code-not-zero r)
 
 -- the text is within its buffer
 pub text-within : (a b : List ℤ) (n m : ℕ) (text numbers : List ℕ) (w : Written) {size : ℕ} → told w text numbers ≡ writeBlank a b n m → w ≡ Text size → size ≤ maxText

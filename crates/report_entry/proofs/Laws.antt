@@ -20,7 +20,7 @@ use Rattle.reading.specs.Read as read
 use Rattle.reading.proofs.Accepted.{read-valid}
 use Rattle.writing.specs.Write as write
 use Rattle.report_lines.proofs.Format.{accepted-within, refused-within}
-use Rattle.report_entry.specs.Entry.{refusedAs, acceptedAs, firstRow, writtenOf, ofMolecule, ofRead, entryOf, lineFor, isAccepted, lineOf, acceptedOf}
+use Rattle.report_entry.specs.Entry.{Entry, refusedAs, acceptedAs, firstRow, kekuleOf, writtenOf, ofMolecule, ofRead, entryOf, lineFor, isAccepted, lineOf, acceptedOf}
 use Rattle.report_entry.specs.Laid.{lineRoom}
 
 -- ---- the first bytes
@@ -84,9 +84,15 @@ written-within k n m o row w true h g =
     omega (arith, accepted-within k n m o (take m row) (take (w .size) (w .output)), take-short m row, take-short (w .size) (w .output))
 written-within k n m o row w false h g = omega (arith, refused-within k (w .code) 0)
 
+kekulized-within : (k : ℕ) (x : Entry) (c : ℕ) (t : Bool) → length (lineFor k x) ≤ lineRoom → length (lineFor k (pick t x (refusedAs c 0))) ≤ lineRoom
+kekulized-within k x c true h = h
+kekulized-within k x c false h = omega (arith, refused-within k c 0)
+
 molecule-within : (k : ℕ) (atoms bonds : List ℤ) (n m o : ℕ) → m ≤ maxBonds → length (lineFor k (ofMolecule atoms bonds n m o)) ≤ lineRoom
 unfolding ofMolecule writtenOf
-molecule-within k atoms bonds n m o h = written-within k n m o (firstRow atoms bonds n m) (writtenOf atoms bonds n m) (eqb (writtenOf atoms bonds n m .code) 0) h (size-within _ _ n m _ _)
+molecule-within k atoms bonds n m o h =
+    kekulized-within k _ (kekuleOf atoms bonds n m .code) (eqb (kekuleOf atoms bonds n m .code) 0)
+    (written-within k n m o (firstRow atoms bonds n m) (writtenOf atoms bonds n m) (eqb (writtenOf atoms bonds n m .code) 0) h (size-within _ _ n m _ _))
 
 read-within : (k : ℕ) (t : read.ReadResult) (b : Bool) → (b ≡ true → t .bondCount ≤ maxBonds) → length (lineFor k (pick b (ofMolecule (t .atoms) (t .bonds) (t .atomCount) (t .bondCount) (t .overfull)) (refusedAs (t .code) (t .offset)))) ≤ lineRoom
 read-within k t true h = molecule-within k (t .atoms) (t .bonds) (t .atomCount) (t .bondCount) (t .overfull) (h refl)

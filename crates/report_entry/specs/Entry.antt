@@ -38,8 +38,10 @@ writtenOf atoms bonds n m =
 abbrev pub ofWritten : ℕ → ℕ → ℕ → List ℕ → write.WriteResult → Entry
 ofWritten n m k row w = pick (eqb (w .code) 0) (acceptedAs n m k (take m row) (take (w .size) (w .output))) (refusedAs (w .code) 0)
 
+-- kekulizing that gives 20: "the program reports that as it does a writing refusal" (02, P5)
 unfoldable pub ofMolecule : List ℤ → List ℤ → ℕ → ℕ → ℕ → Entry
-ofMolecule atoms bonds n m k = ofWritten n m k (firstRow atoms bonds n m) (writtenOf atoms bonds n m)
+ofMolecule atoms bonds n m k =
+    pick (eqb (kekuleOf atoms bonds n m .code) 0) (ofWritten n m k (firstRow atoms bonds n m) (writtenOf atoms bonds n m)) (refusedAs (kekuleOf atoms bonds n m .code) 0)
 
 -- ---- a line
 

@@ -1,9 +1,12 @@
 // The line of the report for a text, by the public calls.
 ghost use Prim.Native.Nat.{_≤_};
 ghost use Rattle.refusal.specs.Code.{codeOf};
-ghost use Rattle.table.specs.Limits.{maxBonds};
+ghost use lib.ListN.{length, replicate};
+ghost use Rattle.table.specs.Limits.{maxAtoms, maxBonds};
+ghost use Rattle.ids.specs.Limits.{maxText};
+ghost use Rattle.writing.specs.Write.{writeOf};
 ghost use Rattle.buffer.specs.Buffer.{bufferAt};
-ghost use Rattle.report_entry.specs.Entry.{refusedAs, ofMolecule};
+ghost use Rattle.report_entry.specs.Entry.{refusedAs, ofWritten, ofMolecule};
 ghost use Rattle.report_entry.specs.Laid.{Says, Reports};
 use ids::MAX_TEXT;
 use reader::ending::ReadAnswer;
@@ -11,6 +14,7 @@ use refusal::Refusal;
 use report_lines::output;
 use table::ATOM_CELLS;
 use table::BOND_CELLS;
+use table::Check;
 use table::MAX_ATOMS;
 use table::MAX_BONDS;
 use writer::Written;
@@ -35,6 +39,33 @@ fn refuse(k: usize, r: Refusal, p: usize, out: &mut [u8], at: usize) -> Reported
     }
 }
 
+// The line of a kekulized molecule: the row that it was kekulized by, and its text.
+fn report_kekulized(
+    k: usize,
+    atoms: &[i32],
+    bonds: &[i32],
+    n: usize,
+    m: usize,
+    overfull: usize,
+    row: &[u8],
+    out: &mut [u8],
+    at: usize,
+) -> Reported
+    requires { ⌜ m ≤ length (now row) ⌝ }
+    ensures { λ r. ⌜ Says k (ofWritten n m overfull (now (row .entry)) (writeOf (now (atoms .entry)) (now (bonds .entry)) n m (replicate maxText 0) (replicate maxAtoms 0))) r (bufferAt (now (out .entry)) at) (now (out .exit)) ⌝ }
+{
+    let mut text = [0u8; MAX_TEXT];
+    let mut numbers = [0u16; MAX_ATOMS];
+    let w = writer::write(atoms, bonds, n, m, &mut text, &mut numbers);
+    match w {
+        Written::Text(size) => {
+            let at = output::accepted(out, at, k, n, m, overfull, &row[..m], &text[..size]);
+            Reported { accepted: true, at }
+        }
+        Written::Refused(r) => refuse(k, r, 0, out, at),
+    }
+}
+
 // The line of a molecule that was read: its first matching and the text kekulized by it.
 fn report_molecule(
     k: usize,
@@ -50,17 +81,11 @@ fn report_molecule(
     ensures { λ r. ⌜ Says k (ofMolecule (now (atoms .entry)) (now (bonds .entry)) n m overfull) r (bufferAt (now (out .entry)) at) (now (out .exit)) ⌝ }
 {
     let mut row = [0u8; MAX_BONDS];
-    let mut text = [0u8; MAX_TEXT];
-    let mut numbers = [0u16; MAX_ATOMS];
     kekule::first(atoms, bonds, n, m, &mut row);
-    kekule::kekulize(atoms, bonds, n, m, &row);
-    let w = writer::write(atoms, bonds, n, m, &mut text, &mut numbers);
-    match w {
-        Written::Text(size) => {
-            let at = output::accepted(out, at, k, n, m, overfull, &row[..m], &text[..size]);
-            Reported { accepted: true, at }
-        }
-        Written::Refused(r) => refuse(k, r, 0, out, at),
+    let c = kekule::kekulize(atoms, bonds, n, m, &row);
+    match c {
+        Check::Fine => report_kekulized(k, atoms, bonds, n, m, overfull, &row, out, at),
+        Check::Refused(r) => refuse(k, r, 0, out, at),
     }
 }
 

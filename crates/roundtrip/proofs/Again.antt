@@ -141,7 +141,7 @@ module _ (atoms bonds : List ℤ) (n m : ℕ) (v : Valid atoms bonds n m) {T U :
   unfolding tokens
   small =
       subst (λ (l : List Bond). All (Atom< n) (write n (λ a. a) l)) (sym (M .listed))
-      (written-made (λ w. w < n) (λ k. Unit {0}) tt n (λ a. a) (completed n bs) (completed-inside n bs (inside v)) (λ w l. l) (all-unit (completed n bs)))
+      (written-made (λ w. w < n) (λ k. Unit {0}) tt (λ k u. tt) n (λ a. a) (completed n bs) (completed-inside n bs (inside v)) (λ w l. l) (all-unit (completed n bs)))
 
   -- THE TEXT AGAIN
   pub text-again : textOf T U n m ≡ textOf atoms bonds n m

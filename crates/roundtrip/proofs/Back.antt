@@ -8,6 +8,7 @@ use lib.Dec.{eqb, ltb}
 use lib.ListN.{length, getD}
 use lib.IntN.{ℤ, pos}
 use borrow.Author.Tests.{ltb-true, eqb-true, eqb-false}
+use Rattle.kinds.proofs.Kind.{turned-small, order-turned}
 use Rattle.kinds.specs.Kind.{maxKind, order}
 use Rattle.loops.specs.Loop.{pick}
 use Rattle.loops.proofs.Loops.{and-left, and-right}
@@ -35,6 +36,7 @@ use Rattle.writing_walk.proofs.Grammar.{written-grammar}
 use Rattle.writing_walk.proofs.Twice.{count-map}
 use Rattle.writing_walk.proofs.Sums as sums
 use Rattle.roundtrip_matchings.proofs.Sums.{sum-total, degree-total}
+use Rattle.roundtrip_matchings.proofs.Marks.{uncrowded-same, touching-same}
 use Rattle.roundtrip_matchings.proofs.Claims.{matchable-renumbered}
 use Rattle.writing_walk.proofs.Made.{Made, written-made}
 use Rattle.writing_walk.proofs.Order.{place-below, atom-below, place-atom, atom-place}
@@ -157,12 +159,12 @@ module _ (atoms bonds : List ℤ) (n m : ℕ) (v : Valid atoms bonds n m) where
   -- bond sums are the same in the table of the completed bonds
   pub sum-same : (U : List ℤ) → bondList U m ≡ completed n bs → (w : ℕ) → w < n → bondSum U m (place walked w) ≡ bondSum bonds m w
   sum-same U e w l =
-      sum-total U m (place walked w) ∙ ap (sums.bondSum order (place walked w)) e ∙ sums.sum-kept n bs (inside v) order w l ∙ sym (sum-total bonds m w)
+      sum-total U m (place walked w) ∙ ap (sums.bondSum order (place walked w)) e ∙ sums.sum-kept n bs (inside v) order order-turned w l ∙ sym (sum-total bonds m w)
 
   -- and so are the numbers of bonds
   degree-same : (U : List ℤ) → bondList U m ≡ completed n bs → (w : ℕ) → w < n → bondDegree U m (place walked w) ≡ bondDegree bonds m w
   degree-same U e w l =
-      degree-total U m (place walked w) ∙ ap (sums.bondSum (λ k. 1) (place walked w)) e ∙ sums.sum-kept n bs (inside v) (λ k. 1) w l ∙ sym (degree-total bonds m w)
+      degree-total U m (place walked w) ∙ ap (sums.bondSum (λ k. 1) (place walked w)) e ∙ sums.sum-kept n bs (inside v) (λ k. 1) (λ k. refl) w l ∙ sym (degree-total bonds m w)
 
   module _ (A B : List ℤ) (lent : Enough A B) (few : fewBridges (tokens bonds n m) ≡ true) (flat : shallow (tokens bonds n m) ≡ true) where
     rows-fine : (w : ℕ) → w < n → AtomFine atoms w
@@ -181,7 +183,7 @@ module _ (atoms bonds : List ℤ) (n m : ℕ) (v : Valid atoms bonds n m) where
     held : Held atoms bonds n m (length A) (length B) rows-fine (lent .atoms-room) (lent .bonds-room) A B refl refl (textOf atoms bonds n m) end-state
     unfolding textOf tokens
     held = text-read atoms bonds n m (length A) (length B) rows-fine (lent .atoms-room) (lent .bonds-room) A B refl refl (tokens bonds n m) end-state (written-grammar n (λ a. a) bs) tokens-read
-        (good-tokens n (tokens bonds n m) few (written-made (λ w. w < n) (λ k. k ≤ maxKind) (omega arith) n (λ a. a) bs (inside v) (λ w l. l) (small-kinds v)))
+        (good-tokens n (tokens bonds n m) few (written-made (λ w. w < n) (λ k. k ≤ maxKind) (omega arith) turned-small n (λ a. a) bs (inside v) (λ w l. l) (small-kinds v)))
 
     abbrev μ : Memory
     μ = held .memory
@@ -254,7 +256,9 @@ module _ (atoms bonds : List ℤ) (n m : ℕ) (v : Valid atoms bonds n m) where
 
     -- no late check fails in what is read if none fails in the molecule
     pub late-same : lateCode atoms bonds n m ≡ 0 → lateCode T U n m ≡ 0
-    late-same h = late-fine T U n m (none-loose T U n m tight)
+    late-same h =
+        let p = late-none atoms bonds n m h in
+        late-fine T U n m (uncrowded-same bonds U n m (inside v) (M .listed) (p .uncrowded)) (touching-same bonds U n m (inside v) (M .listed) (p .touching)) (none-loose T U n m tight)
       where
         tight : (a : ℕ) → a < n → loose T U m a ≡ false
         tight a l =
@@ -263,7 +267,7 @@ module _ (atoms bonds : List ℤ) (n m : ℕ) (v : Valid atoms bonds n m) where
             let p : place walked w ≡ a = place-atom ren a l in
             let s : selected T a ≡ selected atoms w = subst (λ (x : ℕ). selected T x ≡ selected atoms w) p (ap number (M .cells w SELECTED k (omega arith))) in
             let d : bondDegree U m a ≡ bondDegree bonds m w = subst (λ (x : ℕ). bondDegree U m x ≡ bondDegree bonds m w) p (degree-same U (M .listed) w k) in
-            rw (s, d) (not-loose atoms bonds n m (late-none atoms bonds n m h) w k)
+            rw (s, d) (not-loose atoms bonds n m (late-none atoms bonds n m h .tight) w k)
 
     pub matchable-same : matchable T U n m ≡ matchable atoms bonds n m
     matchable-same = matchable-renumbered (record {

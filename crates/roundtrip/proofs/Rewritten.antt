@@ -8,6 +8,7 @@ use lib.Dec.{eqb, ltb}
 use lib.ListN.{length, getD}
 use lib.IntN.{ℤ, pos, negsuc}
 use borrow.Author.Tests.{eqb-true, eq-eqb, le-leb}
+use Rattle.kinds.proofs.Kind.{turned-small}
 use Rattle.kinds.specs.Kind.{maxKind}
 use Rattle.loops.proofs.Loops.{and-left, and-right, each-at, each-all}
 use Rattle.table.specs.Limits.{maxAtoms, maxBonds, ELEMENT, SELECTED, ISOTOPE, HYDROGENS, CHARGE, EXTENSION, FIRST, SECOND, KIND}
@@ -108,7 +109,7 @@ module _ (atoms bonds : List ℤ) (n m : ℕ) (v : Valid atoms bonds n m) {T U :
   bond-ok b l =
       let x = getD C b nobond in
       let h = all-at (λ b. (b .lo < b .hi) × (b .hi < n)) nobond C b (completed-inside n (bondList bonds m) (inside v)) (in-list b l) in
-      let k = all-at (λ b. b .kind ≤ maxKind) nobond C b (completed-made (λ w. Unit {0}) (λ k. k ≤ maxKind) (omega arith) n (bondList bonds m) (inside v) (small-kinds v)) (in-list b l) in
+      let k = all-at (λ b. b .kind ≤ maxKind) nobond C b (completed-made (λ w. Unit {0}) (λ k. k ≤ maxKind) (omega arith) turned-small n (bondList bonds m) (inside v) (small-kinds v)) (in-list b l) in
       let e = first-is b l in
       let f = second-is b l in
       bond-fine-back {t = U} {n = n} {b = b} (record {

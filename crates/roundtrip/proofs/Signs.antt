@@ -66,7 +66,9 @@ symbol-of zero h l = absurd (omega arith)
 symbol-of (suc zero) h l = record { sign = 45; bytes = refl; after-goes = λ x. refl; after-does = λ x i μ. refl; fresh-goes = refl; fresh-does = λ i μ. refl }
 symbol-of (suc (suc zero)) h l = record { sign = 61; bytes = refl; after-goes = λ x. refl; after-does = λ x i μ. refl; fresh-goes = refl; fresh-does = λ i μ. refl }
 symbol-of (suc (suc (suc zero))) h l = record { sign = 35; bytes = refl; after-goes = λ x. refl; after-does = λ x i μ. refl; fresh-goes = refl; fresh-does = λ i μ. refl }
-symbol-of (suc (suc (suc (suc k)))) h l = absurd (omega arith)
+symbol-of (suc (suc (suc (suc zero)))) h l = record { sign = 47; bytes = refl; after-goes = λ x. refl; after-does = λ x i μ. refl; fresh-goes = refl; fresh-does = λ i μ. refl }
+symbol-of (suc (suc (suc (suc (suc zero))))) h l = record { sign = 92; bytes = refl; after-goes = λ x. refl; after-does = λ x i μ. refl; fresh-goes = refl; fresh-does = λ i μ. refl }
+symbol-of (suc (suc (suc (suc (suc (suc k)))))) h l = absurd (omega arith)
 
 -- what waits for an atom or a bridge after the bytes of a kind
 abbrev pub waiting : ℕ → Pending

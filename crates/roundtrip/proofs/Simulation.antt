@@ -7,7 +7,7 @@ use native.Mathlib.Omega.{arith}
 use lib.Dec.{eqb, ltb}
 use lib.ListN.{length, getD, set, length-append}
 use borrow.Author.Tests.{eqb-true, eqb-false, eq-eqb, ne-eqb, ltb-true, ltb-false, lt-leb}
-use Rattle.kinds.specs.Kind.{meet, clash}
+use Rattle.kinds.specs.Kind.{turned, meet, clash}
 use Rattle.loops.specs.Loop.{pick}
 use Rattle.loops.proofs.Loops.{each-all}
 use Rattle.reading_grammar.specs.Fold.{keeps}
@@ -57,14 +57,14 @@ some-at f (b ∷ bs) (suc i) h l = some-at f bs i (or-false (f b) (some f bs) h 
 between-same : (u h k : ℕ) → between u h k ≡ rowOfBond (bondBetween u h k)
 between-same u h k = go (ltb u h)
   where
-    go : (x : Bool) → pick x (bytes.newBond u h k) (bytes.newBond h u k) ≡ rowOfBond (cond x (bond u h k) (bond h u k))
+    go : (x : Bool) → pick x (bytes.newBond u h k) (bytes.newBond h u (turned k)) ≡ rowOfBond (cond x (bond u h k) (bond h u (turned k)))
     go true = refl
     go false = refl
 
 joined-ordered : (u h k : ℕ) → eqb u h ≡ false → bondBetween u h k .lo < bondBetween u h k .hi
 joined-ordered u h k e = go (ltb u h) refl
   where
-    go : (x : Bool) → ltb u h ≡ x → cond x (bond u h k) (bond h u k) .lo < cond x (bond u h k) (bond h u k) .hi
+    go : (x : Bool) → ltb u h ≡ x → cond x (bond u h k) (bond h u (turned k)) .lo < cond x (bond u h k) (bond h u (turned k)) .hi
     go true y = ltb-true u h y
     go false y = let z = eqb-false u h e in let w = ltb-false u h y in omega arith
 
@@ -80,7 +80,7 @@ not-joins u h b o = go (ltb u h) refl
         two true e false f = refl
         two false e y f = refl
 
-    go : (x : Bool) → ltb u h ≡ x → ends (cond x (bond u h 0) (bond h u 0) .lo) (cond x (bond u h 0) (bond h u 0) .hi) b ≡ false → ((eqb (b .lo) u && eqb (b .hi) h) || (eqb (b .lo) h && eqb (b .hi) u)) ≡ false
+    go : (x : Bool) → ltb u h ≡ x → ends (cond x (bond u h 0) (bond h u (turned 0)) .lo) (cond x (bond u h 0) (bond h u (turned 0)) .hi) b ≡ false → ((eqb (b .lo) u && eqb (b .hi) h) || (eqb (b .lo) h && eqb (b .hi) u)) ≡ false
     go true y g = let l = ltb-true u h y in rw (g, wrong h u (omega arith))
     go false y g = let l = ltb-false u h y in rw (g, wrong u h l)
 

@@ -2,3 +2,4 @@ pub mod Chosen
 pub mod Renamed
 pub mod Sums
 pub mod Claims
+pub mod Marks

@@ -9,6 +9,8 @@ use lib.Dec.{eqb, ltb}
 use lib.ListN.{length, take, getD, drop, List·getD-eq-default}
 use lib.Seq.{split-at, length-take-le}
 use borrow.Author.Tests.{ne-eqb, eq-eqb, eqb-true, ltb-true, ltb-false}
+use Rattle.kinds.specs.Kind.{turned}
+use Rattle.kinds.proofs.Kind.{turned-elided}
 use Rattle.loops.specs.Loop.{pick}
 use Rattle.loops.proofs.Loops.{and-left, and-right}
 use Rattle.matching.specs.Enumeration.{Row}
@@ -132,9 +134,9 @@ module _ {n : ℕ} {order flags flags′ : List ℕ} (w : Followed n order flags
       turn true false false = refl
       turn false y z = refl
 
-      go : (x : Bool) → barred flags′ (cond x (bond (place order (b .lo)) (place order (b .hi)) (b .kind)) (bond (place order (b .hi)) (place order (b .lo)) (b .kind))) ≡ barred flags b
+      go : (x : Bool) → barred flags′ (cond x (bond (place order (b .lo)) (place order (b .hi)) (b .kind)) (bond (place order (b .hi)) (place order (b .lo)) (turned (b .kind)))) ≡ barred flags b
       go true = λ j. pick ((eqb (b .kind) 0 && e1 j) && e2 j) 0 1
-      go false = (λ j. pick ((eqb (b .kind) 0 && e2 j) && e1 j) 0 1) ∙ ap (λ (x : Bool). pick x 0 1) (turn (eqb (b .kind) 0) (flagged flags (b .lo)) (flagged flags (b .hi)))
+      go false = (λ j. pick ((turned-elided (b .kind) j && e2 j) && e1 j) 0 1) ∙ ap (λ (x : Bool). pick x 0 1) (turn (eqb (b .kind) 0) (flagged flags (b .lo)) (flagged flags (b .hi)))
 
   module _ (bs : List Bond) (inside : Inside n bs) (r : Row) where
     barred-kept : chosenSum (barred flags′) (map (renumber order) bs) r ≡ chosenSum (barred flags) bs r
@@ -143,7 +145,7 @@ module _ {n : ℕ} {order flags flags′ : List ℕ} (w : Followed n order flags
     ends-kept : (v : ℕ) → v < n → chosenSum (atEnd (place order v)) (map (renumber order) bs) r ≡ chosenSum (atEnd v) bs r
     ends-kept v h =
         sum-renamed (λ b. (b .lo < b .hi) × (b .hi < n)) (renumber order) (atEnd v) (atEnd (place order v))
-        (weight-place n order (w .order-is .every) (λ k. 1) v h) bs inside r
+        (weight-place n order (w .order-is .every) (λ k. 1) (λ k. refl) v h) bs inside r
 
     -- a matching stays one under the renumbering, and comes from one
     pub forth : Matched flags bs r → Matched flags′ (map (renumber order) bs) r

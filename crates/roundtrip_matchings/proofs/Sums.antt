@@ -7,13 +7,15 @@ use native.Mathlib.Omega.{arith}
 use native.Mathlib.Nat.{zero-add, add-zero}
 use lib.Dec.{eqb}
 use lib.IntN.{ℤ}
+use Rattle.kinds.proofs.Kind.{order-turned}
 use Rattle.loops.specs.Loop.{pick, run, upTo}
 use Rattle.loops.proofs.Loops.{length-upTo, upTo-at}
 use Rattle.table.specs.Limits.{CHARGE}
 use Rattle.table.specs.Cells.{atomCell, element, selected, hydrogens, end1, end2, kind}
 use Rattle.kinds.specs.Kind.{order}
 use Rattle.valence.specs.Valence.{delocalized}
-use Rattle.table.specs.Sound.{touches, countBond, bondDegree}
+use Rattle.table.specs.Cells.{touches}
+use Rattle.table.specs.Sound.{countBond, bondDegree}
 use Rattle.table_graph.specs.Graph.{share, addShare, bondSum, flag, delocalizedFlag, delocalizedFlags, graphOf}
 use Rattle.writing_walk.specs.Token.{bond}
 use Rattle.writing_walk.specs.Walk.{place, renumber}
@@ -85,7 +87,7 @@ module _ {n m : ℕ} {walk : List ℕ} {atoms bonds atoms′ bonds′ : List ℤ
   sum-renumbered v h =
       sum-total bonds′ m (place walk v)
       ∙ total-perm (weightAt order (place walk v)) (w .permuted)
-      ∙ sum-place n walk (w .numbers .every) order v h (bondList bonds m) (w .inside)
+      ∙ sum-place n walk (w .numbers .every) order order-turned v h (bondList bonds m) (w .inside)
       ∙ sym (sum-total bonds m v)
 
   -- and stays delocalized, or not

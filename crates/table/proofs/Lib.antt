@@ -4,4 +4,5 @@ pub mod Valid
 pub mod Edits
 pub mod Keys
 pub mod Checks
+pub mod Marks
 pub mod Sound

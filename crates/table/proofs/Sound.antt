@@ -5,33 +5,20 @@ use native.Mathlib.Numerals.{add-one}
 use native.Mathlib.Nat.{add-zero}
 use mathlib.Core.Path.{_≡_, refl, sym, ap, _∙_}
 use mathlib.Core.Bool.{Bool, true, false, _&&_, not, true≢false}
-use mathlib.Core.Logic.{_⊎_, inl, inr, _↔_}
+use mathlib.Core.Logic.{_↔_}
 use mathlib.Core.List.{List}
 use lib.IntN.{ℤ}
 use lib.Dec.{eqb, ltb}
 use borrow.Author.Tests.{eqb-true, eq-eqb, ltb-true, lt-ltb, not-true, not-false}
 use Rattle.loops.specs.Loop.{pick, each, run}
-use Rattle.loops.proofs.Loops.{and-left, and-right, each-at, each-all}
+use Rattle.loops.proofs.Loops.{and-left, and-right, each-at, each-all, each-fails}
 use Rattle.table.specs.Cells.{selected}
 use Rattle.table.specs.Valid.{valid, Valid}
-use Rattle.table.specs.Sound.{touches, countBond, bondDegree, loose, noneLoose, LooseAtom, lateCode, sound}
+use Rattle.table.specs.Cells.{touches}
+use Rattle.table.specs.Sound.{countBond, bondDegree, loose, noneLoose, LooseAtom, lateCode, sound}
+use Rattle.table.specs.Marks.{noneCrowded, noneStray, CrowdedEnd, StrayMark}
 use Rattle.table.proofs.Valid.{facts, facts-back}
-
--- a test that not all pass fails at one of them
-pub record Fails (p : ℕ → Bool) (k m : ℕ) : Type 0 where
-  pub at : ℕ
-  pub from : k ≤ at
-  pub below : at < k + m
-  pub fails : p at ≡ false
-
-each-fails : (p : ℕ → Bool) (k m : ℕ) → each p k m ≡ false → Fails p k m
-unfolding each
-each-fails p k zero h = absurd (true≢false h)
-each-fails p k (suc m) h = split (each-fails p (suc k) m) (p k) refl h
-  where
-    split : (each p (suc k) m ≡ false → Fails p (suc k) m) → (x : Bool) → p k ≡ x → (x && each p (suc k) m) ≡ false → Fails p k (suc m)
-    split later true e g = let r = later g in record { at = r .at; from = omega (arith, r .from); below = omega (arith, r .below); fails = r .fails }
-    split later false e g = record { at = k; from = omega arith; below = omega arith; fails = e }
+use Rattle.table.proofs.Marks.{crowded-iff, stray-iff}
 
 -- ---- the test, as facts
 module _ (atoms bonds : List ℤ) (n m : ℕ) where
@@ -47,38 +34,64 @@ module _ (atoms bonds : List ℤ) (n m : ℕ) where
   unfolding sound
   sound-back v e = simp (facts-back v, e)
 
-  -- ---- 22, the one late check so far
-  pub late-fine : noneLoose atoms bonds n m ≡ true → lateCode atoms bonds n m ≡ 0
+  -- ---- the late checks, in their order
+  pub late-crowded : noneCrowded bonds m ≡ false → lateCode atoms bonds n m ≡ 20
   unfolding lateCode
-  late-fine e = rw e
+  late-crowded e = rw e
 
-  pub late-loose : noneLoose atoms bonds n m ≡ false → lateCode atoms bonds n m ≡ 22
+  pub late-stray : noneCrowded bonds m ≡ true → noneStray bonds m ≡ false → lateCode atoms bonds n m ≡ 21
   unfolding lateCode
-  late-loose e = rw e
+  late-stray e f = rw (e, f)
 
-  pub late-none : lateCode atoms bonds n m ≡ 0 → noneLoose atoms bonds n m ≡ true
+  pub late-loose : noneCrowded bonds m ≡ true → noneStray bonds m ≡ true → noneLoose atoms bonds n m ≡ false → lateCode atoms bonds n m ≡ 22
   unfolding lateCode
-  late-none = go (noneLoose atoms bonds n m)
+  late-loose e f g = rw (e, f, g)
+
+  pub late-fine : noneCrowded bonds m ≡ true → noneStray bonds m ≡ true → noneLoose atoms bonds n m ≡ true → lateCode atoms bonds n m ≡ 0
+  unfolding lateCode
+  late-fine e f g = rw (e, f, g)
+
+  -- which of them is the first that fails
+  pub data FirstLate : ℕ → Type 0 where
+    crowded-first : noneCrowded bonds m ≡ false → FirstLate 20
+    stray-first : noneCrowded bonds m ≡ true → noneStray bonds m ≡ false → FirstLate 21
+    loose-first : noneCrowded bonds m ≡ true → noneStray bonds m ≡ true → noneLoose atoms bonds n m ≡ false → FirstLate 22
+    none-first : noneCrowded bonds m ≡ true → noneStray bonds m ≡ true → noneLoose atoms bonds n m ≡ true → FirstLate 0
+
+  pub first-late : FirstLate (lateCode atoms bonds n m)
+  unfolding lateCode
+  first-late = go (noneCrowded bonds m) refl (noneStray bonds m) refl (noneLoose atoms bonds n m) refl
     where
-      go : (x : Bool) → pick {A = ℕ} x 0 22 ≡ 0 → x ≡ true
-      go true e = refl
-      go false e = absurd (omega arith)
+      go : (x : Bool) → noneCrowded bonds m ≡ x → (y : Bool) → noneStray bonds m ≡ y → (z : Bool) → noneLoose atoms bonds n m ≡ z → FirstLate (pick x (pick y (pick z 0 22) 21) 20)
+      go false e y f z g = crowded-first e
+      go true e false f z g = stray-first e f
+      go true e true f false g = loose-first e f g
+      go true e true f true g = none-first e f g
 
-  pub late-codes : (lateCode atoms bonds n m ≡ 0) ⊎ (lateCode atoms bonds n m ≡ 22)
-  unfolding lateCode
-  late-codes = go (noneLoose atoms bonds n m)
+  -- what no late check fails
+  pub record Passed : Type 0 where
+    pub uncrowded : noneCrowded bonds m ≡ true
+    pub touching : noneStray bonds m ≡ true
+    pub tight : noneLoose atoms bonds n m ≡ true
+
+  pub late-none : lateCode atoms bonds n m ≡ 0 → Passed
+  late-none = go (lateCode atoms bonds n m) first-late
     where
-      go : (x : Bool) → (pick {A = ℕ} x 0 22 ≡ 0) ⊎ (pick {A = ℕ} x 0 22 ≡ 22)
-      go true = inl refl
-      go false = inr refl
+      go : (c : ℕ) → FirstLate c → c ≡ 0 → Passed
+      go c (crowded-first e) z = absurd (omega arith)
+      go c (stray-first e f) z = absurd (omega arith)
+      go c (loose-first e f g) z = absurd (omega arith)
+      go c (none-first e f g) z = record { uncrowded = e; touching = f; tight = g }
 
   -- a late code is one of 20 to 23
   pub late-range : 0 < lateCode atoms bonds n m → (20 ≤ lateCode atoms bonds n m) × (lateCode atoms bonds n m ≤ 23)
-  late-range l = go late-codes
+  late-range = go (lateCode atoms bonds n m) first-late
     where
-      go : (lateCode atoms bonds n m ≡ 0) ⊎ (lateCode atoms bonds n m ≡ 22) → (20 ≤ lateCode atoms bonds n m) × (lateCode atoms bonds n m ≤ 23)
-      go (inl e) = absurd (omega arith)
-      go (inr e) = (omega arith, omega arith)
+      go : (c : ℕ) → FirstLate c → 0 < c → (20 ≤ c) × (c ≤ 23)
+      go c (crowded-first e) l = (omega arith, omega arith)
+      go c (stray-first e f) l = (omega arith, omega arith)
+      go c (loose-first e f g) l = (omega arith, omega arith)
+      go c (none-first e f g) l = absurd (omega arith)
 
   -- no atom is loose exactly if the test says so
   pub none-loose : ((a : ℕ) → a < n → loose atoms bonds m a ≡ false) → noneLoose atoms bonds n m ≡ true
@@ -89,9 +102,9 @@ module _ (atoms bonds : List ℤ) (n m : ℕ) where
   unfolding noneLoose
   not-loose h a l = not-true (loose atoms bonds m a) (each-at (λ x. not (loose atoms bonds m x)) n a h l)
 
-  -- without a selected atom no late check fails
-  pub unselected-late : ((a : ℕ) → a < n → selected atoms a ≡ 0) → lateCode atoms bonds n m ≡ 0
-  unselected-late h = late-fine (none-loose (λ a l. rw (h a l)))
+  -- without a selected atom none is loose
+  pub unselected-tight : ((a : ℕ) → a < n → selected atoms a ≡ 0) → noneLoose atoms bonds n m ≡ true
+  unselected-tight h = none-loose (λ a l. rw (h a l))
 
   loose-atom : (a : ℕ) → a < n → loose atoms bonds m a ≡ true → LooseAtom atoms bonds n m
   loose-atom a l h =
@@ -102,24 +115,57 @@ module _ (atoms bonds : List ℤ) (n m : ℕ) where
         few-bonds = ltb-true (bondDegree bonds m a) 2 (and-right (eqb (selected atoms a) 1) (ltb (bondDegree bonds m a) 2) h);
       }
 
-  -- 22 exactly if a selected atom has fewer than two bonds
-  pub loose-iff : (lateCode atoms bonds n m ≡ 22) ↔ LooseAtom atoms bonds n m
-  unfolding lateCode noneLoose
-  loose-iff = (found (noneLoose atoms bonds n m) refl, told)
-    where
-      found : (x : Bool) → noneLoose atoms bonds n m ≡ x → pick {A = ℕ} x 0 22 ≡ 22 → LooseAtom atoms bonds n m
-      found true e h = absurd (omega arith)
-      found false e h = let f = each-fails (λ a. not (loose atoms bonds m a)) 0 n e in loose-atom (f .at) (omega (arith, f .below)) (not-false (loose atoms bonds m (f .at)) (f .fails))
+  loose-found : noneLoose atoms bonds n m ≡ false → LooseAtom atoms bonds n m
+  unfolding noneLoose
+  loose-found e = let f = each-fails (λ a. not (loose atoms bonds m a)) 0 n e in loose-atom (f .at) (omega (arith, f .below)) (not-false (loose atoms bonds m (f .at)) (f .fails))
 
-      told : LooseAtom atoms bonds n m → lateCode atoms bonds n m ≡ 22
-      told w = split (noneLoose atoms bonds n m) refl
-        where
-          split : (x : Bool) → noneLoose atoms bonds n m ≡ x → lateCode atoms bonds n m ≡ 22
-          split true e =
-              let z : loose atoms bonds m (w .atom) ≡ false = not-loose e (w .atom) (w .used) in
-              let o : loose atoms bonds m (w .atom) ≡ true = simp (eq-eqb (selected atoms (w .atom)) 1 (w .is-selected), lt-ltb (bondDegree bonds m (w .atom)) 2 (w .few-bonds)) in
-              absurd (true≢false (sym o ∙ z))
-          split false e = late-loose e
+  loose-told : LooseAtom atoms bonds n m → noneLoose atoms bonds n m ≡ false
+  loose-told w = split (noneLoose atoms bonds n m) refl
+    where
+      split : (x : Bool) → noneLoose atoms bonds n m ≡ x → x ≡ false
+      split false e = refl
+      split true e =
+          let z : loose atoms bonds m (w .atom) ≡ false = not-loose e (w .atom) (w .used) in
+          let o : loose atoms bonds m (w .atom) ≡ true = simp (eq-eqb (selected atoms (w .atom)) 1 (w .is-selected), lt-ltb (bondDegree bonds m (w .atom)) 2 (w .few-bonds)) in
+          absurd (true≢false (sym o ∙ z))
+
+  -- a test that passes has no such case
+  none-of : {P : Type 0} {x : Bool} → (P → x ≡ false) → x ≡ true → ¬ P
+  none-of f e p = true≢false (sym e ∙ f p)
+
+  test-of : {P : Type 0} (x : Bool) → (x ≡ false → P) → ¬ P → x ≡ true
+  test-of true f n = refl
+  test-of false f n = absurd (n (f refl))
+
+  -- 20 exactly if two marked neighbours of an end of a double bond lie on the same side
+  pub crowded-late : (lateCode atoms bonds n m ≡ 20) ↔ CrowdedEnd bonds m
+  crowded-late = (go (lateCode atoms bonds n m) first-late, λ w. late-crowded (crowded-iff bonds m .1 w))
+    where
+      go : (c : ℕ) → FirstLate c → c ≡ 20 → CrowdedEnd bonds m
+      go c (crowded-first e) z = crowded-iff bonds m .0 e
+      go c (stray-first e f) z = absurd (omega arith)
+      go c (loose-first e f g) z = absurd (omega arith)
+      go c (none-first e f g) z = absurd (omega arith)
+
+  -- 21 exactly if a mark touches no bond of kind 2, and 20 is not given
+  pub stray-late : (lateCode atoms bonds n m ≡ 21) ↔ ((¬ CrowdedEnd bonds m) × StrayMark bonds m)
+  stray-late = (go (lateCode atoms bonds n m) first-late, λ w. late-stray (test-of (noneCrowded bonds m) (crowded-iff bonds m .0) (w .0)) (stray-iff bonds m .1 (w .1)))
+    where
+      go : (c : ℕ) → FirstLate c → c ≡ 21 → (¬ CrowdedEnd bonds m) × StrayMark bonds m
+      go c (crowded-first e) z = absurd (omega arith)
+      go c (stray-first e f) z = (none-of (crowded-iff bonds m .1) e, stray-iff bonds m .0 f)
+      go c (loose-first e f g) z = absurd (omega arith)
+      go c (none-first e f g) z = absurd (omega arith)
+
+  -- 22 exactly if a selected atom has fewer than two bonds, and neither 20 nor 21 is given
+  pub loose-late : (lateCode atoms bonds n m ≡ 22) ↔ ((¬ CrowdedEnd bonds m) × (¬ StrayMark bonds m) × LooseAtom atoms bonds n m)
+  loose-late = (go (lateCode atoms bonds n m) first-late, λ w. late-loose (test-of (noneCrowded bonds m) (crowded-iff bonds m .0) (w .0)) (test-of (noneStray bonds m) (stray-iff bonds m .0) (w .1)) (loose-told (w .2)))
+    where
+      go : (c : ℕ) → FirstLate c → c ≡ 22 → (¬ CrowdedEnd bonds m) × (¬ StrayMark bonds m) × LooseAtom atoms bonds n m
+      go c (crowded-first e) z = absurd (omega arith)
+      go c (stray-first e f) z = absurd (omega arith)
+      go c (loose-first e f g) z = (none-of (crowded-iff bonds m .1) e, none-of (stray-iff bonds m .1) f, loose-found g)
+      go c (none-first e f g) z = absurd (omega arith)
 
 -- ---- how many bonds an atom has
 run-last : {S : Type 0} (step : ℕ → S → S) (k m : ℕ) (s : S) → run step k (suc m) s ≡ step (k + m) (run step k m s)

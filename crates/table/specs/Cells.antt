@@ -1,10 +1,11 @@
 -- 01, The tables: what stands where in an atom row and in a bond row
 use Prim.Native.Nat.{ℕ, _+_, _*_}
 use mathlib.Core.List.{List}
-use mathlib.Core.Bool.{Bool, _&&_}
+use mathlib.Core.Bool.{Bool, _&&_, _||_}
 use lib.ListN.{getD}
 use lib.IntN.{ℤ, pos, negsuc}
 use lib.Signed.{leZ}
+use lib.Dec.{eqb}
 use Rattle.table.specs.Limits.{atomCells, bondCells, ELEMENT, SELECTED, HYDROGENS, FIRST, SECOND, KIND}
 
 -- the number in a cell, 0 for a negative one
@@ -49,3 +50,7 @@ end2 t b = number (bondCell t b SECOND)
 
 abbrev pub kind : List ℤ → ℕ → ℕ
 kind t b = number (bondCell t b KIND)
+
+-- the atom a is an end of the bond b
+unfoldable pub touches : List ℤ → ℕ → ℕ → Bool
+touches bonds a b = eqb (end1 bonds b) a || eqb (end2 bonds b) a

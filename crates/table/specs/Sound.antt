@@ -1,17 +1,14 @@
--- 02, P6: the checks that come late, after 10 in reading, and that belong to soundness ("added to soundness"); sound tables
+-- 02, P5 and P6: the checks that come late, after 10 in reading, and that belong to soundness: 20, 21 (Marks) and 22; sound tables
 use Prim.Native.Nat.{ℕ, _+_, _<_}
 use mathlib.Core.Path.{_≡_}
 use mathlib.Core.List.{List}
-use mathlib.Core.Bool.{Bool, _&&_, _||_, not}
+use mathlib.Core.Bool.{Bool, _&&_, not}
 use lib.IntN.{ℤ}
 use lib.Dec.{eqb, ltb}
 use Rattle.loops.specs.Loop.{pick, each, run}
-use Rattle.table.specs.Cells.{selected, end1, end2}
+use Rattle.table.specs.Cells.{selected, touches}
 use Rattle.table.specs.Valid.{valid, enough}
-
--- the atom a is an end of the bond b
-unfoldable pub touches : List ℤ → ℕ → ℕ → Bool
-touches bonds a b = eqb (end1 bonds b) a || eqb (end2 bonds b) a
+use Rattle.table.specs.Marks.{noneCrowded, noneStray}
 
 -- how many of m bonds an atom has, to any neighbour; its hydrogens are none
 abbrev pub countBond : List ℤ → ℕ → ℕ → ℕ → ℕ
@@ -36,7 +33,7 @@ pub record LooseAtom (atoms bonds : List ℤ) (n m : ℕ) : Type 0 where
 
 -- the late checks in their order: the code of the first that the molecule fails, 0 if it passes all
 unfoldable pub lateCode : List ℤ → List ℤ → ℕ → ℕ → ℕ
-lateCode atoms bonds n m = pick (noneLoose atoms bonds n m) 0 22
+lateCode atoms bonds n m = pick (noneCrowded bonds m) (pick (noneStray bonds m) (pick (noneLoose atoms bonds n m) 0 22) 21) 20
 
 -- 01's "sound": valid, and no late check fails
 unfoldable pub sound : List ℤ → List ℤ → ℕ → ℕ → Bool

@@ -22,7 +22,7 @@ use Rattle.table.specs.Cells.{number, end1, end2, kind}
 use Rattle.table.specs.Rows.{bondAt, bondRow, BondFits}
 use Rattle.kinds.specs.Kind.{order}
 use Rattle.kinds.proofs.Kind.{order-small}
-use Rattle.table.specs.Sound.{touches}
+use Rattle.table.specs.Cells.{touches}
 use Rattle.table_graph.specs.Graph.{share, addShare, bondSum}
 use Rattle.table_graph.specs.Built.{bump, sumsWithBond}
 

@@ -7,8 +7,7 @@ use lib.Dec.{eqb}
 use Rattle.loops.specs.Loop.{pick, each, run, upTo}
 use Rattle.kinds.specs.Kind.{elided, order}
 use Rattle.table.specs.Limits.{CHARGE}
-use Rattle.table.specs.Cells.{atomCell, element, selected, hydrogens, end1, end2, kind}
-use Rattle.table.specs.Sound.{touches}
+use Rattle.table.specs.Cells.{atomCell, element, selected, hydrogens, end1, end2, kind, touches}
 use Rattle.valence.specs.Valence.{delocalized}
 use Rattle.matching.specs.Enumeration.{Row, matchings}
 use Rattle.matching.specs.Graph.{Bond, isMatching}

@@ -17,7 +17,8 @@ use Rattle.table.specs.Cells.{selected, end1, end2}
 use Rattle.table.specs.declared.Check.{Check}
 use Rattle.table.specs.declared.Check.the-variants.{Fine, Refused}
 use Rattle.table.specs.Valid.{valid, Valid, checkCode}
-use Rattle.table.specs.Sound.{touches, bondDegree, loose, noneLoose, lateCode, sound}
+use Rattle.table.specs.Cells.{touches}
+use Rattle.table.specs.Sound.{bondDegree, loose, noneLoose, lateCode, sound}
 use Rattle.table.proofs.Valid.{facts, facts-back, bond-row}
 use Rattle.table.proofs.Sound.{degree-more, degree-none, degree-small, sound-valid, sound-late, sound-back}
 use Rattle.table_validity.specs.Degrees.{counted, Ends, tight}

@@ -1,4 +1,4 @@
-// The late checks, in reading after every bridge is closed: 22, a selected atom with fewer than two bonds.
+// The late checks, in reading after every bridge is closed: 20 and 21 of the marks, and 22, a selected atom with fewer than two bonds.
 ghost use mathlib.Core.Path.{_≡_};
 ghost use Prim.Native.Nat.{ℕ, _<_, _≤_};
 ghost use lib.ListN.{length, getD, replicate};
@@ -84,6 +84,12 @@ pub fn late_check(atoms: &[i32], bonds: &[i32], n: usize, m: usize) -> Check
     requires { ⌜ Valid (now atoms) (now bonds) n m ⌝ }
     ensures { λ r. ⌜ checkCode r ≡ lateCode (now (atoms .entry)) (now (bonds .entry)) n m ⌝ }
 {
+    if !table_marks::none_crowded(bonds, m) {
+        return Check::Refused(Refusal::CrowdedEnd);
+    }
+    if !table_marks::none_stray(bonds, m) {
+        return Check::Refused(Refusal::StrayMark);
+    }
     if none_loose(atoms, bonds, n, m) {
         return Check::Fine;
     }

@@ -9,6 +9,7 @@ use lib.ListN.{length, getD, set, replicate, length-set}
 use lib.Seq.{getD-set-same, getD-set-other}
 use lib.Dec.{eqb}
 use borrow.Author.Tests.{eq-eqb, ne-eqb, eqb-true, eqb-false, lt-ltb, le-ltb}
+use Rattle.kinds.specs.Kind.{turned}
 use Rattle.loops.specs.Loop.{pick, upTo}
 use Rattle.writing_walk.specs.Token.{Bond, bond}
 use Rattle.writing_walk.specs.Emit.{pre}
@@ -61,9 +62,9 @@ module _ {bonds : ℕ → Bond} {n m : ℕ} {v u : List ℕ} (fit : BondsFit bon
       let t : at (bonds b .lo) < at (bonds b .hi) = omega arith in
       (λ i. bond (x i) (y i) (g i)) ∙ sym (rw (lt-ltb (at (bonds b .lo)) (at (bonds b .hi)) t))
 
-  pub turned : (p q k : ℕ) → p ≡ suc (at (bonds b .lo)) → q ≡ suc (at (bonds b .hi)) → k ≡ bonds b .kind → q ≤ p → bond (q - 1) (p - 1) k ≡ inWalk bonds n m b
+  pub swapped : (p q k : ℕ) → p ≡ suc (at (bonds b .lo)) → q ≡ suc (at (bonds b .hi)) → k ≡ turned (bonds b .kind) → q ≤ p → bond (q - 1) (p - 1) k ≡ inWalk bonds n m b
   unfolding inWalk
-  turned p q k e f g l =
+  swapped p q k e f g l =
       let x : p - 1 ≡ at (bonds b .lo) = omega arith in
       let y : q - 1 ≡ at (bonds b .hi) = omega arith in
       let t : at (bonds b .hi) ≤ at (bonds b .lo) = omega arith in

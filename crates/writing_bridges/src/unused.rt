@@ -3,7 +3,6 @@ ghost use mathlib.Core.Path.{_≡_};
 ghost use Prim.Native.Nat.{suc, _-_, _<_, _≤_};
 ghost use lib.ListN.{length, replicate};
 ghost use Rattle.loops.specs.Loop.{run, upTo};
-ghost use Rattle.kinds.specs.Kind.{maxKind};
 ghost use Rattle.table.specs.Limits.{maxAtoms, maxBonds};
 ghost use Rattle.writing_walk.specs.Token.{bond};
 ghost use Rattle.writing_visit.specs.Visit.{BondsFit};
@@ -34,7 +33,7 @@ fn add_bond(
     marks: &mut [u16],
     p: usize,
     q: usize,
-    kind: usize,
+    kind: u8,
     used: usize,
 ) -> usize
     requires { ⌜ (q ≤ length (now up)) × (q ≤ length (now marks)) ⌝ }
@@ -42,7 +41,6 @@ fn add_bond(
     requires { ⌜ Marked (now marks) (now los) (now his) used ⌝ }
     requires { ⌜ (0 < p) × (p < q) ⌝ }
     requires { ⌜ (q ≤ maxAtoms) × (used < maxBonds) ⌝ }
-    requires { ⌜ kind ≤ maxKind ⌝ }
     ensures { λ r. ⌜ bondArrays (now (los .exit)) (now (his .exit)) (now (kinds .exit)) r ≡ addBond (now (up .entry)) (bond (p - 1) (q - 1) kind) (bondArrays (now (los .entry)) (now (his .entry)) (now (kinds .entry)) used) ⌝ }
     ensures { λ r. ⌜ Marked (now (marks .exit)) (now (los .exit)) (now (his .exit)) r ⌝ }
 {
@@ -53,7 +51,7 @@ fn add_bond(
     }
     los[used] = low as u16;
     his[used] = high as u16;
-    kinds[used] = kind as u8;
+    kinds[used] = kind;
     marks[low] = mark(marks[low], UnusedId(used));
     marks[high] = mark(marks[high], UnusedId(used));
     used + 1
@@ -88,13 +86,14 @@ fn add_unused(
     let i = b.0;
     let e = ea[i] as usize;
     let f = eb[i] as usize;
-    let kind = ks[i] as usize;
+    let kind = ks[i];
     let p = number[e] as usize;
     let q = number[f] as usize;
     if p < q {
         return add_bond(up, los, his, kinds, marks, p, q, kind, used);
     }
-    add_bond(up, los, his, kinds, marks, q, p, kind, used)
+    let back = kinds::turned(kind);
+    add_bond(up, los, his, kinds, marks, q, p, back, used)
 }
 
 // internal: the bonds that the walk does not use, in walk numbers, by ascending number, and at each walk number a mark: 0 where it is an end of none, the number plus 1 of the only one, or MANY. How many there are.

@@ -13,7 +13,7 @@ use Rattle.writing_walk.specs.Emit.{Forest, leaf, node, size, pre}
 use Rattle.writing_walk.specs.Walk.{member}
 use Rattle.writing_walk.specs.Flat.{kinds, ups}
 use Rattle.writing_walk.proofs.Trip.{size-length}
-use Rattle.writing_visit.specs.Visit.{touching, firstFrom, otherEnd, lay, grow, unseen, BondsFit, Room, Kept, Visited, WalkArrays, walkArrays, Laid, Grown, walkMark}
+use Rattle.writing_visit.specs.Visit.{touching, firstFrom, otherEnd, kindFrom, lay, grow, unseen, BondsFit, Room, Kept, Visited, WalkArrays, walkArrays, Laid, Grown, walkMark}
 use Rattle.writing_visit.proofs.Ways.{Next, next-is, other-below, grow-same, grow-end, grow-skip, grow-visit}
 use Rattle.writing_visit.proofs.Seen.{unmarked, marked, room-left, stands-add, stands-cast, unseen-set}
 
@@ -108,7 +108,7 @@ module _ {bonds : ℕ → Bond} {n m : ℕ} (fit : BondsFit bonds n m) where
       at-full l = record { fewer = omega arith; laid = λ s st. absurd (let g = room-left n a count s v1 st below (apart s st) in omega arith) }
 
       -- the other end is visited, then the rest
-      pub at-new : (k : ℕ) (o2 v2 u2 q2 : List ℕ) (y z : WalkArrays) → k ≡ bonds b .kind → n ≤ length v1
+      pub at-new : (k : ℕ) (o2 v2 u2 q2 : List ℕ) (y z : WalkArrays) → k ≡ kindFrom bonds b v → n ≤ length v1
           → o2 ≡ set o count a → v2 ≡ set v1 a (count + 1) → u2 ≡ set u count (hub + 1) → q2 ≡ set q count k
           → Grown n (suc count) (grow bonds n m a 0) (walkArrays o2 v2 u2 q2 (count + 1)) y → Grown n (suc hub) (grow bonds n m v r) y z
           → Grown n (suc hub) (grow bonds n m v b) (walkArrays o v1 u q count) z
@@ -159,7 +159,7 @@ module _ {bonds : ℕ → Bond} {n m : ℕ} (fit : BondsFit bonds n m) {v hub fr
         record { within = after .high; here = after .here; few = l .few; fewer = l .fewer; rest = λ t g. l .rest t (at-seen fit d b r h (l .here h) found (suc top) y t z e k g) }
 
     module _ (x : WalkArrays) (o v1 u q : List ℕ) (count : ℕ) (l : Left bonds n m v hub from d top b x (walkArrays o v1 u q count))
-        (a k hd : ℕ) (e : a ≡ otherEnd bonds b d) (fresh : getD v1 a 0 ≡ 0) (ek : k ≡ bonds b .kind) (ed : hd ≡ firstFrom (touching bonds a) 0 (m - 0)) (long : n ≤ length v1)
+        (a k hd : ℕ) (e : a ≡ otherEnd bonds b d) (fresh : getD v1 a 0 ≡ 0) (ek : k ≡ kindFrom bonds b d) (ed : hd ≡ firstFrom (touching bonds a) 0 (m - 0)) (long : n ≤ length v1)
         (o2 v2 u2 q2 : List ℕ) (eo : o2 ≡ set o count a) (ev : v2 ≡ set v1 a (count + 1)) (eu : u2 ≡ set u count (top + 1)) (eq : q2 ≡ set q count k) where
       new-less : unseen v2 < unseen v1
       new-less = let i : a < n = rw e (other-below fit d b h) in seen-less v1 v2 a count (omega arith) fresh ev

@@ -5,13 +5,14 @@ use mathlib.Core.Path.{_≡_, refl, sym, ap, _∙_, subst}
 use mathlib.Core.Bool.{Bool, true, false, _||_, cond}
 use mathlib.Core.List.{List, [], _∷_, _++_}
 use lib.Dec.{eqb}
+use Rattle.kinds.specs.Kind.{turned}
 use Rattle.loops.specs.Loop.{pick, upTo}
 use Rattle.writing_walk.specs.Token.{Bond}
 use Rattle.writing_walk.specs.Emit.{Forest, leaf, node, pre}
 use Rattle.writing_walk.specs.Walk.{Neighbour, neighbour, member, neighbours, visitInTurn, walk}
 use Rattle.writing_walk.proofs.Count.{All, none, more}
 use Rattle.writing_walk.proofs.Walk.{Inside, same-fuel}
-use Rattle.writing_visit.specs.Visit.{touching, firstFrom, otherEnd, neighboursFrom, grow, BondsFit}
+use Rattle.writing_visit.specs.Visit.{touching, firstFrom, otherEnd, kindFrom, neighboursFrom, grow, BondsFit}
 
 module _ (bonds : ℕ → Bond) (v : ℕ) where
   apart : (k : ℕ) (l : List Bond) → touching bonds v k ≡ false → neighbours v (bonds k ∷ l) ≡ neighbours v l
@@ -19,17 +20,17 @@ module _ (bonds : ℕ → Bond) (v : ℕ) where
   apart k l e = go (eqb (bonds k .lo) v) (eqb (bonds k .hi) v) e
     where
       go : (a b : Bool) → (a || b) ≡ false
-          → cond a (neighbour (bonds k .hi) (bonds k .kind) ∷ neighbours v l) (cond b (neighbour (bonds k .lo) (bonds k .kind) ∷ neighbours v l) (neighbours v l)) ≡ neighbours v l
+          → cond a (neighbour (bonds k .hi) (bonds k .kind) ∷ neighbours v l) (cond b (neighbour (bonds k .lo) (turned (bonds k .kind)) ∷ neighbours v l) (neighbours v l)) ≡ neighbours v l
       go true b e = absurd (let z : _≡_ {A = ℕ} 0 1 = cc in omega arith)
       go false true e = absurd (let z : _≡_ {A = ℕ} 0 1 = cc in omega arith)
       go false false e = refl
 
-  together : (k : ℕ) (l : List Bond) → touching bonds v k ≡ true → neighbours v (bonds k ∷ l) ≡ neighbour (otherEnd bonds k v) (bonds k .kind) ∷ neighbours v l
+  together : (k : ℕ) (l : List Bond) → touching bonds v k ≡ true → neighbours v (bonds k ∷ l) ≡ neighbour (otherEnd bonds k v) (kindFrom bonds k v) ∷ neighbours v l
   unfolding touching
   together k l e = go (eqb (bonds k .lo) v) (eqb (bonds k .hi) v) e
     where
       go : (a b : Bool) → (a || b) ≡ true
-          → cond a (neighbour (bonds k .hi) (bonds k .kind) ∷ neighbours v l) (cond b (neighbour (bonds k .lo) (bonds k .kind) ∷ neighbours v l) (neighbours v l)) ≡ neighbour (pick a (bonds k .hi) (bonds k .lo)) (bonds k .kind) ∷ neighbours v l
+          → cond a (neighbour (bonds k .hi) (bonds k .kind) ∷ neighbours v l) (cond b (neighbour (bonds k .lo) (turned (bonds k .kind)) ∷ neighbours v l) (neighbours v l)) ≡ neighbour (pick a (bonds k .hi) (bonds k .lo)) (pick a (bonds k .kind) (turned (bonds k .kind))) ∷ neighbours v l
       go true b e = refl
       go false true e = refl
       go false false e = absurd (let z : _≡_ {A = ℕ} 0 1 = cc in omega arith)
@@ -56,7 +57,7 @@ module _ (bonds : ℕ → Bond) (v : ℕ) where
   pub next-is : (m from r : ℕ) → from ≤ m → r ≡ firstFrom (touching bonds v) from (m - from) → Next m from r
   next-is m from r h e = subst (Next m from) (sym e) (next-from m (m - from) from (omega arith))
 
-  pub ways-here : (m r : ℕ) → r < m → touching bonds v r ≡ true → neighboursFrom bonds m v r ≡ neighbour (otherEnd bonds r v) (bonds r .kind) ∷ neighboursFrom bonds m v (suc r)
+  pub ways-here : (m r : ℕ) → r < m → touching bonds v r ≡ true → neighboursFrom bonds m v r ≡ neighbour (otherEnd bonds r v) (kindFrom bonds r v) ∷ neighboursFrom bonds m v (suc r)
   unfolding upTo
   ways-here m r h e = let x : m - r ≡ suc (m - suc r) = omega arith in simp x (together r (upTo bonds (suc r) (m - suc r)) e)
 
@@ -95,15 +96,15 @@ module _ {bonds : ℕ → Bond} {n m : ℕ} (fit : BondsFit bonds n m) where
     abbrev w : ℕ
     w = otherEnd bonds b v
 
-    around : neighboursFrom bonds m v b ≡ neighbour w (bonds b .kind) ∷ neighboursFrom bonds m v r
-    around = ways-here bonds v m b h here ∙ ap (λ (cs : List Neighbour). neighbour w (bonds b .kind) ∷ cs) (x .same)
+    around : neighboursFrom bonds m v b ≡ neighbour w (kindFrom bonds b v) ∷ neighboursFrom bonds m v r
+    around = ways-here bonds v m b h here ∙ ap (λ (cs : List Neighbour). neighbour w (kindFrom bonds b v) ∷ cs) (x .same)
 
     pub grow-skip : member w s ≡ true → grow bonds n m v b s ≡ grow bonds n m v r s
     unfolding grow
     grow-skip e = ap (λ cs. visitInTurn (walk (upTo bonds 0 m) n) cs s) around ∙ rw e
 
     pub grow-visit : member w s ≡ false → (f : Forest) → f ≡ grow bonds n m w 0 (s ++ (w ∷ []))
-        → grow bonds n m v b s ≡ node w (bonds b .kind) f (grow bonds n m v r ((s ++ (w ∷ [])) ++ pre f))
+        → grow bonds n m v b s ≡ node w (kindFrom bonds b v) f (grow bonds n m v r ((s ++ (w ∷ [])) ++ pre f))
     unfolding grow
     grow-visit e f q =
         let z : m - 0 ≡ m = omega arith in

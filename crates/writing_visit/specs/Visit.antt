@@ -5,7 +5,7 @@ use mathlib.Core.Bool.{Bool, _||_}
 use mathlib.Core.List.{List, [], _∷_, _++_}
 use lib.ListN.{length, getD, set}
 use lib.Dec.{eqb}
-use Rattle.kinds.specs.Kind.{maxKind}
+use Rattle.kinds.specs.Kind.{maxKind, turned}
 use Rattle.loops.specs.Loop.{pick, upTo}
 use Rattle.table.specs.Limits.{maxAtoms, maxBonds}
 use Rattle.writing_walk.specs.Token.{Bond}
@@ -26,6 +26,10 @@ firstFrom p k (suc d) = pick (p k) k (firstFrom p (suc k) d)
 -- the other end of the bond b, seen from v
 abbrev pub otherEnd : (ℕ → Bond) → ℕ → ℕ → ℕ
 otherEnd bonds b v = pick (eqb (bonds b .lo) v) (bonds b .hi) (bonds b .lo)
+
+-- the kind of the bond b, as seen from v
+abbrev pub kindFrom : (ℕ → Bond) → ℕ → ℕ → ℕ
+kindFrom bonds b v = pick (eqb (bonds b .lo) v) (bonds b .kind) (turned (bonds b .kind))
 
 -- the next bond at v behind the bond b, told by two arrays: at the first end and at the second end of each bond
 abbrev pub nextAfter : (ℕ → Bond) → List ℕ → List ℕ → ℕ → ℕ → ℕ

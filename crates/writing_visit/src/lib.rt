@@ -7,7 +7,7 @@ ghost use lib.Dec.{eqb};
 ghost use Rattle.loops.specs.Loop.{pick, upTo};
 ghost use Rattle.table.specs.Limits.{maxAtoms, maxBonds};
 ghost use Rattle.table.specs.Cells.{end1, end2, kind};
-ghost use Rattle.kinds.specs.Kind.{maxKind, order};
+ghost use Rattle.kinds.specs.Kind.{maxKind, order, turned};
 ghost use Rattle.table_graph.specs.Graph.{bondSum};
 ghost use Rattle.table_graph.specs.Built.{bump};
 ghost use Rattle.writing.specs.Write.{walkBond, bondList};
@@ -109,34 +109,49 @@ fn link(
     }
 }
 
-// A bond as the walk sees it from an atom: the other end, and the next bond at the atom.
+// A bond as the walk sees it from an atom: the other end, the kind, and the next bond at the atom.
 struct Step {
     other: AtomId,
+    kind: u8,
     next: BondId,
 }
 
-// The other end of a bond at an atom, and the next bond at the atom behind it; m where there is none.
-fn follow(ea: &[u16], eb: &[u16], after: &[u16], behind: &[u16], b: BondId, v: AtomId) -> Step
+// The other end of a bond at an atom, its kind as seen from there, and the next bond at the atom behind it; m where there is none.
+fn follow(
+    ea: &[u16],
+    eb: &[u16],
+    ks: &[u8],
+    after: &[u16],
+    behind: &[u16],
+    b: BondId,
+    v: AtomId,
+) -> Step
     requires { ⌜ (b .0 < length (now ea)) × (b .0 < length (now eb)) ⌝ }
     requires { ⌜ (b .0 < length (now after)) × (b .0 < length (now behind)) ⌝ }
+    requires { ⌜ b .0 < length (now ks) ⌝ }
     requires { ⌜ (getD (now ea) (b .0) 0 < maxAtoms) × (getD (now eb) (b .0) 0 < maxAtoms) ⌝ }
     requires { ⌜ (getD (now after) (b .0) 0 ≤ maxBonds) × (getD (now behind) (b .0) 0 ≤ maxBonds) ⌝ }
     ensures { λ r. ⌜ r .other .0 ≡ pick (eqb (getD (now (ea .entry)) (b .0) 0) (v .0)) (getD (now (eb .entry)) (b .0) 0) (getD (now (ea .entry)) (b .0) 0) ⌝ }
+    ensures { λ r. ⌜ r .kind ≡ pick (eqb (getD (now (ea .entry)) (b .0) 0) (v .0)) (getD (now (ks .entry)) (b .0) 0) (turned (getD (now (ks .entry)) (b .0) 0)) ⌝ }
     ensures { λ r. ⌜ r .next .0 ≡ pick (eqb (getD (now (ea .entry)) (b .0) 0) (v .0)) (getD (now (after .entry)) (b .0) 0) (getD (now (behind .entry)) (b .0) 0) ⌝ }
 {
     let i = b.0;
     let first = ea[i] as usize;
+    let kind = ks[i];
     if first == v.0 {
         let second = eb[i] as usize;
         let next = after[i] as usize;
         return Step {
             other: AtomId(second),
+            kind,
             next: BondId(next),
         };
     }
     let next = behind[i] as usize;
+    let turned = kinds::turned(kind);
     Step {
         other: AtomId(first),
+        kind: turned,
         next: BondId(next),
     }
 }
@@ -149,13 +164,13 @@ fn add(
     kind: &mut [u8],
     v: AtomId,
     parent: usize,
-    k: usize,
+    k: u8,
     count: usize,
 )
     requires { ⌜ (v .0 < maxAtoms) × (count < maxAtoms) ⌝ }
     requires { ⌜ (count < length (now order)) × (v .0 < length (now number)) ⌝ }
     requires { ⌜ (count < length (now up)) × (count < length (now kind)) ⌝ }
-    requires { ⌜ (parent ≤ maxAtoms) × (k ≤ maxKind) ⌝ }
+    requires { ⌜ parent ≤ maxAtoms ⌝ }
     ensures { λ _. ⌜ now (order .exit) ≡ set (now (order .entry)) count (v .0) ⌝ }
     ensures { λ _. ⌜ now (number .exit) ≡ set (now (number .entry)) (v .0) (count + 1) ⌝ }
     ensures { λ _. ⌜ now (up .exit) ≡ set (now (up .entry)) count parent ⌝ }
@@ -165,7 +180,7 @@ fn add(
     order[count] = a as u16;
     number[a] = (count + 1) as u16;
     up[count] = parent as u16;
-    kind[count] = k as u8;
+    kind[count] = k;
 }
 
 // The part of the walk at an atom, from one of its bonds on (m for none): each atom not yet visited, with all that is reached from it first. The number of atoms visited then. Behind the last bond of an atom the walk goes on in the same turn, so that it calls itself only where it comes back.
@@ -202,7 +217,7 @@ fn visit(
     let mut next = count;
     while b < m {
         let i = b;
-        let seen = follow(ea, eb, after, behind, BondId(i), AtomId(here));
+        let seen = follow(ea, eb, ks, after, behind, BondId(i), AtomId(here));
         let a = seen.other.0;
         b = seen.next.0;
         if number[a] != 0 {
@@ -211,8 +226,16 @@ fn visit(
         if n <= next {
             return next;
         }
-        let k = ks[i] as usize;
-        add(order, number, up, kind, AtomId(a), parent + 1, k, next);
+        add(
+            order,
+            number,
+            up,
+            kind,
+            AtomId(a),
+            parent + 1,
+            seen.kind,
+            next,
+        );
         let start = head[a] as usize;
         if m <= b {
             here = a;

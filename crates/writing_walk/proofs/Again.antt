@@ -7,6 +7,7 @@ use native.Mathlib.Omega.{arith}
 use lib.Dec.{eqb, ltb}
 use lib.ListN.{length, length-append}
 use borrow.Author.Tests.{ne-eqb, eqb-true, eqb-false, ltb-true, ltb-false}
+use Rattle.kinds.specs.Kind.{turned}
 use Rattle.writing_walk.specs.Token.{Bond, bond, eqBond}
 use Rattle.writing_walk.specs.Emit.{Forest, leaf, node, size, pre, done, doneAll}
 use Rattle.writing_walk.specs.Walk.{Neighbour, neighbour, member, neighbours, roots, place, renumber}
@@ -58,10 +59,10 @@ ways-append v [] b = refl
 ways-append v (x ∷ a) b = go (eqb (x .lo) v) (eqb (x .hi) v) (ways-append v a b)
   where
     go : (p q : Bool) → neighbours v (a ++ b) ≡ neighbours v a ++ neighbours v b
-        → cond p (neighbour (x .hi) (x .kind) ∷ neighbours v (a ++ b)) (cond q (neighbour (x .lo) (x .kind) ∷ neighbours v (a ++ b)) (neighbours v (a ++ b)))
-        ≡ cond p (neighbour (x .hi) (x .kind) ∷ neighbours v a) (cond q (neighbour (x .lo) (x .kind) ∷ neighbours v a) (neighbours v a)) ++ neighbours v b
+        → cond p (neighbour (x .hi) (x .kind) ∷ neighbours v (a ++ b)) (cond q (neighbour (x .lo) (turned (x .kind)) ∷ neighbours v (a ++ b)) (neighbours v (a ++ b)))
+        ≡ cond p (neighbour (x .hi) (x .kind) ∷ neighbours v a) (cond q (neighbour (x .lo) (turned (x .kind)) ∷ neighbours v a) (neighbours v a)) ++ neighbours v b
     go true q h = ap (λ (l : List Neighbour). neighbour (x .hi) (x .kind) ∷ l) h
-    go false true h = ap (λ (l : List Neighbour). neighbour (x .lo) (x .kind) ∷ l) h
+    go false true h = ap (λ (l : List Neighbour). neighbour (x .lo) (turned (x .kind)) ∷ l) h
     go false false h = h
 
 pub all-both : {A : Type 0} (P Q R : A → Type 0) → ((b : A) → P b → Q b → R b) → (l : List A) → All P l → All Q l → All R l
@@ -73,7 +74,7 @@ skips : (bs : List Bond) (v m : ℕ) (l : List Bond) → Inside m l → (cs : Li
 skips bs v m [] none cs g d = d
 skips bs v m (b ∷ l) (more h a) cs g d = go (eqb (b .lo) v) (eqb (b .hi) v) (skips bs v m l a cs g d)
   where
-    go : (p q : Bool) → Dfs bs (neighbours v l ++ cs) (range 0 m) g → Dfs bs (cond p (neighbour (b .hi) (b .kind) ∷ neighbours v l) (cond q (neighbour (b .lo) (b .kind) ∷ neighbours v l) (neighbours v l)) ++ cs) (range 0 m) g
+    go : (p q : Bool) → Dfs bs (neighbours v l ++ cs) (range 0 m) g → Dfs bs (cond p (neighbour (b .hi) (b .kind) ∷ neighbours v l) (cond q (neighbour (b .lo) (turned (b .kind)) ∷ neighbours v l) (neighbours v l)) ++ cs) (range 0 m) g
     go true q r = skip (in-range (b .hi) 0 m (omega arith) (omega arith)) r
     go false true r = skip (in-range (b .lo) 0 m (omega arith) (omega arith)) r
     go false false r = r
@@ -252,7 +253,7 @@ beside n P w [] i a = none
 beside n P w (b ∷ bs) (more h i) a = go (eqb (b .lo) w) refl (eqb (b .hi) w) refl a (beside n P w bs i)
   where
     go : (x : Bool) → eqb (b .lo) w ≡ x → (y : Bool) → eqb (b .hi) w ≡ y
-        → All (λ x. P (x .to)) (cond x (neighbour (b .hi) (b .kind) ∷ neighbours w bs) (cond y (neighbour (b .lo) (b .kind) ∷ neighbours w bs) (neighbours w bs)))
+        → All (λ x. P (x .to)) (cond x (neighbour (b .hi) (b .kind) ∷ neighbours w bs) (cond y (neighbour (b .lo) (turned (b .kind)) ∷ neighbours w bs) (neighbours w bs)))
         → (All (λ x. P (x .to)) (neighbours w bs) → All (λ b. (b .lo ≡ w → P (b .hi)) × (b .hi ≡ w → P (b .lo))) bs)
         → All (λ b. (b .lo ≡ w → P (b .hi)) × (b .hi ≡ w → P (b .lo))) (b ∷ bs)
     go true p y q (more r a) f = more {b = b} ((λ e. r), (λ e. absurd (let z = eqb-true (b .lo) w p in omega arith))) (f a)
@@ -273,8 +274,8 @@ module _ (n : ℕ) (order : List ℕ) (bs : List Bond) (i : Inside n bs) (o : On
       → (b .lo ≡ w → place order (b .hi) < e) × (b .hi ≡ w → place order (b .lo) < e) → renumber order b .lo ≡ m → renumber order b .hi < e
   deep-one w m e t p b h f = go (ltb (place order (b .lo)) (place order (b .hi)))
     where
-      go : (x : Bool) → cond x (bond (place order (b .lo)) (place order (b .hi)) (b .kind)) (bond (place order (b .hi)) (place order (b .lo)) (b .kind)) .lo ≡ m
-          → cond x (bond (place order (b .lo)) (place order (b .hi)) (b .kind)) (bond (place order (b .hi)) (place order (b .lo)) (b .kind)) .hi < e
+      go : (x : Bool) → cond x (bond (place order (b .lo)) (place order (b .hi)) (b .kind)) (bond (place order (b .hi)) (place order (b .lo)) (turned (b .kind))) .lo ≡ m
+          → cond x (bond (place order (b .lo)) (place order (b .hi)) (b .kind)) (bond (place order (b .hi)) (place order (b .lo)) (turned (b .kind))) .hi < e
       go true q = f .0 (place-inj (b .lo) w order (all (b .lo) (omega arith)) t (q ∙ sym p))
       go false q = f .1 (place-inj (b .hi) w order (all (b .hi) (omega arith)) t (q ∙ sym p))
 

@@ -7,6 +7,7 @@ use native.Mathlib.Omega.{arith}
 use lib.Dec.{eqb, ltb}
 use lib.ListN.{length}
 use borrow.Author.Tests.{eq-eqb, ne-eqb, eqb-true, lt-ltb}
+use Rattle.kinds.specs.Kind.{turned}
 use Rattle.kinds.specs.Kind.{meet, clash}
 use Rattle.kinds.proofs.Kind.{clash-none}
 use Rattle.writing_walk.specs.Token.{Bond, bond, bondBetween, Tok, apart, along, ring, branch, back}
@@ -203,14 +204,14 @@ module _ (am bm dm : ℕ) where
   joined-kind : (u h k : ℕ) → (bondBetween u h k .lo ≡ bondBetween u h 0 .lo) × (bondBetween u h k .hi ≡ bondBetween u h 0 .hi)
   joined-kind u h k = go (ltb u h)
     where
-      go : (x : Bool) → (cond x (bond u h k) (bond h u k) .lo ≡ cond x (bond u h 0) (bond h u 0) .lo) × (cond x (bond u h k) (bond h u k) .hi ≡ cond x (bond u h 0) (bond h u 0) .hi)
+      go : (x : Bool) → (cond x (bond u h k) (bond h u (turned k)) .lo ≡ cond x (bond u h 0) (bond h u (turned 0)) .lo) × (cond x (bond u h k) (bond h u (turned k)) .hi ≡ cond x (bond u h 0) (bond h u (turned 0)) .hi)
       go true = (refl, refl)
       go false = (refl, refl)
 
   not-loop : (bs : List Bond) (u h k : ℕ) → count loop (bs ++ (bondBetween u h k ∷ [])) ≡ 0 → eqb u h ≡ false
   not-loop bs u h k z = go (eqb u h) refl
     where
-      at-once : u ≡ h → (x : Bool) → loop (cond x (bond u h k) (bond h u k)) ≡ true
+      at-once : u ≡ h → (x : Bool) → loop (cond x (bond u h k) (bond h u (turned k))) ≡ true
       at-once e true = eq-eqb u h e
       at-once e false = eq-eqb h u (sym e)
 

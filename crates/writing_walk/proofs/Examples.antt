@@ -1,6 +1,7 @@
 -- A molecule written, by computation. Assumes nothing.
 use mathlib.Core.Path.{_≡_, refl}
 use mathlib.Core.List.{List, [], _∷_}
+use Rattle.kinds.specs.Kind.{turned}
 use Rattle.writing_walk.specs.Token.{Bond, bond, apart, along, ring, branch, back}
 use Rattle.writing_walk.specs.Walk.{forestOf, renumbered, unused, write}
 
@@ -9,5 +10,5 @@ sample : List Bond
 sample = bond 0 3 1 ∷ bond 1 2 0 ∷ bond 2 3 2 ∷ bond 0 1 0 ∷ bond 3 4 0 ∷ bond 0 4 3 ∷ []
 
 sample-text : write 6 (λ v. v) sample ≡ apart 0 ∷ ring 0 0 ∷ ring 3 1 ∷ along 1 3 ∷ branch ∷ along 2 2 ∷ along 0 1 ∷ ring 0 0 ∷ back ∷ along 0 4 ∷ ring 0 1 ∷ apart 5 ∷ []
-unfolding write forestOf unused renumbered sample
+unfolding write forestOf unused renumbered sample turned
 sample-text = refl

@@ -5,6 +5,7 @@ use mathlib.Core.List.{List, [], _∷_, _++_, map}
 use Prim.Native.Nat.{ℕ, zero, suc, _+_, _≤_, _<_}
 use native.Mathlib.Omega.{arith}
 use lib.Dec.{eqb, ltb}
+use Rattle.kinds.specs.Kind.{turned}
 use Rattle.writing_walk.specs.Token.{Bond, bond, eqBond, Tok, apart, along, ring, branch, back}
 use Rattle.writing_walk.specs.Emit.{Forest, leaf, node, size, pre, Slot, lowest, insert, find, release, closeAll, closeToks, openToks, wrap, rings, ringToks, after, toks, text, tree, trees}
 use Rattle.writing_walk.specs.Walk.{forestOf, place, renumber, keep, sweep, closingBonds, openingBonds, relabel, renumbered, unused, removeAll, write}
@@ -27,7 +28,7 @@ abbrev below : Forest → List ℕ
 below leaf = []
 below (node w k f g) = kinds f ++ below g
 
-module _ (P Q : ℕ → Type 0) (zeroth : Q 0) where
+module _ (P Q : ℕ → Type 0) (zeroth : Q 0) (either-way : (k : ℕ) → Q k → Q (turned k)) where
   abbrev M : Tok → Type 0
   M = Made P Q
 
@@ -91,9 +92,9 @@ module _ (P Q : ℕ → Type 0) (zeroth : Q 0) where
   kind-stays : (order : List ℕ) (b : Bond) → K b → K (renumber order b)
   kind-stays order b h = go (ltb (place order (b .lo)) (place order (b .hi)))
     where
-      go : (x : Bool) → K (cond x (bond (place order (b .lo)) (place order (b .hi)) (b .kind)) (bond (place order (b .hi)) (place order (b .lo)) (b .kind)))
+      go : (x : Bool) → K (cond x (bond (place order (b .lo)) (place order (b .hi)) (b .kind)) (bond (place order (b .hi)) (place order (b .lo)) (turned (b .kind))))
       go true = h
-      go false = h
+      go false = either-way (b .kind) h
 
   all-renumber : (order : List ℕ) (bs : List Bond) → All K bs → All K (map (renumber order) bs)
   all-renumber order [] none = none

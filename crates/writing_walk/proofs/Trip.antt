@@ -7,6 +7,8 @@ use native.Mathlib.Omega.{arith}
 use lib.Dec.{eqb, ltb}
 use lib.ListN.{length, length-append}
 use borrow.Author.Tests.{eq-eqb, ne-eqb, eqb-true, eqb-false, lt-ltb, le-ltb}
+use Rattle.kinds.proofs.Kind.{turned-twice}
+use Rattle.kinds.specs.Kind.{turned}
 use Rattle.writing_walk.specs.Token.{Bond, bond, eqBond}
 use Rattle.writing_walk.specs.Reading.{Closure, st, runTokens, startTokens, shut}
 use Rattle.writing_walk.specs.Emit.{Forest, leaf, node, size, pre, done, doneAll, tree, trees}
@@ -84,7 +86,7 @@ place-inj v w (x ∷ l) h g e = go (eqb v x) refl (eqb w x) refl h g e (place-in
 
 -- a bond of the molecule in either direction
 abbrev pub Joins : List Bond → ℕ → Neighbour → Type 0
-Joins bs v x = 0 < count (eqBond (bond v (x .to) (x .kind))) bs + count (eqBond (bond (x .to) v (x .kind))) bs
+Joins bs v x = 0 < count (eqBond (bond v (x .to) (x .kind))) bs + count (eqBond (bond (x .to) v (turned (x .kind)))) bs
 
 joins-more : (b : Bond) (bs : List Bond) (v : ℕ) (x : Neighbour) → Joins bs v x → Joins (b ∷ bs) v x
 joins-more b bs v x h = omega arith
@@ -94,9 +96,9 @@ ways-join v [] = none
 ways-join v (b ∷ bs) = go (eqb (b .lo) v) refl (eqb (b .hi) v) refl (all-map (Joins bs v) (Joins (b ∷ bs) v) (joins-more b bs v) (neighbours v bs) (ways-join v bs))
   where
     go : (x : Bool) → eqb (b .lo) v ≡ x → (y : Bool) → eqb (b .hi) v ≡ y → All (Joins (b ∷ bs) v) (neighbours v bs)
-        → All (Joins (b ∷ bs) v) (cond x (neighbour (b .hi) (b .kind) ∷ neighbours v bs) (cond y (neighbour (b .lo) (b .kind) ∷ neighbours v bs) (neighbours v bs)))
+        → All (Joins (b ∷ bs) v) (cond x (neighbour (b .hi) (b .kind) ∷ neighbours v bs) (cond y (neighbour (b .lo) (turned (b .kind)) ∷ neighbours v bs) (neighbours v bs)))
     go true p y q r = more {b = neighbour (b .hi) (b .kind)} (let z : eqBond (bond v (b .hi) (b .kind)) b ≡ true = rw (eq-eqb v (b .lo) (sym (eqb-true (b .lo) v p)), eqb-same (b .hi), eqb-same (b .kind)) in omega (arith, ap bit z)) r
-    go false p true q r = more {b = neighbour (b .lo) (b .kind)} (let z : eqBond (bond (b .lo) v (b .kind)) b ≡ true = rw (eqb-same (b .lo), eq-eqb v (b .hi) (sym (eqb-true (b .hi) v q)), eqb-same (b .kind)) in omega (arith, ap bit z)) r
+    go false p true q r = more {b = neighbour (b .lo) (turned (b .kind))} (let z : eqBond (bond (b .lo) v (turned (turned (b .kind)))) b ≡ true = rw (turned-twice (b .kind), eqb-same (b .lo), eq-eqb v (b .hi) (sym (eqb-true (b .hi) v q)), eqb-same (b .kind)) in omega (arith, ap bit z)) r
     go false p false q r = r
 
 in-map : (f : Bond → Bond) (b : Bond) (l : List Bond) → 0 < count (eqBond b) l → 0 < count (eqBond (f b)) (map f l)
@@ -114,9 +116,9 @@ either (suc a) b h f g = f (omega arith)
 -- a way that was taken is a bond of the renumbered molecule
 taken : (order : List ℕ) (bs : List Bond) (v h n : ℕ) (x : Neighbour) → place order v ≡ h → place order (x .to) ≡ n → h < n → Joins bs v x → 0 < count (eqBond (bond h n (x .kind))) (map (renumber order) bs)
 taken order bs v h n x p q l j =
-    either (count (eqBond (bond v (x .to) (x .kind))) bs) (count (eqBond (bond (x .to) v (x .kind))) bs) j
+    either (count (eqBond (bond v (x .to) (x .kind))) bs) (count (eqBond (bond (x .to) v (turned (x .kind)))) bs) j
     (λ c. let z : renumber order (bond v (x .to) (x .kind)) ≡ bond h n (x .kind) = rw (p, q, lt-ltb h n l) in rw z at (in-map (renumber order) (bond v (x .to) (x .kind)) bs c))
-    (λ c. let z : renumber order (bond (x .to) v (x .kind)) ≡ bond h n (x .kind) = rw (p, q, le-ltb n h (omega arith)) in rw z at (in-map (renumber order) (bond (x .to) v (x .kind)) bs c))
+    (λ c. let z : renumber order (bond (x .to) v (turned (x .kind))) ≡ bond h n (x .kind) = rw (p, q, le-ltb n h (omega arith), turned-twice (x .kind)) in rw z at (in-map (renumber order) (bond (x .to) v (turned (x .kind))) bs c))
 
 -- the bonds of the walk's forest are bonds of the renumbered molecule
 module _ (order : List ℕ) (bs : List Bond) (o : Once order) where

@@ -8,6 +8,7 @@ use native.Mathlib.Nat.{zero-add}
 use lib.Dec.{eqb, ltb}
 use lib.ListN.{length, length-append, getD}
 use borrow.Author.Tests.{eq-eqb, eqb-true, eqb-false, lt-ltb}
+use Rattle.kinds.specs.Kind.{turned}
 use Rattle.writing_walk.specs.Token.{Bond, bond, eqBond, Tok}
 use Rattle.writing_walk.specs.Reading.{St, st, runTokens, startTokens}
 use Rattle.writing_walk.specs.Emit.{Forest, leaf, node, size, pre, text, done, doneAll, tree, trees}
@@ -147,7 +148,7 @@ module _ (n : ℕ) (order : List ℕ) (all : (v : ℕ) → v < n → 0 < times v
       t4 = all (b0 .hi) (omega arith)
 
       pick : Bool → Bond → Bond
-      pick x b = cond x (bond (place order (b .lo)) (place order (b .hi)) (b .kind)) (bond (place order (b .hi)) (place order (b .lo)) (b .kind))
+      pick x b = cond x (bond (place order (b .lo)) (place order (b .hi)) (b .kind)) (bond (place order (b .hi)) (place order (b .lo)) (turned (b .kind)))
 
       go : (x y : Bool) → pick x b .lo ≡ pick y b0 .lo → pick x b .hi ≡ pick y b0 .hi → (b .lo ≡ b0 .lo) × (b .hi ≡ b0 .hi)
       go true true p q = (place-inj (b .lo) (b0 .lo) order t1 t3 p, place-inj (b .hi) (b0 .hi) order t2 t4 q)

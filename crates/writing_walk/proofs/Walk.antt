@@ -6,6 +6,7 @@ use Prim.Native.Nat.{ℕ, zero, suc, _+_, _≤_, _<_}
 use native.Mathlib.Omega.{arith}
 use lib.Dec.{eqb}
 use borrow.Author.Tests.{eqb-true, eqb-false}
+use Rattle.kinds.specs.Kind.{turned}
 use Rattle.writing_walk.specs.Token.{Bond}
 use Rattle.writing_walk.specs.Emit.{Forest, leaf, node, pre}
 use Rattle.writing_walk.specs.Walk.{Neighbour, neighbour, member, neighbours, visitInTurn, walk, roots, forestOf}
@@ -114,9 +115,9 @@ pub ways-bounded : (n v : ℕ) (bs : List Bond) → Inside n bs → Bounded n (n
 ways-bounded n v [] none = none
 ways-bounded n v (b ∷ bs) (more h a) = go (eqb (b .lo) v) (eqb (b .hi) v) (ways-bounded n v bs a)
   where
-    go : (x y : Bool) → Bounded n (neighbours v bs) → Bounded n (cond x (neighbour (b .hi) (b .kind) ∷ neighbours v bs) (cond y (neighbour (b .lo) (b .kind) ∷ neighbours v bs) (neighbours v bs)))
+    go : (x y : Bool) → Bounded n (neighbours v bs) → Bounded n (cond x (neighbour (b .hi) (b .kind) ∷ neighbours v bs) (cond y (neighbour (b .lo) (turned (b .kind)) ∷ neighbours v bs) (neighbours v bs)))
     go true y r = more (h .1) r
-    go false true r = more {b = neighbour (b .lo) (b .kind)} (omega arith) r
+    go false true r = more {b = neighbour (b .lo) (turned (b .kind))} (omega arith) r
     go false false r = r
 
 all-seen : (n : ℕ) (bs : List Bond) (s : List ℕ) → left n s ≡ 0 → (cs : List Neighbour) → Bounded n cs → Dfs bs cs s leaf

@@ -3,7 +3,7 @@ use mathlib.Core.Bool.{Bool, true, false, _||_, cond}
 use mathlib.Core.List.{List, [], _∷_, _++_, map}
 use Prim.Native.Nat.{ℕ, zero, suc}
 use lib.Dec.{eqb}
-use Rattle.kinds.specs.Kind.{elided}
+use Rattle.kinds.specs.Kind.{elided, turned}
 use Rattle.writing_walk.specs.Token.{Bond, eqBond, Tok, bondBetween}
 use Rattle.writing_walk.specs.Emit.{Forest, leaf, node, pre, text, trees}
 
@@ -19,10 +19,10 @@ abbrev pub member : ℕ → List ℕ → Bool
 member v [] = false
 member v (x ∷ l) = eqb v x || member v l
 
--- "from an atom along bonds in ascending number": the bonds at v
+-- "from an atom along bonds in ascending number": the bonds at v, with their kinds as seen from v
 abbrev pub neighbours : ℕ → List Bond → List Neighbour
 neighbours v [] = []
-neighbours v (b ∷ bs) = cond (eqb (b .lo) v) (neighbour (b .hi) (b .kind) ∷ neighbours v bs) (cond (eqb (b .hi) v) (neighbour (b .lo) (b .kind) ∷ neighbours v bs) (neighbours v bs))
+neighbours v (b ∷ bs) = cond (eqb (b .lo) v) (neighbour (b .hi) (b .kind) ∷ neighbours v bs) (cond (eqb (b .hi) v) (neighbour (b .lo) (turned (b .kind)) ∷ neighbours v bs) (neighbours v bs))
 
 -- "to atoms not yet visited, each child's part finished before the next bond is tried": the ways in turn; k visits an atom's children; s: the atoms visited, in order
 abbrev pub visitInTurn : (ℕ → List ℕ → Forest) → List Neighbour → List ℕ → Forest

@@ -141,6 +141,16 @@ mod linked {
             row: *mut u8,
             row_len: usize,
         ) -> u32;
+        pub fn balsa_sides(
+            atoms: *const i32,
+            atoms_len: usize,
+            bonds: *const i32,
+            bonds_len: usize,
+            n: usize,
+            m: usize,
+            row: *mut u8,
+            row_len: usize,
+        ) -> u32;
         pub fn balsa_is_matching(
             atoms: *const i32,
             atoms_len: usize,
@@ -322,6 +332,22 @@ pub fn next_forced(atoms: &[i32], bonds: &[i32], n: usize, m: usize, row: &mut [
     // SAFETY: as for `read`.
     unsafe {
         linked::balsa_next_forced(
+            atoms.as_ptr(),
+            atoms.len(),
+            bonds.as_ptr(),
+            bonds.len(),
+            n,
+            m,
+            row.as_mut_ptr(),
+            row.len(),
+        )
+    }
+}
+
+pub fn sides(atoms: &[i32], bonds: &[i32], n: usize, m: usize, row: &mut [u8]) -> u32 {
+    // SAFETY: as for `read`.
+    unsafe {
+        linked::balsa_sides(
             atoms.as_ptr(),
             atoms.len(),
             bonds.as_ptr(),

@@ -112,10 +112,28 @@ impl Molecule {
         pairs
     }
 
+    /// The row of sides, over the bonds: 1 at each double bond whose two ends have their lowest marked
+    /// neighbours on the same side, 2 if on opposite sides, else 0.
+    ///
+    /// ```
+    /// use balsa::Molecule;
+    ///
+    /// assert_eq!(Molecule::read(b"F/C=C/F")?.sides(), [0, 2, 0]);
+    /// assert_eq!(Molecule::read(br"F/C=C\F")?.sides(), [0, 1, 0]);
+    /// # Ok::<(), balsa::Refusal>(())
+    /// ```
+    pub fn sides(&self) -> Vec<u8> {
+        let mut row = vec![0; ROW];
+        tables::sides(&self.atoms, &self.bonds, self.counts, &mut row).expect("sound tables");
+        row.truncate(self.counts.bonds);
+        row
+    }
+
     /// Makes the bonds of a matching double and every atom unselected.
     ///
     /// # Errors
-    /// 12 if the row is not a matching.
+    /// 12 if the row is not a matching; 20 if marks place two neighbours of an end of a new double
+    /// bond on the same side.
     pub fn kekulize(&mut self, matching: &[u8]) -> Result<(), Refusal> {
         if matching.len() < self.counts.bonds {
             return Err(Code::NotMatching.into());

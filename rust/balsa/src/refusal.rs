@@ -58,6 +58,8 @@ refusals! {
     LongWriting = 16, "the written text would be over 16,384 bytes";
     InvalidRegister = 17, "the layout of the register breaks a rule";
     FullRegister = 18, "the register has no room for the body";
+    CrowdedEnd = 20, "two marked neighbours of one end lie on the same side";
+    StrayMark = 21, "a mark touches no double bond";
     LooseAtom = 22, "a selected atom has fewer than two bonds";
 }
 

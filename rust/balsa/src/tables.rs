@@ -137,6 +137,15 @@ fn step(code: u32) -> Result<Step, Code> {
     }
 }
 
+/// Stores the row of sides in the row: 1 at each double bond whose two ends have their lowest marked
+/// neighbours on the same side, 2 if on opposite sides, 0 at every other bond.
+///
+/// # Errors
+/// 1 leaves the row as it was; 13 zeroes it.
+pub fn sides(atoms: &[i32], bonds: &[i32], counts: Counts, row: &mut [u8]) -> Result<(), Code> {
+    accepted(ffi::sides(atoms, bonds, counts.atoms, counts.bonds, row))
+}
+
 /// Whether the row is a matching.
 ///
 /// # Errors
@@ -152,7 +161,7 @@ pub fn is_matching(atoms: &[i32], bonds: &[i32], counts: Counts, row: &[u8]) -> 
 /// Kekulizes the tables by the row.
 ///
 /// # Errors
-/// 1, 13 or 12, and the tables stay as they were.
+/// 1, 13, 12 or 20, and the tables stay as they were.
 pub fn kekulize(
     atoms: &mut [i32],
     bonds: &mut [i32],

@@ -75,6 +75,8 @@ pub trait Implementation {
     fn is_matching(&self, buffers: &mut Buffers) -> Answer;
     /// Kekulizes the tables by the row.
     fn kekulize(&self, buffers: &mut Buffers) -> Answer;
+    /// Stores the row of sides in the row.
+    fn sides(&self, buffers: &mut Buffers) -> Answer;
     /// Writes the molecule of the tables.
     fn write(&self, buffers: &mut Buffers) -> Answer;
 }
@@ -153,6 +155,13 @@ impl Implementation for Reference {
     fn kekulize(&self, buffers: &mut Buffers) -> Answer {
         let (atoms, bonds) = (&mut buffers.atoms, &mut buffers.bonds);
         let result = tables::kekulize(atoms, bonds, buffers.counts, &buffers.row);
+        answer(result, |()| Answer::default())
+    }
+
+    fn sides(&self, buffers: &mut Buffers) -> Answer {
+        let mut row = std::mem::take(&mut buffers.row);
+        let result = tables::sides(tables_of(buffers), &mut row);
+        buffers.row = row;
         answer(result, |()| Answer::default())
     }
 

@@ -8,6 +8,10 @@ use balsa_reference::{ATOM_CELLS, BOND_CELLS};
 const SHORT_BUFFER: u8 = 1;
 /// The number of the refusal of a molecule without a matching.
 const NO_MATCHING: u8 = 11;
+/// The number of the refusal of two marked neighbours on the same side.
+const CROWDED_END: u8 = 20;
+/// The marks, as kinds.
+const MARKS: [i32; 2] = [4, 5];
 
 fn holds(law: bool, message: &str) -> Result<(), String> {
     law.then_some(()).ok_or_else(|| message.to_string())
@@ -21,6 +25,12 @@ pub fn check(implementation: &dyn Implementation, buffers: &Buffers) -> Result<(
         check_list(implementation, &buffers)?;
         let before = buffers.clone();
         let answer = implementation.kekulize(&mut buffers);
+        if answer.code == CROWDED_END {
+            return holds(
+                buffers == before,
+                "a refusal of kekulizing changed something",
+            );
+        }
         if !answer.is_accepted() {
             return Err(format!("kekulizing by the first matching: {answer:?}"));
         }
@@ -78,6 +88,12 @@ fn check_renumbered(buffers: &Buffers, back: &Buffers) -> Result<(), String> {
     };
     let renumbered = |[one, other, kind]: [i32; BOND_CELLS]| {
         let (one, other) = (renumber(one), renumber(other));
+        let is_turned = one > other && MARKS.contains(&kind);
+        let kind = if is_turned {
+            MARKS[0] + MARKS[1] - kind
+        } else {
+            kind
+        };
         [one.min(other), one.max(other), kind]
     };
     let mut moved: Vec<_> = bonds_of(buffers).into_iter().map(renumbered).collect();

@@ -251,7 +251,81 @@ pub fn molecule(random: &mut Random, effort: Effort) -> Molecule {
         dress(random, &mut molecule, effort, style);
     }
     charge_selected(random, &mut molecule);
+    mark(random, &mut molecule);
+    if random.percent(5) {
+        add_marked_pair(random, &mut molecule);
+    }
     molecule
+}
+
+/// Adds `C=C/c(\C=C)cC` with any two marks: a pair of selected atoms, one of which has two marked
+/// neighbours and becomes an end of a double bond only when it is kekulized.
+fn add_marked_pair(random: &mut Random, molecule: &mut Molecule) {
+    let base = molecule.atoms.len();
+    if base + 7 > MAX_ATOMS || molecule.bonds.len() + 6 > MAX_BONDS {
+        return;
+    }
+    for (selected, hydrogens) in [(0, 2), (0, 1), (1, 0), (0, 1), (0, 2), (1, 0), (0, 3)] {
+        molecule.atoms.push(Atom {
+            element: 6,
+            selected: selected == 1,
+            hydrogens,
+            ..Atom::default()
+        });
+    }
+    let mut mark = || *random.pick(&[Kind::Up, Kind::Down]);
+    let ends = [
+        (0, 1, Kind::Double),
+        (1, 2, mark()),
+        (2, 3, mark()),
+        (3, 4, Kind::Double),
+        (2, 5, Kind::Elided),
+        (5, 6, Kind::Elided),
+    ];
+    let bonds = ends.map(|(one, other, kind)| Bond::between(base + one, base + other, kind));
+    molecule.bonds.extend(bonds);
+}
+
+/// Marks bonds beside double bonds, mostly so that the two of one end lie on opposite sides, and in
+/// some molecules any other bonds. Marks have the order of what they replace.
+fn mark(random: &mut Random, molecule: &mut Molecule) {
+    let chance = *random.pick(&[0, 0, 50, 100]);
+    let careless = *random.pick(&[0, 0, 0, 20]);
+    let neighbours = molecule.neighbours();
+    for number in 0..molecule.bonds.len() {
+        let bond = molecule.bonds[number];
+        if bond.kind == Kind::Double && random.percent(chance) {
+            for end in [bond.first, bond.second] {
+                let mut mark = *random.pick(&[Kind::Up, Kind::Down]);
+                for to in neighbours.of(end) {
+                    let is_marked = is_markable(molecule, to.bond) && random.percent(70);
+                    if is_marked {
+                        molecule.bonds[to.bond] = Bond::between(end, to.atom, mark);
+                        if !random.percent(careless) {
+                            mark = mark.turned();
+                        }
+                    }
+                }
+            }
+        }
+    }
+    if random.percent(careless / 2) && !molecule.bonds.is_empty() {
+        let number = random.below(molecule.bonds.len());
+        if is_markable(molecule, number) {
+            molecule.bonds[number].kind = Kind::Up;
+        }
+    }
+}
+
+/// Whether a bond has order 1, no mark, and is not elided between two selected atoms.
+fn is_markable(molecule: &Molecule, number: usize) -> bool {
+    let bond = molecule.bonds[number];
+    let is_selected = |atom: usize| molecule.atoms[atom].selected;
+    match bond.kind {
+        Kind::Single => true,
+        Kind::Elided => !is_selected(bond.first) || !is_selected(bond.second),
+        _ => false,
+    }
 }
 
 /// The atoms that may be selected: those with two bonds, and in some molecules also loose ones.

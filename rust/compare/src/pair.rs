@@ -63,6 +63,8 @@ impl<'a> Pair<'a> {
         self.buffers = start.clone();
         self.call("kekulize by the row", |it, buffers| it.kekulize(buffers))?;
         self.buffers = start.clone();
+        self.call("sides", |it, buffers| it.sides(buffers))?;
+        self.buffers = start.clone();
         self.forced_matchings()?;
         self.buffers = start;
         self.later_matchings()?;
@@ -72,6 +74,7 @@ impl<'a> Pair<'a> {
         self.buffers = first;
         self.call("kekulize by the first", |it, buffers| it.kekulize(buffers))?;
         self.call("write kekulized", |it, buffers| it.write(buffers))?;
+        self.call("sides kekulized", |it, buffers| it.sides(buffers))?;
         Ok(())
     }
 

@@ -109,6 +109,12 @@ impl Implementation for Proved {
         answer(done, |()| Answer::default())
     }
 
+    fn sides(&self, buffers: &mut Buffers) -> Answer {
+        let counts = counts(buffers);
+        let told = tables::sides(&buffers.atoms, &buffers.bonds, counts, &mut buffers.row);
+        answer(told, |()| Answer::default())
+    }
+
     fn write(&self, buffers: &mut Buffers) -> Answer {
         let counts = counts(buffers);
         let written = tables::write(

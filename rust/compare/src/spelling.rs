@@ -103,13 +103,13 @@ impl<'a> Speller<'a> {
                 self.part_of_its_own(roots);
             }
             if is_bridge {
-                self.bridge(to.bond);
+                self.bridge(to.bond, atom);
             } else if is_last && self.random.percent(92) {
-                self.symbol(to.bond);
+                self.symbol(to.bond, atom);
                 self.sequence(to.atom, roots);
             } else {
                 self.text.push(b'(');
-                self.symbol(to.bond);
+                self.symbol(to.bond, atom);
                 self.sequence(to.atom, roots);
                 self.text.push(b')');
             }
@@ -124,30 +124,32 @@ impl<'a> Speller<'a> {
         }
     }
 
-    fn symbol(&mut self, bond: usize) {
-        self.text.extend(self.molecule.bonds[bond].kind.symbol());
+    /// Writes the symbol of a bond as seen from an atom.
+    fn symbol(&mut self, bond: usize, atom: usize) {
+        let kind = self.molecule.bonds[bond].kind_from(atom);
+        self.text.extend(kind.symbol());
     }
 
-    /// Writes an end of a bridge.
-    fn bridge(&mut self, bond: usize) {
+    /// Writes the end of a bridge at an atom.
+    fn bridge(&mut self, bond: usize, atom: usize) {
         let is_its_number = |open: &Option<(usize, Ends)>| open.is_some_and(|(of, _)| of == bond);
         if let Some(number) = self.open.iter().position(is_its_number) {
             let opened = self.open[number].take();
             let is_told = !matches!(opened, Some((_, Ends::Opening)));
-            self.bridge_end(bond, number, is_told);
+            self.bridge_end(bond, atom, number, is_told);
         } else {
             let number = self.free_number();
             let ends = *self
                 .random
                 .pick(&[Ends::Opening, Ends::Closing, Ends::Both]);
             self.open[number] = Some((bond, ends));
-            self.bridge_end(bond, number, !matches!(ends, Ends::Closing));
+            self.bridge_end(bond, atom, number, !matches!(ends, Ends::Closing));
         }
     }
 
-    fn bridge_end(&mut self, bond: usize, number: usize, has_symbol: bool) {
+    fn bridge_end(&mut self, bond: usize, atom: usize, number: usize, has_symbol: bool) {
         if has_symbol {
-            self.symbol(bond);
+            self.symbol(bond, atom);
         }
         let percent = if number > 9 { "%" } else { "" };
         self.text.extend(format!("{percent}{number}").bytes());

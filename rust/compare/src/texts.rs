@@ -49,7 +49,7 @@ fn damage(random: &mut Random, text: &mut Vec<u8>) {
         6 if place + 1 < text.len() => text.swap(place, place + 1),
         7 => {
             let digits = text.iter().skip(place).position(u8::is_ascii_digit);
-            text.insert(place + digits.unwrap_or(0), *random.pick(b"-=#"));
+            text.insert(place + digits.unwrap_or(0), *random.pick(b"-=#/\\"));
         }
         _ => drop(text.drain(..place)),
     }
@@ -64,11 +64,12 @@ fn byte(random: &mut Random) -> u8 {
     }
 }
 
-const TOKENS: [&str; 60] = [
+const TOKENS: [&str; 68] = [
     "C", "C", "C", "c", "c", "n", "o", "s", "p", "N", "O", "S", "P", "F", "I", "B", "Cl", "Br",
     "At", "Ts", "*", "(", "(", ")", ")", "(=", "(.", ".", "-", "=", "#", "1", "1", "2", "2", "3",
     "%10", "%11", "=1", "-2", "#%10", "[", "]", "[C", "H", "H2", "+", "-2", ":1", "[nH]", "[O-]",
-    "[13C]", "[Cu+2]", "[*:9999]", "[H]", "[HH]", "[cH-]", "%", "0", "[Sc]",
+    "[13C]", "[Cu+2]", "[*:9999]", "[H]", "[HH]", "[cH-]", "%", "0", "[Sc]", "/", "\\", "/C",
+    "\\C", "(/", "(\\", "/1", "\\1",
 ];
 
 /// Tokens in any order.

@@ -1,6 +1,6 @@
 //! The comparison itself: it is reproducible, it reaches every refusal, and it sees differences.
 
-use balsa_reference::{delocalized, read};
+use balsa_reference::{delocalized, read, Kind};
 use compare::buffers::Buffers;
 use compare::implementation::{Answer, Implementation, Reference};
 use compare::laws;
@@ -33,7 +33,7 @@ fn the_texts_reach_every_refusal() {
         codes.insert(code);
     }
     let expected = (0..=16).filter(|code| ![1, 12, 13].contains(code));
-    assert_eq!(codes, expected.chain([22]).collect());
+    assert_eq!(codes, expected.chain([20, 21, 22]).collect());
 }
 
 #[test]
@@ -46,7 +46,7 @@ fn the_tables_reach_every_refusal() {
         codes.insert(Reference.kekulize(&mut buffers.clone()).code);
         codes.insert(Reference.first(&mut buffers).code);
     }
-    assert_eq!(codes, BTreeSet::from([0, 1, 11, 12, 13, 14, 15, 16]));
+    assert_eq!(codes, BTreeSet::from([0, 1, 11, 12, 13, 14, 15, 16, 20]));
 }
 
 /// Accepted texts have selected atoms of every element and charge; most are delocalized in one
@@ -97,7 +97,7 @@ fn spellings_mean_the_molecule() {
             atoms
         };
         let kinds = |molecule: &balsa_reference::Molecule| {
-            let mut kinds: Vec<_> = molecule.bonds.iter().map(|bond| bond.kind as u8).collect();
+            let mut kinds: Vec<_> = molecule.bonds.iter().map(mark_or_kind).collect();
             kinds.sort_unstable();
             kinds
         };
@@ -106,6 +106,15 @@ fn spellings_mean_the_molecule() {
         assert_eq!(kinds(&back), kinds(&molecule), "{shown}");
     }
     assert!(accepted > 1500, "{accepted}");
+}
+
+/// The number of a kind; a mark may be turned by the numbers of its ends.
+fn mark_or_kind(bond: &balsa_reference::Bond) -> u8 {
+    if bond.kind.is_mark() {
+        Kind::Up as u8
+    } else {
+        bond.kind as u8
+    }
 }
 
 /// The reference with one fault.
@@ -200,6 +209,16 @@ impl Implementation for Faulty {
         answer
     }
 
+    fn sides(&self, buffers: &mut Buffers) -> Answer {
+        let answer = Reference.sides(buffers);
+        if self.has("sides exchanged") && answer.is_accepted() {
+            for cell in buffers.row.iter_mut().filter(|cell| **cell != 0) {
+                *cell = 3 - *cell;
+            }
+        }
+        answer
+    }
+
     fn write(&self, buffers: &mut Buffers) -> Answer {
         let answer = Reference.write(buffers);
         if self.has("15 before 14") && answer.code == 14 {
@@ -245,6 +264,7 @@ fn faults_are_seen() {
         "row cleared",
         "15 before 14",
         "renumbering",
+        "sides exchanged",
     ];
     for fault in faults {
         let (differences, _) = seen(fault);

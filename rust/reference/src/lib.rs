@@ -6,6 +6,7 @@
 //! and for what a refusal leaves behind. [`register`] holds the calls on a register.
 
 mod blossom;
+mod conformation;
 pub mod element;
 mod forced;
 mod matching;
@@ -19,6 +20,7 @@ pub mod tables;
 mod valence;
 mod write;
 
+pub use conformation::sides;
 pub use element::{number_of, symbol_of};
 pub use forced::forced;
 pub use matching::{first, has_matching, is_matching, kekulize, next};

@@ -3,7 +3,9 @@
 //! A row has a 1 at each bond of the matching and a 0 at each other bond. Of two rows the one
 //! with 1 at the first bond where they differ comes first.
 
+use crate::conformation::is_crowded;
 use crate::molecule::{Kind, Molecule};
+use crate::refusal::Code;
 use crate::search::{Found, Graph};
 use crate::valence::delocalized;
 use crate::{blossom, search};
@@ -106,19 +108,25 @@ pub fn is_matching(molecule: &Molecule, row: &[u8]) -> bool {
     Subgraph::of(molecule).matching(row).is_some()
 }
 
-/// Makes the bonds of a matching double and every atom unselected (in the paper: settling), and
-/// tells whether the row was a matching; if not, the molecule stays as it was.
-pub fn kekulize(molecule: &mut Molecule, row: &[u8]) -> bool {
-    let is_matching = is_matching(molecule, row);
-    if is_matching {
-        for (bond, &cell) in molecule.bonds.iter_mut().zip(row) {
-            if cell == 1 {
-                bond.kind = Kind::Double;
-            }
-        }
-        for atom in &mut molecule.atoms {
-            atom.selected = false;
+/// Makes the bonds of a matching double and every atom unselected (in the paper: settling). If the
+/// row is no matching, or marks would crowd an end of a new double bond, the molecule stays as it
+/// was.
+pub fn kekulize(molecule: &mut Molecule, row: &[u8]) -> Result<(), Code> {
+    if !is_matching(molecule, row) {
+        return Err(Code::NotAMatching);
+    }
+    let mut kekulized = molecule.clone();
+    for (bond, &cell) in kekulized.bonds.iter_mut().zip(row) {
+        if cell == 1 {
+            bond.kind = Kind::Double;
         }
     }
-    is_matching
+    for atom in &mut kekulized.atoms {
+        atom.selected = false;
+    }
+    if is_crowded(&kekulized) {
+        return Err(Code::CrowdedEnd);
+    }
+    *molecule = kekulized;
+    Ok(())
 }

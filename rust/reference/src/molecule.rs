@@ -1,5 +1,6 @@
 //! Molecules: atoms and bonds.
 
+use crate::conformation::marks;
 use crate::refusal::Code;
 
 /// An atom.
@@ -31,12 +32,20 @@ pub enum Kind {
     Double = 2,
     /// `#`
     Triple = 3,
+    /// `/`, seen from the lower-numbered end
+    Up = 4,
+    /// `\`, seen from the lower-numbered end
+    Down = 5,
 }
 
 impl Kind {
     /// What a bond of this kind adds to a bond sum.
     pub fn order(self) -> u32 {
-        (self as u32).max(1)
+        match self {
+            Kind::Double => 2,
+            Kind::Triple => 3,
+            _ => 1,
+        }
     }
 
     /// The kind of a bond symbol.
@@ -45,6 +54,8 @@ impl Kind {
             b'-' => Some(Kind::Single),
             b'=' => Some(Kind::Double),
             b'#' => Some(Kind::Triple),
+            b'/' => Some(Kind::Up),
+            b'\\' => Some(Kind::Down),
             _ => None,
         }
     }
@@ -56,6 +67,22 @@ impl Kind {
             Kind::Single => Some(b'-'),
             Kind::Double => Some(b'='),
             Kind::Triple => Some(b'#'),
+            Kind::Up => Some(b'/'),
+            Kind::Down => Some(b'\\'),
+        }
+    }
+
+    /// Whether this is a mark.
+    pub fn is_mark(self) -> bool {
+        matches!(self, Kind::Up | Kind::Down)
+    }
+
+    /// The kind as seen from the other end of the bond.
+    pub fn turned(self) -> Self {
+        match self {
+            Kind::Up => Kind::Down,
+            Kind::Down => Kind::Up,
+            other => other,
         }
     }
 }
@@ -72,12 +99,21 @@ pub struct Bond {
 }
 
 impl Bond {
-    /// The bond between two atoms in any order.
+    /// The bond between two atoms in any order, of a kind as seen from the first of them.
     pub fn between(one: usize, other: usize, kind: Kind) -> Self {
         Bond {
             first: one.min(other),
             second: one.max(other),
-            kind,
+            kind: if one < other { kind } else { kind.turned() },
+        }
+    }
+
+    /// The kind as seen from one of the ends.
+    pub fn kind_from(&self, atom: usize) -> Kind {
+        if atom == self.first {
+            self.kind
+        } else {
+            self.kind.turned()
         }
     }
 
@@ -122,6 +158,9 @@ impl Molecule {
     /// The first check that the molecule fails among those after an open bridge and before the
     /// matching: they also belong to soundness.
     pub fn late_refusal(&self) -> Option<Code> {
+        if let Err(code) = marks(self) {
+            return Some(code);
+        }
         let mut atoms = self.atoms.iter().zip(self.degrees());
         let is_loose = atoms.any(|(atom, degree)| atom.selected && degree < 2);
         is_loose.then_some(Code::LooseSelected)

@@ -206,7 +206,7 @@ impl<'t> Reader<'t> {
         let kind = if closing == Kind::Elided {
             opening.kind
         } else {
-            closing
+            closing.turned()
         };
         let bond = Bond::between(opening.atom, self.hub, kind);
         if self.bonds.len() == MAX_BONDS {

@@ -20,7 +20,7 @@ pub enum Code {
     SelfBridge = 7,
     /// A bridge joins two atoms that have a bond.
     RepeatedBond = 8,
-    /// The bond symbols at a bridge's ends differ.
+    /// The bond symbols at a bridge's ends differ, or its marks are not opposite.
     UnequalSymbols = 9,
     /// A bridge is open at the end of the text.
     OpenBridge = 10,
@@ -40,6 +40,10 @@ pub enum Code {
     InvalidRegister = 17,
     /// The register has no room for the body.
     RegisterFull = 18,
+    /// Two marked neighbours of an end of a double bond lie on the same side.
+    CrowdedEnd = 20,
+    /// A mark touches no double bond.
+    StrayMark = 21,
     /// A selected atom has fewer than two bonds.
     LooseSelected = 22,
 }

@@ -29,7 +29,7 @@ pub fn report_line(text: &[u8]) -> Result<Accepted, Refusal> {
         overfull,
     } = reading(text)?;
     let row = first(&molecule).ok_or(Code::Unmatchable)?;
-    kekulize(&mut molecule, &row);
+    kekulize(&mut molecule, &row)?;
     let written = write(&molecule)?;
     Ok(Accepted {
         atoms: molecule.atoms.len(),

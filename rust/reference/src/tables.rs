@@ -3,6 +3,7 @@
 //! Every call that gets a buffer that is too short gives [`Code::ShortBuffer`] and changes
 //! nothing. Any other refusal fills the outputs with 0; an acceptance fills their unused rest.
 
+use crate::conformation;
 use crate::element::MAX_ELEMENT;
 use crate::matching;
 use crate::molecule::{Atom, Bond, Kind, Molecule};
@@ -188,6 +189,8 @@ pub fn kekulize(
     if !is_matching(tables, row)? {
         return Err(Code::NotAMatching);
     }
+    let mut kekulized = molecule(tables)?;
+    matching::kekulize(&mut kekulized, &row[..counts.bonds])?;
     for cells in atoms.chunks_exact_mut(ATOM_CELLS).take(counts.atoms) {
         cells[1] = 0;
     }
@@ -201,6 +204,16 @@ pub fn kekulize(
         }
     }
     Ok(())
+}
+
+/// The row of sides, stored in the row.
+pub fn sides(tables: Tables, row: &mut [u8]) -> Result<(), Code> {
+    if tables.is_short() || row.len() < ROW {
+        return Err(Code::ShortBuffer);
+    }
+    let sides = molecule(tables).map(|molecule| conformation::sides(&molecule));
+    store(row, sides.as_deref().unwrap_or(&[]));
+    sides.map(|_| ())
 }
 
 /// Writes a molecule: its text and each atom's number in the text. Gives the text's length.
@@ -270,6 +283,8 @@ fn bond_of_cells(cells: &[i32], atoms: usize) -> Option<Bond> {
         1 => Kind::Single,
         2 => Kind::Double,
         3 => Kind::Triple,
+        4 => Kind::Up,
+        5 => Kind::Down,
         _ => return None,
     };
     let bond = Bond {

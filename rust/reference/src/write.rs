@@ -140,12 +140,12 @@ impl<'m> Writer<'m> {
         let last = children.next_back();
         for child in children {
             self.text.push(b'(');
-            self.symbol(child.bond);
+            self.symbol(child.bond, atom);
             self.part(child.atom, depth + 1);
             self.text.push(b')');
         }
         if let Some(child) = last {
-            self.symbol(child.bond);
+            self.symbol(child.bond, atom);
             self.part(child.atom, depth);
         }
     }
@@ -156,7 +156,7 @@ impl<'m> Writer<'m> {
             if self.walk.is_before(end.atom, atom) {
                 self.close_bridge(end.bond);
             } else {
-                self.open_bridge(end.bond);
+                self.open_bridge(end.bond, atom);
             }
         }
     }
@@ -167,7 +167,7 @@ impl<'m> Writer<'m> {
         self.bridge_number(number);
     }
 
-    fn open_bridge(&mut self, bond: usize) {
+    fn open_bridge(&mut self, bond: usize, atom: usize) {
         let free = self.open.iter().position(|&is_open| !is_open);
         let index = free.unwrap_or_else(|| {
             self.open.push(false);
@@ -176,7 +176,7 @@ impl<'m> Writer<'m> {
         self.open[index] = true;
         self.bridge_of[bond] = index + 1;
         self.most_open = self.most_open.max(index + 1);
-        self.symbol(bond);
+        self.symbol(bond, atom);
         self.bridge_number(index + 1);
     }
 
@@ -187,8 +187,10 @@ impl<'m> Writer<'m> {
         push_number(&mut self.text, number);
     }
 
-    fn symbol(&mut self, bond: usize) {
-        self.text.extend(self.molecule.bonds[bond].kind.symbol());
+    /// The symbol of a bond, as seen from the atom that it follows.
+    fn symbol(&mut self, bond: usize, atom: usize) {
+        let kind = self.molecule.bonds[bond].kind_from(atom);
+        self.text.extend(kind.symbol());
     }
 
     fn atom(&mut self, number: usize) {

@@ -169,7 +169,7 @@ fn kekulized_texts_are_written() {
     let kekulized = |text: &str| {
         let mut molecule = read(text.as_bytes()).unwrap();
         let row = first(&molecule).unwrap();
-        assert!(kekulize(&mut molecule, &row));
+        kekulize(&mut molecule, &row).unwrap();
         assert_read_back(&molecule);
         String::from_utf8(write(&molecule).unwrap().text).unwrap()
     };
@@ -291,7 +291,7 @@ fn real_texts_are_read_back() {
         let mut molecule = read(line.as_bytes()).unwrap_or_else(|no| panic!("{line}: {no:?}"));
         assert_read_back(&molecule);
         let row = first(&molecule).unwrap();
-        assert!(kekulize(&mut molecule, &row), "{line}");
+        assert_eq!(kekulize(&mut molecule, &row), Ok(()), "{line}");
         assert_read_back(&molecule);
         assert!(molecule.atoms.iter().all(|atom| !atom.selected), "{line}");
     }

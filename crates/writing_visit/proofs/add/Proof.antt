@@ -33,9 +33,6 @@ mul-up c = search needs
 slice-write-up : tie.Need-slice-write-up
 slice-write-up c = search needs
 
-cast-kind : tie.Need-cast-kind
-cast-kind c = search needs
-
 slice-write-kind : tie.Need-slice-write-kind
 slice-write-kind c = search needs
 
@@ -68,7 +65,6 @@ add-spec =
     cast-up
     mul-up
     slice-write-up
-    cast-kind
     slice-write-kind
     same-length
     same-length-2

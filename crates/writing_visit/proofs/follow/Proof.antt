@@ -12,6 +12,9 @@ shared-slice-read-first c = search needs
 cast-first : tie.Need-cast-first
 cast-first c = search needs
 
+shared-slice-read-kind : tie.Need-shared-slice-read-kind
+shared-slice-read-kind c = search needs
+
 mul-second : tie.Need-mul-second
 mul-second c = search needs
 
@@ -31,7 +34,7 @@ cast-next : tie.Need-cast-next
 cast-next c = search needs
 
 returns : tie.Need-returns
-returns c = let e = eq-eqb _ _ (c .before .before .if1 .taken) in (simp e, simp e)
+returns c = let e = eq-eqb _ _ (c .before .before .if1 .taken) in (simp e, (simp e, simp e))
 
 mul-next-2 : tie.Need-mul-next-2
 mul-next-2 c = search needs
@@ -42,8 +45,11 @@ shared-slice-read-next-2 c = search needs
 cast-next-2 : tie.Need-cast-next-2
 cast-next-2 c = search needs
 
+turned-requires : tie.Need-turned-requires
+turned-requires c κs = search needs
+
 returns-2 : tie.Need-returns-2
-returns-2 c = let e = ne-eqb _ _ (c .before .if1 .left) in (simp e, simp e)
+returns-2 c = let e = ne-eqb _ _ (c .before .before .if1 .left) in (simp e, (simp (e, c .turned .ensures), simp e))
 
 pub follow-spec : {M : Type 1} → statement M
 follow-spec =
@@ -52,6 +58,7 @@ follow-spec =
     mul-first
     shared-slice-read-first
     cast-first
+    shared-slice-read-kind
     mul-second
     shared-slice-read-second
     cast-second
@@ -62,4 +69,5 @@ follow-spec =
     mul-next-2
     shared-slice-read-next-2
     cast-next-2
+    turned-requires
     returns-2)

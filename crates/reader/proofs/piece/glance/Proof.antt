@@ -19,8 +19,8 @@ returns-3 c = seen-branch _ _ (c .before .before .peek .ensures) (c .if3 .taken)
 returns-4 : tie.Need-returns-4
 returns-4 c = seen-close _ _ (c .before .before .before .peek .ensures) (c .if4 .taken)
 
-add-t9 : tie.Need-add-t9
-add-t9 c = search needs
+add-t11 : tie.Need-add-t11
+add-t11 c = search needs
 
 returns-5 : tie.Need-returns-5
 returns-5 c = seen-dot _ _ (c .before .before .before .before .peek .ensures) (c .if5 .taken)
@@ -52,7 +52,7 @@ glance-spec =
     returns-2
     returns-3
     returns-4
-    add-t9
+    add-t11
     returns-5
     symbol-kind-requires
     bridge-at-requires

@@ -1,18 +1,40 @@
 use mathlib.Core.Path.{sym, _∙_}
+use borrow.Author.Tests.{not-true, not-false}
 use denote.Ref.{now}
-use Rattle.table.proofs.Sound.{late-fine, late-loose}
+use Rattle.table.proofs.Sound.{late-crowded, late-stray, late-loose, late-fine}
 use borrow.Author.Needs.{needs}
 use Rattle.table_validity.proofs.late.late_check.Statement.{statement}
 use Rattle.table_validity.proofs.late.late_check.Tie as tie
 
+none-crowded-requires : tie.Need-none-crowded-requires
+none-crowded-requires c κs = c .pre .few-bonds
+
+returns : tie.Need-returns
+returns c =
+    let a = c .before .before .args in
+    sym (late-crowded (now (a .atoms)) (now (a .bonds)) (a .n) (a .m) (sym (c .before .none-crowded .ensures) ∙ not-true _ (c .if1 .taken)))
+
+none-stray-requires : tie.Need-none-stray-requires
+none-stray-requires c κs = c .before .before .pre .few-bonds
+
+returns-2 : tie.Need-returns-2
+returns-2 c =
+    let a = c .before .before .before .before .args in
+    sym (late-stray (now (a .atoms)) (now (a .bonds)) (a .n) (a .m) (sym (c .before .before .before .none-crowded .ensures) ∙ not-false _ (c .before .before .if1 .left)) (sym (c .before .none-stray .ensures) ∙ not-true _ (c .if2 .taken)))
+
 none-loose-requires : tie.Need-none-loose-requires
 none-loose-requires c κs = search needs
 
-returns : tie.Need-returns
-returns c = let s = c .before .before in sym (late-fine (now (s .args .atoms)) (now (s .args .bonds)) (s .args .n) (s .args .m) (sym (c .before .none-loose .ensures) ∙ c .if1 .taken))
+returns-3 : tie.Need-returns-3
+returns-3 c =
+    let a = c .before .before .before .before .before .before .args in
+    sym (late-fine (now (a .atoms)) (now (a .bonds)) (a .n) (a .m) (sym (c .before .before .before .before .before .none-crowded .ensures) ∙ not-false _ (c .before .before .before .before .if1 .left)) (sym (c .before .before .before .none-stray .ensures) ∙ not-false _ (c .before .before .if2 .left)) (sym (c .before .none-loose .ensures) ∙ c .if3 .taken))
 
-returns-2 : tie.Need-returns-2
-returns-2 c = let s = c .before .before in sym (late-loose (now (s .args .atoms)) (now (s .args .bonds)) (s .args .n) (s .args .m) (sym (c .before .none-loose .ensures) ∙ c .if1 .left))
+returns-4 : tie.Need-returns-4
+returns-4 c =
+    let a = c .before .before .before .before .before .before .args in
+    sym (late-loose (now (a .atoms)) (now (a .bonds)) (a .n) (a .m) (sym (c .before .before .before .before .before .none-crowded .ensures) ∙ not-false _ (c .before .before .before .before .if1 .left)) (sym (c .before .before .before .none-stray .ensures) ∙ not-false _ (c .before .before .if2 .left)) (sym (c .before .none-loose .ensures) ∙ c .if3 .left))
 
 pub late-check-spec : {M : Type 1} → statement M
-late-check-spec = tie.close (tie.spec none-loose-requires returns returns-2)
+late-check-spec =
+    tie.close (tie.spec none-crowded-requires returns none-stray-requires returns-2 none-loose-requires returns-3 returns-4)

@@ -46,9 +46,6 @@ mul-his c = search needs
 slice-write-his : tie.Need-slice-write-his
 slice-write-his c = search needs
 
-cast-kinds : tie.Need-cast-kinds
-cast-kinds c = search needs
-
 slice-write-kinds : tie.Need-slice-write-kinds
 slice-write-kinds c = search needs
 
@@ -128,7 +125,6 @@ add-bond-spec =
     cast-his
     mul-his
     slice-write-his
-    cast-kinds
     slice-write-kinds
     mul-mark
     slice-read-mark

@@ -1,4 +1,4 @@
-use Rattle.writing_bridges.proofs.BondArrays.{bag-less, first-number, second-number, numbers-below, numbers-differ, straight, turned, strictly}
+use Rattle.writing_bridges.proofs.BondArrays.{bag-less, first-number, second-number, numbers-below, numbers-differ, straight, swapped, strictly}
 use Rattle.writing_bridges.specs.Unused.{bondArrays, addBond}
 use Rattle.writing_walk.specs.Token.{Bond}
 use mathlib.Core.Path.{refl, ap, _∙_}
@@ -42,12 +42,6 @@ shared-slice-read-kind : tie.Need-shared-slice-read-kind
 shared-slice-read-kind c =
     let s = c .before .before .before .before .before .before .before .before .before .before .before .before in
     omega (arith, s .pre .1 .1 .1 .1 .0 .0, s .pre .1 .1 .1 .1 .1 .1 .0)
-
-cast-kind : tie.Need-cast-kind
-cast-kind c =
-    let s = c .before .before .before .before .before .before .before .before .before .before .before .before in
-    let fit = s .pre .0 in
-    omega (arith, fit .kinds (s .args .b .0) (s .pre .1 .1 .1 .1 .0 .0))
 
 mul-p : tie.Need-mul-p
 mul-p c =
@@ -101,7 +95,7 @@ add-bond-requires c κs =
     let l = numbers-below fit num (a .b .0) h in
     let f = fit .few-atoms in
     let u = s .pre .1 .1 .1 .1 .0 .1 in
-    ((omega (arith, num .ups), omega (arith, s .pre .1 .1 .1 .1 .1 .1 .1)), (bag-less (s .pre .1 .1 .0) u, (s .pre .1 .1 .1 .0, ((omega arith, c .before .before .before .before .if1 .taken), ((omega arith, omega (arith, u, fit .few-bonds)), fit .kinds (a .b .0) h)))))
+    ((omega (arith, num .ups), omega (arith, s .pre .1 .1 .1 .1 .1 .1 .1)), (bag-less (s .pre .1 .1 .0) u, (s .pre .1 .1 .1 .0, ((omega arith, c .before .before .before .before .if1 .taken), (omega arith, omega (arith, u, fit .few-bonds))))))
 
 same-length : tie.Need-same-length
 same-length c = search needs
@@ -129,9 +123,12 @@ returns c =
     let r = c .before .before .before .before .before .before .before .before .add-bond .ensures in
     (r .0 ∙ ap (λ (x : Bond). addBond (a .up .now) x (bondArrays (a .los .now) (a .his .now) (a .kinds .now) (a .used))) (straight fit num (a .b .0) h _ _ _ p q refl (c .before .before .before .before .before .before .before .before .before .before .before .before .before .if1 .taken)), r .1)
 
+turned-requires : tie.Need-turned-requires
+turned-requires c κs = search needs
+
 add-bond-requires-2 : tie.Need-add-bond-requires-2
 add-bond-requires-2 c κs =
-    let s = c .before .before .before .before .before .before .before .before .before .before .before .before .before .before .before .before .before .before .before in
+    let s = c .before .before .before .before .before .before .before .before .before .before .before .before .before .before .before .before .before .before .before .before in
     let a = s .args in
     let fit = s .pre .0 in
     let num = s .pre .1 .0 in
@@ -141,7 +138,7 @@ add-bond-requires-2 c κs =
     let l = numbers-below fit num (a .b .0) h in
     let f = fit .few-atoms in
     let u = s .pre .1 .1 .1 .1 .0 .1 in
-    ((omega (arith, num .ups), omega (arith, s .pre .1 .1 .1 .1 .1 .1 .1)), (bag-less (s .pre .1 .1 .0) u, (s .pre .1 .1 .1 .0, ((omega arith, strictly _ _ (λ e. numbers-differ fit num (a .b .0) h (omega arith)) (c .before .before .before .before .if1 .left)), ((omega arith, omega (arith, u, fit .few-bonds)), fit .kinds (a .b .0) h)))))
+    ((omega (arith, num .ups), omega (arith, s .pre .1 .1 .1 .1 .1 .1 .1)), (bag-less (s .pre .1 .1 .0) u, (s .pre .1 .1 .1 .0, ((omega arith, strictly _ _ (λ e. numbers-differ fit num (a .b .0) h (omega arith)) (c .before .before .before .before .before .if1 .left)), (omega arith, omega (arith, u, fit .few-bonds))))))
 
 same-length-5 : tie.Need-same-length-5
 same-length-5 c = search needs
@@ -157,7 +154,7 @@ same-length-8 c = search needs
 
 returns-2 : tie.Need-returns-2
 returns-2 c =
-    let s = c .before .before .before .before .before .before .before .before .before .before .before .before .before .before .before .before .before .before .before .before .before .before .before .before .before .before .before .before in
+    let s = c .before .before .before .before .before .before .before .before .before .before .before .before .before .before .before .before .before .before .before .before .before .before .before .before .before .before .before .before .before in
     let a = s .args in
     let fit = s .pre .0 in
     let num = s .pre .1 .0 in
@@ -167,7 +164,7 @@ returns-2 c =
     let l = numbers-below fit num (a .b .0) h in
     let f = fit .few-atoms in
     let r = c .before .before .before .before .before .before .before .before .add-bond2 .ensures in
-    (r .0 ∙ ap (λ (x : Bond). addBond (a .up .now) x (bondArrays (a .los .now) (a .his .now) (a .kinds .now) (a .used))) (turned fit num (a .b .0) h _ _ _ p q refl (c .before .before .before .before .before .before .before .before .before .before .before .before .before .if1 .left)), r .1)
+    (r .0 ∙ ap (λ (x : Bond). addBond (a .up .now) x (bondArrays (a .los .now) (a .his .now) (a .kinds .now) (a .used))) (swapped fit num (a .b .0) h _ _ _ p q (c .before .before .before .before .before .before .before .before .before .before .before .before .before .turned .ensures) (c .before .before .before .before .before .before .before .before .before .before .before .before .before .before .if1 .left)), r .1)
 
 pub add-unused-spec : {M : Type 1} → statement M
 add-unused-spec =
@@ -180,7 +177,6 @@ add-unused-spec =
     shared-slice-read-f
     cast-f
     shared-slice-read-kind
-    cast-kind
     mul-p
     shared-slice-read-p
     cast-p
@@ -193,6 +189,7 @@ add-unused-spec =
     same-length-3
     same-length-4
     returns
+    turned-requires
     add-bond-requires-2
     same-length-5
     same-length-6
