@@ -1,0 +1,4 @@
+pub mod Rows
+pub mod Behind
+pub mod Steps
+pub mod Bridges
