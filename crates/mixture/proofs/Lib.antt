@@ -2,3 +2,4 @@ pub mod Rows
 pub mod Behind
 pub mod Steps
 pub mod Bridges
+pub mod Modes
