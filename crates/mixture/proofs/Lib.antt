@@ -3,3 +3,4 @@ pub mod Behind
 pub mod Steps
 pub mod Bridges
 pub mod Modes
+pub mod Follow

@@ -161,7 +161,7 @@ module _ {n m p q d i p′ q′ d′ j : ℕ} {μ κ : Memory} (h : Held p q d i
 
 -- ---- every mode
 module _ {n m p q i p′ q′ j : ℕ} {μ κ : Memory} where
-  mode-both : (x : Mode) {d : ℕ} → Sane p q (at x d) i μ → Sane p′ q′ (at x d) j κ → Behind n m μ κ → SameTens (at x d) μ κ → (b o e : ℕ) → alive (turn (next x b) d) ≡ true → Both n m μ (modeAct x b o μ) (modeAct x b e κ)
+  pub mode-both : (x : Mode) {d : ℕ} → Sane p q (at x d) i μ → Sane p′ q′ (at x d) j κ → Behind n m μ κ → SameTens (at x d) μ κ → (b o e : ℕ) → alive (turn (next x b) d) ≡ true → Both n m μ (modeAct x b o μ) (modeAct x b e κ)
   unfolding next modeAct
   mode-both (seq x) {d} h k w t b o e v =
       in-sequence (held-of h) (held-of k) w x b o e (λ f. let l = deep x d (subst (λ (c : ℕ). alive (turn (next (seq x) c) d) ≡ true) f v) in omega (arith, h .stands .depth))
