@@ -93,6 +93,10 @@ tens-after σ b i j μ κ ν ξ e f x q =
     inside : {α β : Memory} → keeps α ≡ keeps β → α ≡ β
     inside g = cc
 
+-- no first byte of a text leads there
+pub tens-first : (b : ℕ) (ν ξ : Memory) → SameTens (step start b) ν ξ
+tens-first b ν ξ x q = let d = into-percent1 start b x q .0 in let e : start ≡ at percent (d .0) = d .1 in absurd (let z : _≡_ {A = ℕ} 0 1 = cc in omega arith)
+
 -- ---- the counts only grow: a memory is behind itself
 raised-none : (l : List ℕ) → l ≡ map (raised 0) l
 raised-none [] = refl
@@ -157,16 +161,16 @@ pub record Followed (n m : ℕ) (τ : MachineState) (ν : Memory) (r : Reading M
   pub behind : Behind n m ν memory
 
 -- a byte that both take
-record Step (n m j : ℕ) (σ : MachineState) (b : ℕ) (κ ν : Memory) : Type 0 where
+pub record Step (n m j : ℕ) (σ : MachineState) (b : ℕ) (κ ν : Memory) : Type 0 where
   pub memory : Memory
   pub kept : act σ b j κ ≡ keeps memory
   pub behind : Behind n m ν memory
 
-step-of : {n m j : ℕ} {σ : MachineState} {b : ℕ} {κ ν : Memory} (a : Acts) → act σ b j κ ≡ a → Side n m ν a → Step n m j σ b κ ν
+pub step-of : {n m j : ℕ} {σ : MachineState} {b : ℕ} {κ ν : Memory} (a : Acts) → act σ b j κ ≡ a → Side n m ν a → Step n m j σ b κ ν
 step-of (keeps ξ) e w = record { memory = ξ; kept = e; behind = w }
 step-of (refuses c p) e w = absurd w
 
-room-before : {n m : ℕ} {μ ν : Memory} → Grown μ ν → Room n m ν → Room n m μ
+pub room-before : {n m : ℕ} {μ ν : Memory} → Grown μ ν → Room n m ν → Room n m μ
 room-before g r = record { atoms = omega (arith, g .atoms, r .atoms); bonds = omega (arith, g .bonds, r .bonds) }
 
 pub follows : (s : List ℕ) {n m p q i p′ q′ j : ℕ} {σ τ : MachineState} {μ ν κ : Memory} → (σ ≡ start → ⊥) → Sane p q σ i μ → Sane p′ q′ σ j κ → Behind n m μ κ → SameTens σ μ κ → read act i (going σ μ) s ≡ going τ ν → Room n m ν
@@ -176,10 +180,10 @@ follows [] {n} {m} {σ = σ} {τ = τ} {μ = μ} {ν = ν} {κ = κ} z h k w t e
     let f : σ ≡ τ = cc in
     let g : μ ≡ ν = cc in
     record { memory = κ; goes = ap (λ (x : MachineState). going x κ) f; behind = subst (λ x. Behind n m x κ) g w }
-follows (b ∷ s) {n} {m} {i = i} {j = j} {σ = σ} {μ = μ} {κ = κ} z h k w t e r =
+follows (b ∷ s) {n} {m} {i = i} {j = j} {σ = σ} {τ = τ} {μ = μ} {ν = ν} {κ = κ} z h k w t e r =
     let x = taken i b σ μ s e in
     let hx = sane-taken b h (x .lives) (x .kept) in
     let g = read-grown s (not-start σ b) hx (x .rest) in
     let y = step-of (act σ b j κ) refl (subst (λ a. Both n m μ a (act σ b j κ)) (x .kept) (step-both σ z h k w t b (x .lives)) .1 (room-before g r)) in
-    let f = follows s (not-start σ b) hx (sane-taken b k (x .lives) (y .kept)) (y .behind) (tens-after σ b i j μ κ (x .memory) (y .memory) (x .kept) (y .kept)) (x .rest) r in
-    record { memory = f .memory; goes = takes j b σ κ s (x .lives) (y .kept) ∙ f .goes; behind = f .behind }
+    subst (Followed n m τ ν) (sym (takes j b σ κ s (x .lives) (y .kept)))
+    (follows s (not-start σ b) hx (sane-taken b k (x .lives) (y .kept)) (y .behind) (tens-after σ b i j μ κ (x .memory) (y .memory) (x .kept) (y .kept)) (x .rest) r)

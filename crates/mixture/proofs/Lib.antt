@@ -4,3 +4,4 @@ pub mod Steps
 pub mod Bridges
 pub mod Modes
 pub mod Follow
+pub mod Join
