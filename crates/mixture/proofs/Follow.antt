@@ -116,6 +116,12 @@ unfolding number
 second-cell k (pos y) l = ap pos (sym (zero-add y))
 second-cell k (negsuc y) l = absurd (omega arith)
 
+-- a bond's row moved up by nothing
+pub unraised : {p q i : ℕ} {σ : MachineState} {μ : Memory} → Sane p q σ i μ → (b : ℕ) → b < μ .st .bonds → bondRow (μ .bonds) b ≡ raisedRow 0 (bondRow (μ .bonds) b)
+unraised {μ = μ} h b l =
+    let w = h .tables .bond-rows b l in
+    λ v. record { first = first-cell (bondCell (μ .bonds) b FIRST) (w .natural) v; second = second-cell (end1 (μ .bonds) b) (bondCell (μ .bonds) b SECOND) (w .order) v; kind = bondCell (μ .bonds) b KIND }
+
 itself : {p q i : ℕ} {σ : MachineState} {μ : Memory} → Sane p q σ i μ → Behind 0 0 μ μ
 itself {μ = μ} h =
     record {
@@ -128,18 +134,12 @@ itself {μ = μ} h =
         symbol = λ r l. refl;
         outside = λ a l. ap (λ (v : ℕ). getD (μ .st .outside) v 0) (zero-add a);
         atom-rows = λ a l. ap (atomRow (μ .atoms)) (zero-add a);
-        bond-rows = record { inside = λ b l. absurd (omega arith); first-bonds = λ b l. refl; second-bonds = wires };
+        bond-rows = record { inside = λ b l. absurd (omega arith); first-bonds = λ b l. refl; second-bonds = λ b l. ap (bondRow (μ .bonds)) (zero-add b) ∙ unraised h b l };
       };
       hub = omega arith;
       pending = refl;
       draft = refl;
     }
-  where
-    wires : (b : ℕ) → b < μ .st .bonds → bondRow (μ .bonds) (0 + b) ≡ raisedRow 0 (bondRow (μ .bonds) b)
-    wires b l =
-        let w = h .tables .bond-rows b l in
-        ap (bondRow (μ .bonds)) (zero-add b)
-        ∙ (λ v. record { first = first-cell (bondCell (μ .bonds) b FIRST) (w .natural) v; second = second-cell (end1 (μ .bonds) b) (bondCell (μ .bonds) b SECOND) (w .order) v; kind = bondCell (μ .bonds) b KIND })
 
 step-grown : {p q i : ℕ} {σ : MachineState} {μ ν : Memory} (b : ℕ) → (σ ≡ start → ⊥) → Sane p q σ i μ → alive (step σ b) ≡ true → act σ b i μ ≡ keeps ν → Grown μ ν
 step-grown {i = i} {σ = σ} {μ = μ} b s h v e = subst (λ a. Both 0 0 μ a (act σ b i μ)) e (step-both σ s h h (itself h) (λ x q. refl) b v) .0

@@ -94,7 +94,7 @@ module _ (A₁ B₁ A B : List ℤ) (long₁ : enough A₁ B₁ ≡ true) (long 
           record { atoms = omega (arith, t .few-atoms); bonds = omega (arith, t .few-bonds) }
 
 -- ---- the dot
-ends-sequence : (σ : MachineState) → accepting σ ≡ true → (σ ≡ start → ⊥) → (x : Last) × (σ ≡ at (seq x) 0)
+pub ends-sequence : (σ : MachineState) → accepting σ ≡ true → (σ ≡ start → ⊥) → (x : Last) × (σ ≡ at (seq x) 0)
 unfolding accepting resting
 ends-sequence dead a n = never a
 ends-sequence start a n = absurd (n refl)
@@ -135,7 +135,7 @@ dotted-act : (b i : ℕ) (κ : Memory) → act (at atomNext 0) b i κ ≡ atomAc
 unfolding act modeAct
 dotted-act b i κ = refl
 
-no-second : (x : Last) → Second x 46 → ⊥
+pub no-second : (x : Last) → Second x 46 → ⊥
 no-second plain e = e
 no-second afterC e = omega arith
 no-second afterB e = omega arith

@@ -5,3 +5,4 @@ pub mod Bridges
 pub mod Modes
 pub mod Follow
 pub mod Join
+pub mod Whole
