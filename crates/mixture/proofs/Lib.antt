@@ -6,3 +6,4 @@ pub mod Modes
 pub mod Follow
 pub mod Join
 pub mod Whole
+pub mod Ending

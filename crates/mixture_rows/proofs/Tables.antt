@@ -2,7 +2,7 @@
 use Prim.Native.Nat.{ℕ, zero, suc, _+_, _*_, _<_, _≤_}
 use native.Mathlib.Omega.{arith}
 use mathlib.Core.Path.{_≡_, refl, sym, ap, _∙_}
-use mathlib.Core.Bool.{Bool, true, false, _&&_}
+use mathlib.Core.Bool.{Bool, true, false, _&&_, true≢false}
 use mathlib.Core.List.{List, [], _∷_, _++_, map}
 use lib.ListN.{length}
 use lib.IntN.{ℤ}
@@ -13,8 +13,9 @@ use Rattle.kinds.specs.Kind.{elided}
 use Rattle.valence.specs.Valence.{delocalized}
 use Rattle.matching.specs.Enumeration.{Row, matchings}
 use Rattle.matching.specs.Graph.{Bond, isMatching}
+use Rattle.matching.specs.Model.{some?}
 use Rattle.table.specs.Cells.{number, end1, end2}
-use Rattle.table_graph.specs.Graph.{flag, delocalizedFlag, delocalizedFlags, bondOf, graphOf, matchingOf}
+use Rattle.table_graph.specs.Graph.{flag, delocalizedFlag, delocalizedFlags, bondOf, graphOf, matchingOf, matchable}
 use Rattle.mixture_rows.specs.Rows.{followed}
 use Rattle.mixture_rows.specs.Beside.{Molecule, matchingsOf, BondsBeside, Beside}
 use Rattle.mixture_rows.proofs.Parts.{upTo-parts}
@@ -74,3 +75,15 @@ module _ {t u j : Molecule} (w : Beside t u j) where
   -- their number is the product
   pub number-beside : length (matchingsOf j) ≡ length (matchingsOf t) * length (matchingsOf u)
   number-beside = ap length matchings-beside ∙ followed-length (matchingsOf t) (matchingsOf u)
+
+-- rows follow where each list has one
+followed-some : (ps qs : List Row) → some? ps ≡ true → some? qs ≡ true → some? (followed ps qs) ≡ true
+unfolding followed
+followed-some [] qs e f = absurd (true≢false (sym e))
+followed-some (r ∷ ps) [] e f = absurd (true≢false (sym f))
+followed-some (r ∷ ps) (s ∷ qs) e f = refl
+
+-- a matching exists where each molecule has one
+pub matchable-beside : {t u j : Molecule} → Beside t u j → matchable (t .atoms) (t .bonds) (t .atomCount) (t .bondCount) ≡ true → matchable (u .atoms) (u .bonds) (u .atomCount) (u .bondCount) ≡ true → matchable (j .atoms) (j .bonds) (j .atomCount) (j .bondCount) ≡ true
+unfolding matchable
+matchable-beside {t} {u} w e f = ap some? (matchings-beside w) ∙ followed-some (matchingsOf t) (matchingsOf u) e f
