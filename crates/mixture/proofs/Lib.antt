@@ -7,3 +7,4 @@ pub mod Follow
 pub mod Join
 pub mod Whole
 pub mod Ending
+pub mod Cells

@@ -52,7 +52,7 @@ atoms-written n t u a e x q r s c h = split (ℕ-discrete c a)
     split (no f) = other-atom u e x s (n + c) (λ g. f (omega arith)) ∙ h ∙ sym (other-atom t a x r c f)
 
 -- ---- bond rows
-other-bond : (t : List ℤ) (b : ℕ) (x : Bond) → bondCells * b + bondCells ≤ length t → (c : ℕ) → (c ≡ b → ⊥) → bondRow (withBond t b x) c ≡ bondRow t c
+pub other-bond : (t : List ℤ) (b : ℕ) (x : Bond) → bondCells * b + bondCells ≤ length t → (c : ℕ) → (c ≡ b → ⊥) → bondRow (withBond t b x) c ≡ bondRow t c
 other-bond t b x r c n = split (apart b c n)
   where
     split : (c < b) ⊎ (b < c) → bondRow (withBond t b x) c ≡ bondRow t c
