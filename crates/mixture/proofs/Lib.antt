@@ -8,3 +8,4 @@ pub mod Join
 pub mod Whole
 pub mod Ending
 pub mod Cells
+pub mod Mixture
