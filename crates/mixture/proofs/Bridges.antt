@@ -1,37 +1,33 @@
 -- Bridges and branches, opened and closed in a memory and in the one that has n atoms and m bonds before it. Assumes nothing.
-use Prim.Native.Nat.{ℕ, zero, suc, _+_, _-_, _*_, _≤_, _<_}
+use Prim.Native.Nat.{ℕ, zero, suc, _+_, _-_, _≤_, _<_}
 use native.Mathlib.Omega.{arith}
 use native.Mathlib.Numerals.{add-one}
 use native.Mathlib.Decide.{ℕ-discrete, decLt}
 use mathlib.Core.Path.{_≡_, refl, sym, ap, subst, _∙_}
 use mathlib.Core.Bool.{Bool, true, false, _&&_, _||_, not, true≢false}
 use mathlib.Core.List.{List, map}
-use lib.ListN.{length, getD, set, List·getD-map}
+use lib.ListN.{getD, set, List·getD-map}
 use lib.Seq.{getD-set-same, getD-set-other}
-use lib.IntN.{ℤ, pos}
+use lib.IntN.{ℤ}
 use lib.Dec.{eqb, leb, ltb}
 use borrow.Author.Tests.{ne-eqb, eqb-false, lt-ltb, le-ltb, leb-false, lt-leb}
 use Rattle.loops.specs.Loop.{pick, each}
 use Rattle.loops.proofs.Loops.{each-all}
 use Rattle.kinds.specs.Kind.{turned, meet, clash}
 use Rattle.reading_grammar.specs.Fold.{keeps, refuses}
-use Rattle.table.specs.declared.Bond.{Bond}
-use Rattle.table.specs.Limits.{maxBonds, bondCells}
+use Rattle.table.specs.Limits.{maxBonds}
 use Rattle.table.specs.Cells.{number, end1, end2}
-use Rattle.table.specs.Rows.{withBond}
 use Rattle.ids.specs.Limits.{maxDepth}
 use Rattle.reading_state.specs.State.{opened, closed, bridged, joined}
 use Rattle.reading.specs.Memory.{Memory, kindOf, newBond, between, moved, joins, joinedAlready, closeRefusal}
-use Rattle.reading.specs.Act.{Acts, bridgeBond, orRefuse, bridgeAct, branchAct}
-use Rattle.reading.proofs.Cases.{by-test}
+use Rattle.reading.specs.Act.{bridgeBond, orRefuse, bridgeAct, branchAct}
 use Rattle.reading.proofs.Atoms.{Held}
-use Rattle.reading.proofs.Joints.{allowed}
 use Rattle.mixture_rows.specs.Beside.{raisedRow, BondsBeside}
 use Rattle.mixture_rows.proofs.Parts.{each-parts}
 use Rattle.mixture_rows.proofs.Graph.{eqb-raised}
 use Rattle.mixture_rows.proofs.Bonds.{second-end1, second-end2}
 use Rattle.mixture.proofs.Rows.{bonds-written, set-alike, map-set}
-use Rattle.mixture.proofs.Behind.{raised, Ground, Grounded, Behind, Grown, Room, Side, Both}
+use Rattle.mixture.proofs.Behind.{raised, Behind, Side, Both}
 
 -- ---- openers
 raised-zero : (n x : ℕ) → eqb (raised n x) 0 ≡ eqb x 0

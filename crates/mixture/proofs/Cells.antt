@@ -13,7 +13,7 @@ use Rattle.table.specs.declared.Atom.{Atom}
 use Rattle.table.specs.declared.Bond.{Bond}
 use Rattle.table.specs.Limits.{atomCells, bondCells}
 use Rattle.table.specs.Cells.{atomCell, bondCell}
-use Rattle.table.specs.Rows.{atomRow, bondRow, withBond}
+use Rattle.table.specs.Rows.{atomRow, bondRow}
 use Rattle.reading.proofs.Rows.{length-with-bond, with-bond-row}
 use Rattle.mixture_rows.specs.Beside.{raisedRow}
 use Rattle.mixture.specs.Mixed.{raisedBond, raisedBonds, sideBySide}

@@ -1,9 +1,9 @@
 -- What is told at the end of the joined text: hydrogens, over-full atoms, late checks and matchings of the two molecules side by side. Assumes nothing.
-use Prim.Native.Nat.{ℕ, zero, suc, _+_, _*_, _≤_, _<_}
+use Prim.Native.Nat.{ℕ, _+_, _*_, _≤_, _<_}
 use native.Mathlib.Omega.{arith}
 use native.Mathlib.Decide.{ℕ-discrete}
-use mathlib.Core.Path.{_≡_, refl, sym, ap, subst, _∙_}
-use mathlib.Core.Bool.{Bool, true, false}
+use mathlib.Core.Path.{_≡_, sym, ap, _∙_}
+use mathlib.Core.Bool.{true}
 use mathlib.Core.List.{List}
 use lib.ListN.{length, getD, List·getD-map}
 use lib.IntN.{ℤ, pos}
@@ -14,14 +14,14 @@ use Rattle.valence.specs.Valence.{implied, overfull}
 use Rattle.reading_grammar.specs.declared.MachineState.{MachineState}
 use Rattle.reading_grammar.specs.Machine.{accepting}
 use Rattle.reading_grammar.specs.Fold.{going}
-use Rattle.table.specs.Limits.{maxAtoms, maxBonds, atomCells}
+use Rattle.table.specs.Limits.{atomCells}
 use Rattle.table.specs.Cells.{number, element, selected}
 use Rattle.table.specs.Rows.{atomRow}
 use Rattle.table.specs.Sound.{lateCode}
 use Rattle.table_graph.specs.Graph.{bondSum, matchable}
 use Rattle.ids.specs.Limits.{maxText}
 use Rattle.reading.specs.Memory.{Memory}
-use Rattle.reading.specs.Read.{ReadResult, hydrogenated, overfullAt, overfullAtoms, leftmost, ended, readFrom, readOf}
+use Rattle.reading.specs.Read.{hydrogenated, overfullAt, overfullAtoms, leftmost, ended, readFrom, readOf}
 use Rattle.reading.specs.Claims.{withHydrogens}
 use Rattle.reading.specs.Conditions.{bytesRead, atomsOf, overfullOf, Fits}
 use Rattle.reading.proofs.Sane.{Sane}
@@ -33,7 +33,7 @@ use Rattle.mixture_rows.proofs.Parts.{sum-parts}
 use Rattle.mixture_rows.proofs.Bonds.{sum-first, sum-second}
 use Rattle.mixture_rows.proofs.Late.{late-parts}
 use Rattle.mixture_rows.proofs.Tables.{matchable-beside}
-use Rattle.mixture.proofs.Behind.{raised, Behind}
+use Rattle.mixture.proofs.Behind.{raised}
 use Rattle.mixture.proofs.Whole.{Joined}
 
 -- ---- the row of an atom with its hydrogens is told by its flag, its row and its bond sum

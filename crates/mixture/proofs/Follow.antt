@@ -1,19 +1,18 @@
 -- A text that is read from a memory is read as well from the one that has n atoms and m bonds before it, where there is room. Assumes nothing.
-use Prim.Native.Nat.{ℕ, zero, suc, _+_, _≤_, _<_}
+use Prim.Native.Nat.{ℕ, zero, suc, _+_, _<_}
 use native.Mathlib.Omega.{arith}
 use native.Mathlib.Nat.{zero-add}
 use mathlib.Core.Path.{_≡_, refl, sym, ap, subst, _∙_}
 use mathlib.Core.Bool.{Bool, true, false}
 use mathlib.Core.List.{List, [], _∷_, map}
-use lib.ListN.{length, getD}
+use lib.ListN.{getD}
 use lib.IntN.{ℤ, pos, negsuc}
 use lib.Signed.{leZ}
 use Rattle.table.specs.Limits.{FIRST, SECOND, KIND}
 use Rattle.loops.specs.Loop.{pick}
-use Rattle.table.specs.declared.Bond.{Bond}
-use Rattle.table.specs.Cells.{number, bondCell, end1, end2}
+use Rattle.table.specs.Cells.{number, bondCell, end1}
 use Rattle.table.specs.Rows.{atomRow, bondRow}
-use Rattle.reading_grammar.specs.declared.Mode.the-variants.{Percent as percent, Percent1 as percent1}
+use Rattle.reading_grammar.specs.declared.Mode.the-variants.{Percent as percent}
 use Rattle.reading_grammar.specs.declared.Move.{Move}
 use Rattle.reading_grammar.specs.declared.Move.the-variants.{Stop as stop, To as to, Up as up, Down as down}
 use Rattle.reading_grammar.specs.declared.MachineState.{MachineState}
@@ -28,7 +27,7 @@ use Rattle.reading.specs.Act.{Acts, act}
 use Rattle.reading.proofs.Sane.{Sane, SaneReading}
 use Rattle.reading.proofs.Step.{sane-feed}
 use Rattle.reading.proofs.Percent.{into-percent1, first-digit}
-use Rattle.mixture_rows.specs.Beside.{raisedRow, BondsBeside}
+use Rattle.mixture_rows.specs.Beside.{raisedRow}
 use Rattle.mixture.proofs.Behind.{raised, Behind, Grown, Room, Side, Both}
 use Rattle.mixture.proofs.Modes.{SameTens, mode-both}
 

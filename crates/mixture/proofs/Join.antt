@@ -1,15 +1,13 @@
 -- The first text, the dot and the second text: what stands in the memory at the end. Assumes nothing.
-use Prim.Native.Nat.{ℕ, zero, suc, _+_, _≤_, _<_}
+use Prim.Native.Nat.{ℕ, zero, suc}
 use native.Mathlib.Omega.{arith}
-use native.Mathlib.Nat.{add-zero, zero-add}
 use mathlib.Core.Path.{_≡_, refl, sym, ap, subst, _∙_}
 use mathlib.Core.Bool.{Bool, true, false, _&&_, not}
-use mathlib.Core.List.{List, [], _∷_, _++_, map}
-use lib.ListN.{length, getD, replicate, length-map, List·getD-map, length-replicate}
+use mathlib.Core.List.{List, [], _∷_, map}
+use lib.ListN.{getD, replicate, length-map, List·getD-map, length-replicate}
 use lib.Seq.{ext-getD}
 use lib.IntN.{ℤ}
 use lib.Dec.{eqb}
-use Rattle.element.specs.declared.Letter.the-variants.{Nothing}
 use Rattle.element.specs.Symbols.{among, letters}
 use Rattle.element.specs.Lookup.{letterOf, selectedOf}
 use Rattle.reading_grammar.specs.Grammar.{nonzero, bondSymbols}
@@ -19,20 +17,20 @@ use Rattle.reading_grammar.specs.declared.Mode.the-variants.{Seq as seq, Bond a
 use Rattle.reading_grammar.specs.declared.MachineState.{MachineState}
 use Rattle.reading_grammar.specs.declared.MachineState.the-variants.{Dead as dead, Start as start, At as at}
 use Rattle.reading_grammar.specs.Machine.{alive, accepting, resting, step, next, atomOr, bridgeOr}
-use Rattle.reading_grammar.specs.Fold.{keeps, Reading, going, read}
+use Rattle.reading_grammar.specs.Fold.{keeps, going, read}
 use Rattle.reading_grammar.proofs.Ends.{never}
 use Rattle.table.specs.Valid.{enough}
 use Rattle.ids.specs.Limits.{bridges}
 use Rattle.reading_state.specs.State.{started}
-use Rattle.reading.specs.Memory.{Memory, dotted, bonded, awaiting}
-use Rattle.reading.specs.Act.{Acts, atomAct, modeAct, act}
+use Rattle.reading.specs.Memory.{Memory, dotted, awaiting}
+use Rattle.reading.specs.Act.{atomAct, modeAct, act}
 use Rattle.reading.specs.Read.{zeros, beginning}
 use Rattle.reading.proofs.Sane.{Sane}
 use Rattle.reading.proofs.Dispatch.{Second}
 use Rattle.reading.proofs.Steering.{replicate-0}
 use Rattle.reading.proofs.Atoms.{Ready, ready, ready-start, held-of}
 use Rattle.reading.proofs.Step.{sane-beginning, sane-going}
-use Rattle.mixture.proofs.Behind.{raised, Grounded, Behind, Room, Side, Both}
+use Rattle.mixture.proofs.Behind.{raised, Grounded, Room, Both}
 use Rattle.mixture.proofs.Steps.{Jointly, atom-both}
 use Rattle.mixture.proofs.Modes.{only-atom}
 use Rattle.mixture.proofs.Follow.{taken, takes, sane-taken, not-start, tens-first, read-grown, room-before, Step, step-of, Followed, follows}

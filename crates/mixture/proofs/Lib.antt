@@ -9,3 +9,5 @@ pub mod Whole
 pub mod Ending
 pub mod Cells
 pub mod Mixture
+pub mod Examples
+pub mod Claims

@@ -1,33 +1,32 @@
 -- Two accepted texts joined by a dot: what reading hands back, and the placements. Assumes nothing.
-use Prim.Native.Nat.{ℕ, zero, suc, _+_, _*_, _≤_, _<_}
+use Prim.Native.Nat.{ℕ, _*_, _≤_}
 use native.Mathlib.Omega.{arith}
-use mathlib.Core.Path.{_≡_, refl, sym, ap, subst, _∙_}
+use mathlib.Core.Path.{_≡_, refl, sym, ap, _∙_}
 use mathlib.Core.Bool.{true}
-use mathlib.Core.List.{List, [], _∷_, _++_}
+use mathlib.Core.List.{List, [], _∷_}
 use lib.ListN.{length, getD}
 use lib.IntN.{ℤ, pos}
 use Rattle.reading_grammar.specs.declared.MachineState.{MachineState}
 use Rattle.reading_grammar.specs.Machine.{accepting}
 use Rattle.reading_grammar.specs.Fold.{going}
-use Rattle.table.specs.Limits.{maxAtoms, maxBonds, atomCells, bondCells}
+use Rattle.table.specs.Limits.{atomCells, bondCells}
 use Rattle.table.specs.Sound.{lateCode}
 use Rattle.table_graph.specs.Graph.{matchable}
 use Rattle.reading.specs.Memory.{Memory}
 use Rattle.reading.specs.Read.{ReadResult, readOf}
-use Rattle.reading.specs.Conditions.{bytesRead, atomsOf, overfullOf, Fits}
+use Rattle.reading.specs.Conditions.{bytesRead, atomsOf, Fits}
 use Rattle.reading.proofs.Sane.{Sane}
 use Rattle.reading.proofs.Hydrogens.{hydrogenated-length, hydrogenated-other}
 use Rattle.reading.proofs.Leftmost.{none-open}
 use Rattle.reading.proofs.Outcome.{accepted, Outcome, outcome}
 use Rattle.reading.proofs.Accepted.{read-sane, halt-code, early}
 use Rattle.mixture_rows.specs.Rows.{followed}
-use Rattle.mixture_rows.specs.Beside.{raisedRow, Molecule, matchingsOf}
 use Rattle.mixture_rows.proofs.Tables.{matchings-beside, number-beside}
-use Rattle.mixture.specs.Mixed.{joinedText, raisedBonds, sideBySide, mixed}
-use Rattle.mixture.specs.Claims.{moleculeOf, placements, Joinable, Mixture}
+use Rattle.mixture.specs.Mixed.{unmarkedText, joinedText, raisedBonds, sideBySide, mixed}
+use Rattle.mixture.specs.Claims.{placements, Joinable, Mixture}
 use Rattle.mixture.proofs.Behind.{Room}
 use Rattle.mixture.proofs.Whole.{Joined, Ended, whole}
-use Rattle.mixture.proofs.Ending.{held, held-beside, overfull-add, joined-accepted}
+use Rattle.mixture.proofs.Ending.{held-beside, overfull-add, joined-accepted}
 use Rattle.mixture.proofs.Cells.{side-by-side, atoms-cells, bonds-cells, first-atoms-cells, first-bonds-cells, raised-length, raised-rows}
 
 -- ---- a text that is accepted
@@ -145,3 +144,7 @@ module _ (A₁ B₁ A₂ B₂ A B : List ℤ) where
   any-mixture [] t w = absurd (omega (arith, w .first-some))
   any-mixture (c ∷ s) [] w = absurd (omega (arith, w .second-some))
   any-mixture (c ∷ s) (b ∷ t) w = let x = reads (c ∷ s) A₁ B₁ (w .first) in let y = reads (b ∷ t) A₂ B₂ (w .second) in mixture-of w x y (ended w x y)
+
+  -- P13's statement
+  pub mixture : (s t : List ℕ) → unmarkedText s ≡ true → unmarkedText t ≡ true → Joinable s t A₁ B₁ A₂ B₂ A B → Mixture s t A₁ B₁ A₂ B₂ A B
+  mixture s t plain plain₂ w = any-mixture s t w

@@ -1,5 +1,5 @@
 -- Every byte, in every mode of the machine, read by a memory and by the one that has n atoms and m bonds before it. Assumes nothing.
-use Prim.Native.Nat.{ℕ, zero, suc, _+_, _-_, _*_, _≤_, _<_}
+use Prim.Native.Nat.{ℕ, zero, suc, _+_, _-_, _*_, _<_}
 use native.Mathlib.Omega.{arith}
 use mathlib.Core.Path.{_≡_, refl, sym, ap, subst, _∙_}
 use mathlib.Core.Bool.{Bool, true, false, _&&_, not}
@@ -20,9 +20,9 @@ use Rattle.reading_grammar.specs.declared.Mode.the-variants.{Seq as seq, Bond a
 use Rattle.reading_grammar.specs.declared.Move.{Move}
 use Rattle.reading_grammar.specs.declared.Move.the-variants.{Stop as stop}
 use Rattle.reading_grammar.specs.declared.MachineState.{MachineState}
-use Rattle.reading_grammar.specs.declared.MachineState.the-variants.{Dead as dead, Start as start, At as at}
-use Rattle.reading_grammar.specs.Machine.{alive, turn, step, next, atomOr, bridgeOr}
-use Rattle.reading_grammar.specs.Fold.{keeps, refuses}
+use Rattle.reading_grammar.specs.declared.MachineState.the-variants.{At as at}
+use Rattle.reading_grammar.specs.Machine.{alive, turn, next, atomOr, bridgeOr}
+use Rattle.reading_grammar.specs.Fold.{keeps}
 use Rattle.reading_grammar.proofs.Ends.{never}
 use Rattle.reading_state.specs.State.{closed}
 use Rattle.reading_state.specs.declared.Fields.{Fields}
@@ -30,11 +30,11 @@ use Rattle.reading.specs.Memory.{Memory, Pending, dotted, symbol, kindOf, after
 use Rattle.reading.specs.Bracket.{digit, isotoped, elemented, hydrogened, signed, positive, extended}
 use Rattle.reading.specs.Bracket as fields
 use Rattle.kinds.specs.Kind.{symbolKind}
-use Rattle.reading.specs.Act.{Acts, orAtom, atomAct, secondLetter, letterAct, bridgeAct, jointAct, closeAct, chargeAct, hydrogenAct, isotopeAct, modeAct, act}
+use Rattle.reading.specs.Act.{Acts, orAtom, atomAct, secondLetter, letterAct, bridgeAct, jointAct, closeAct, chargeAct, hydrogenAct, isotopeAct, modeAct}
 use Rattle.reading.proofs.Sane.{Sane}
 use Rattle.reading.proofs.Letters.{Begins, begins}
 use Rattle.reading.proofs.Atoms.{Held, ready, held-of}
-use Rattle.mixture.proofs.Behind.{Behind, Grown, Room, Side, Both}
+use Rattle.mixture.proofs.Behind.{Behind, Grown, Both}
 use Rattle.mixture.proofs.Steps.{Jointly, described-behind, atom-both}
 use Rattle.mixture.proofs.Bridges.{bridge-both, branch-both, unbranch-behind}
 
@@ -145,9 +145,10 @@ module _ {n m p q d i p′ q′ d′ j : ℕ} {μ κ : Memory} (h : Held p q d i
   closes b = split (eqb b 93)
     where
       split : (t : Bool) → Both n m μ (keeps (pick t (described (rowOf (μ .draft)) μ) μ)) (keeps (pick t (described (rowOf (κ .draft)) κ) κ))
-      split true =
-          (record { atoms = omega arith; bonds = omega arith },
-          λ r. subst (λ (f : Fields). Behind n m (described (rowOf (μ .draft)) μ) (described (rowOf f) κ)) (sym (w .draft)) (described-behind h k w (rowOf (μ .draft))))
+      split true = (
+        record { atoms = omega arith; bonds = omega arith },
+        λ r. subst (λ (f : Fields). Behind n m (described (rowOf (μ .draft)) μ) (described (rowOf f) κ)) (sym (w .draft)) (described-behind h k w (rowOf (μ .draft))),
+      )
       split false = same
 
   charges : (b : ℕ) → Both n m μ (chargeAct b μ) (chargeAct b κ)

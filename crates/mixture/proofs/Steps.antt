@@ -1,40 +1,31 @@
 -- Each thing that a byte does, done to a memory and to the one that has n atoms and m bonds before it. Assumes nothing.
-use Prim.Native.Nat.{ℕ, zero, suc, _+_, _-_, _*_, _≤_, _<_}
+use Prim.Native.Nat.{ℕ, _+_, _≤_, _<_}
 use native.Mathlib.Omega.{arith}
-use native.Mathlib.Numerals.{add-one}
 use native.Mathlib.Decide.{ℕ-discrete}
 use mathlib.Core.Path.{_≡_, refl, sym, ap, subst, _∙_}
-use mathlib.Core.Bool.{Bool, true, false, _&&_, _||_, not, true≢false}
-use mathlib.Core.List.{List, [], _∷_, map}
-use lib.ListN.{length, getD, set, List·getD-map}
+use mathlib.Core.Bool.{Bool, true, false, _&&_, true≢false}
+use mathlib.Core.List.{List, []}
+use lib.ListN.{getD, set}
 use lib.Seq.{getD-set-same, getD-set-other}
-use lib.IntN.{ℤ, pos}
-use lib.Dec.{eqb, leb, ltb}
-use borrow.Author.Tests.{eq-eqb, ne-eqb, eqb-true, eqb-false, lt-ltb, le-ltb, ltb-true, ltb-false, leb-false, lt-leb}
-use Rattle.loops.specs.Loop.{pick, each}
-use Rattle.loops.proofs.Loops.{each-all}
-use Rattle.kinds.specs.Kind.{turned, meet, clash}
+use lib.IntN.{ℤ}
+use lib.Dec.{leb}
+use borrow.Author.Tests.{lt-leb}
+use Rattle.loops.specs.Loop.{pick}
 use Rattle.element.specs.declared.Letter.{Letter}
 use Rattle.element.specs.declared.Letter.the-variants.{Plain, Selected, Half, Bracket, Nothing}
 use Rattle.element.specs.Lookup.{letterOf}
-use Rattle.reading_grammar.specs.Fold.{keeps, refuses}
+use Rattle.reading_grammar.specs.Fold.{keeps}
 use Rattle.table.specs.declared.Atom.{Atom}
-use Rattle.table.specs.declared.Bond.{Bond}
-use Rattle.table.specs.Limits.{maxAtoms, maxBonds, atomCells, bondCells}
-use Rattle.table.specs.Cells.{number, end1, end2}
-use Rattle.table.specs.Rows.{atomRow, bondRow, withAtom, withBond}
-use Rattle.ids.specs.Limits.{maxDepth}
-use Rattle.reading_state.specs.State.{Steering, opened, closed, bridged, joined}
-use Rattle.reading.specs.Memory.{Memory, kindOf, newBond, between, bareRow, bonded, begun, described, moved, joins, joinedAlready, closeRefusal}
-use Rattle.reading.specs.Act.{Acts, firstByte, atomAct, bridgeBond, orRefuse, bridgeAct, branchAct}
+use Rattle.table.specs.Limits.{maxAtoms, maxBonds}
+use Rattle.table.specs.Cells.{number}
+use Rattle.table.specs.Rows.{atomRow, withBond}
+use Rattle.reading.specs.Memory.{Memory, kindOf, newBond, bareRow, bonded, begun, described}
+use Rattle.reading.specs.Act.{firstByte, atomAct}
 use Rattle.reading.proofs.Cases.{by-test}
-use Rattle.reading.proofs.Atoms.{Ready, Held, ready, begun-held, bond-room}
+use Rattle.reading.proofs.Atoms.{Ready, Held, begun-held, bond-room}
 use Rattle.mixture_rows.specs.Beside.{raisedRow, BondsBeside}
-use Rattle.mixture_rows.proofs.Parts.{each-parts}
-use Rattle.mixture_rows.proofs.Graph.{eqb-raised}
-use Rattle.mixture_rows.proofs.Bonds.{second-end1, second-end2}
-use Rattle.mixture.proofs.Rows.{clear-rows, atoms-written, bonds-written, set-alike, map-set}
-use Rattle.mixture.proofs.Behind.{raised, Ground, Grounded, Behind, Grown, Room, Side, Both}
+use Rattle.mixture.proofs.Rows.{clear-rows, atoms-written, bonds-written}
+use Rattle.mixture.proofs.Behind.{Grounded, Behind, Grown, Room, Side, Both}
 
 -- ---- the row of the hub
 module _ {n m p q d i p′ q′ d′ j : ℕ} {μ κ : Memory} (h : Held p q d i μ) (k : Held p′ q′ d′ j κ) (w : Behind n m μ κ) where

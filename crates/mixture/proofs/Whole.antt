@@ -1,10 +1,10 @@
 -- The joined text read whole: the rows of the first text and then those of the second, moved up. Assumes nothing.
-use Prim.Native.Nat.{ℕ, zero, suc, _+_, _≤_, _<_}
+use Prim.Native.Nat.{ℕ, suc, _+_, _<_}
 use native.Mathlib.Omega.{arith}
 use native.Mathlib.Nat.{zero-add}
-use mathlib.Core.Path.{_≡_, refl, sym, ap, subst, _∙_}
+use mathlib.Core.Path.{_≡_, sym, ap, subst, _∙_}
 use mathlib.Core.Bool.{true}
-use mathlib.Core.List.{List, [], _∷_, _++_, map}
+use mathlib.Core.List.{List, [], _∷_, _++_}
 use lib.ListN.{length, getD, List·getD-map}
 use lib.IntN.{ℤ}
 use Rattle.reading_grammar.specs.declared.Last.{Last}
@@ -14,7 +14,6 @@ use Rattle.reading_grammar.specs.declared.MachineState.the-variants.{Start as s
 use Rattle.reading_grammar.specs.Machine.{accepting}
 use Rattle.reading_grammar.specs.Fold.{Reading, going, read}
 use Rattle.reading_grammar.proofs.Fold.{read-append}
-use Rattle.table.specs.Limits.{maxAtoms, maxBonds}
 use Rattle.table.specs.Rows.{atomRow, bondRow}
 use Rattle.table.specs.Valid.{enough}
 use Rattle.reading.specs.Memory.{Memory}
@@ -24,9 +23,8 @@ use Rattle.reading.specs.Conditions.{bytesRead}
 use Rattle.reading.proofs.Sane.{Sane}
 use Rattle.reading.proofs.Step.{sane-beginning, sane-going}
 use Rattle.reading.proofs.Stays.{Same, letter-stays}
-use Rattle.mixture_rows.specs.Beside.{raisedRow}
 use Rattle.mixture.proofs.Behind.{raised, Behind, Room}
-use Rattle.mixture.proofs.Follow.{taken, not-start, unraised, Followed}
+use Rattle.mixture.proofs.Follow.{taken, not-start, unraised}
 use Rattle.mixture.proofs.Join.{other-tables, ends-sequence, no-second, follows-dot}
 
 -- at the end of the joined text: the rows and flags of the first, and the memory of the second behind it

@@ -2,13 +2,13 @@
 use Prim.Native.Nat.{ℕ, _+_, _<_}
 use native.Mathlib.Nat.{zero-add, add-zero}
 use native.Mathlib.Omega.{arith}
-use mathlib.Core.Path.{_≡_, refl, sym, ap, _∙_}
-use mathlib.Core.Bool.{Bool, true, false, _&&_, _||_}
+use mathlib.Core.Path.{_≡_, refl, ap, _∙_}
+use mathlib.Core.Bool.{Bool, false, _&&_, _||_}
 use mathlib.Core.List.{List}
 use lib.IntN.{ℤ}
 use lib.Dec.{eqb}
 use borrow.Author.Tests.{ne-eqb}
-use Rattle.loops.specs.Loop.{pick, howMany, run}
+use Rattle.loops.specs.Loop.{pick}
 use Rattle.loops.proofs.Counting.{many-none}
 use Rattle.kinds.specs.Kind.{elided, double, order, markOf, turned}
 use Rattle.table.specs.declared.Bond.{Bond}

@@ -1,16 +1,17 @@
 -- A row over the bonds of two graphs side by side is a matching exactly if its two parts are. Assumes nothing.
-use Prim.Native.Nat.{ℕ, zero, suc, _+_, _<_}
+use Prim.Native.Nat.{ℕ, suc, _+_, _<_}
 use native.Mathlib.Nat.{zero-add, add-zero}
 use native.Mathlib.Omega.{arith}
 use native.Mathlib.Decide.{ℕ-discrete}
 use mathlib.Core.Path.{_≡_, refl, sym, ap, _∙_}
 use mathlib.Core.Bool.{Bool, true, false, _&&_, _||_, not}
 use mathlib.Core.List.{List, [], _∷_, _++_, map}
-use lib.ListN.{length, getD, List·getD-append}
+use lib.ListN.{length, List·getD-append}
 use lib.Seq.{getD-append-add}
 use lib.Dec.{eqb}
 use borrow.Author.Tests.{eq-eqb, ne-eqb}
 use Rattle.matching.specs.Enumeration.{Row}
+use Rattle.mixture_rows.proofs.Parts.{and-assoc}
 use Rattle.matching.specs.Graph.{Bond, flagged, induced, chosenInduced, countIf, touches, degree, eachOnce, isMatching}
 
 -- a bond with both ends moved up by n
@@ -28,10 +29,6 @@ eqb-raised n a b = split (ℕ-discrete a b)
     split : Dec (a ≡ b) → eqb (n + a) (n + b) ≡ eqb a b
     split (yes e) = eq-eqb (n + a) (n + b) (ap (_+_ n) e) ∙ sym (eq-eqb a b e)
     split (no f) = ne-eqb (n + a) (n + b) (λ e. f (omega arith)) ∙ sym (ne-eqb a b f)
-
-pub and-assoc : (a b c : Bool) → (a && (b && c)) ≡ ((a && b) && c)
-and-assoc true b c = refl
-and-assoc false b c = refl
 
 and-swap : (a b c d : Bool) → ((a && b) && (c && d)) ≡ ((a && c) && (b && d))
 and-swap true true c d = refl

@@ -1,17 +1,15 @@
 -- The late checks of two molecules side by side: none fails where none fails in either. Assumes nothing.
 use Prim.Native.Nat.{ℕ, _+_, _<_}
-use mathlib.Core.Path.{_≡_, refl, sym, ap, _∙_}
-use mathlib.Core.Bool.{Bool, true, false, _&&_, _||_, not}
+use mathlib.Core.Path.{_≡_, refl, ap, _∙_}
+use mathlib.Core.Bool.{Bool, true, _&&_, _||_, not}
 use mathlib.Core.List.{List}
 use lib.IntN.{ℤ}
 use lib.Dec.{eqb, ltb}
-use Rattle.loops.specs.Loop.{each}
 use Rattle.kinds.specs.Kind.{double, up, down, isMark}
-use Rattle.table.specs.declared.Atom.{Atom}
-use Rattle.table.specs.Cells.{number, end1, end2, kind, selected}
+use Rattle.table.specs.Cells.{number, end1, end2, selected}
 use Rattle.table.specs.Marks.{crowded, crowdedBond, noneCrowded, stray, noneStray, doubleCount}
-use Rattle.table.specs.Sound.{bondDegree, loose, noneLoose, lateCode}
-use Rattle.table.proofs.Sound.{Passed, late-none, late-fine}
+use Rattle.table.specs.Sound.{loose, noneLoose, lateCode}
+use Rattle.table.proofs.Sound.{late-none, late-fine}
 use Rattle.mixture_rows.specs.Beside.{Molecule, BondsBeside, Beside}
 use Rattle.mixture_rows.proofs.Parts.{each-parts}
 use Rattle.mixture_rows.proofs.Bonds.{first-end1, first-end2, first-kind, second-end1, second-end2, second-kind, degree-first, degree-second, sides-first, sides-second, doubles-first, doubles-second}

@@ -4,3 +4,4 @@ pub mod Graph
 pub mod Bonds
 pub mod Late
 pub mod Tables
+pub mod Claims

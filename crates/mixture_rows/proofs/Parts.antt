@@ -7,6 +7,9 @@ use mathlib.Core.Bool.{Bool, true, false, _&&_}
 use mathlib.Core.List.{List, [], _∷_, _++_}
 use Rattle.loops.specs.Loop.{pick, each, howMany, run, upTo}
 
+next : (x j : ℕ) → suc x + j ≡ x + suc j
+next x j = omega arith
+
 -- ---- a loop from k on, and one from l on that does the same
 each-alike : (p q : ℕ → Bool) (k l m : ℕ) → ((j : ℕ) → j < m → p (k + j) ≡ q (l + j)) → each p k m ≡ each q l m
 unfolding each
@@ -14,9 +17,6 @@ each-alike p q k l zero h = refl
 each-alike p q k l (suc m) h =
     let e : p k ≡ q l = ap p (sym (add-zero k)) ∙ h 0 (omega arith) ∙ ap q (add-zero l) in
     λ i. e i && each-alike p q (suc k) (suc l) m (λ j s. ap p (next k j) ∙ h (suc j) (omega arith) ∙ ap q (sym (next l j))) i
-  where
-    next : (x j : ℕ) → suc x + j ≡ x + suc j
-    next x j = omega arith
 
 many-alike : (p q : ℕ → Bool) (k l m : ℕ) → ((j : ℕ) → j < m → p (k + j) ≡ q (l + j)) → howMany p k m ≡ howMany q l m
 unfolding howMany
@@ -24,9 +24,6 @@ many-alike p q k l zero h = refl
 many-alike p q k l (suc m) h =
     let e : p k ≡ q l = ap p (sym (add-zero k)) ∙ h 0 (omega arith) ∙ ap q (add-zero l) in
     λ i. pick (e i) 1 0 + many-alike p q (suc k) (suc l) m (λ j s. ap p (next k j) ∙ h (suc j) (omega arith) ∙ ap q (sym (next l j))) i
-  where
-    next : (x j : ℕ) → suc x + j ≡ x + suc j
-    next x j = omega arith
 
 upTo-alike : {A : Type 0} (f g : ℕ → A) (k l m : ℕ) → ((j : ℕ) → j < m → f (k + j) ≡ g (l + j)) → upTo f k m ≡ upTo g l m
 unfolding upTo
@@ -34,9 +31,6 @@ upTo-alike f g k l zero h = refl
 upTo-alike {A = A} f g k l (suc m) h =
     let e : f k ≡ g l = ap f (sym (add-zero k)) ∙ h 0 (omega arith) ∙ ap g (add-zero l) in
     λ i. e i ∷ upTo-alike f g (suc k) (suc l) m (λ j s. ap f (next k j) ∙ h (suc j) (omega arith) ∙ ap g (sym (next l j))) i
-  where
-    next : (x j : ℕ) → suc x + j ≡ x + suc j
-    next x j = omega arith
 
 -- a loop that adds what f gives
 abbrev pub adds : (ℕ → ℕ) → ℕ → ℕ → ℕ
@@ -48,9 +42,6 @@ sum-alike f g k l zero s h = refl
 sum-alike f g k l (suc m) s h =
     let e : f k ≡ g l = ap f (sym (add-zero k)) ∙ h 0 (omega arith) ∙ ap g (add-zero l) in
     ap (λ (x : ℕ). run (adds f) (suc k) m (s + x)) e ∙ sum-alike f g (suc k) (suc l) m (s + g l) (λ j t. ap f (next k j) ∙ h (suc j) (omega arith) ∙ ap g (sym (next l j)))
-  where
-    next : (x j : ℕ) → suc x + j ≡ x + suc j
-    next x j = omega arith
 
 sum-start : (f : ℕ → ℕ) (k m s : ℕ) → run (adds f) k m s ≡ s + run (adds f) k m 0
 unfolding run
@@ -58,7 +49,7 @@ sum-start f k zero s = sym (add-zero s)
 sum-start f k (suc m) s = omega (arith, sum-start f (suc k) m (s + f k), sum-start f (suc k) m (0 + f k))
 
 -- ---- a loop over m + n numbers
-and-assoc : (a b c : Bool) → (a && (b && c)) ≡ ((a && b) && c)
+pub and-assoc : (a b c : Bool) → (a && (b && c)) ≡ ((a && b) && c)
 and-assoc true b c = refl
 and-assoc false b c = refl
 

@@ -1,8 +1,8 @@
 -- Two molecules side by side, as matchings see them: the flags of the first and then of the second, the bonds of the first and then of the second, moved up. Assumes nothing.
-use Prim.Native.Nat.{ℕ, zero, suc, _+_, _*_, _<_, _≤_}
+use Prim.Native.Nat.{ℕ, zero, suc, _+_, _*_, _<_}
 use native.Mathlib.Omega.{arith}
 use mathlib.Core.Path.{_≡_, refl, sym, ap, _∙_}
-use mathlib.Core.Bool.{Bool, true, false, _&&_, true≢false}
+use mathlib.Core.Bool.{true, _&&_, true≢false}
 use mathlib.Core.List.{List, [], _∷_, _++_, map}
 use lib.ListN.{length}
 use lib.IntN.{ℤ}
@@ -17,7 +17,7 @@ use Rattle.matching.specs.Model.{some?}
 use Rattle.table.specs.Cells.{number, end1, end2}
 use Rattle.table_graph.specs.Graph.{flag, delocalizedFlag, delocalizedFlags, bondOf, graphOf, matchingOf, matchable}
 use Rattle.mixture_rows.specs.Rows.{followed}
-use Rattle.mixture_rows.specs.Beside.{Molecule, matchingsOf, BondsBeside, Beside}
+use Rattle.mixture_rows.specs.Beside.{Molecule, matchingsOf, Beside}
 use Rattle.mixture_rows.proofs.Parts.{upTo-parts}
 use Rattle.mixture_rows.proofs.Graph.{raisedBond, AllBelow, matching-parts}
 use Rattle.mixture_rows.proofs.Bonds.{first-end1, first-end2, first-kind, second-end1, second-end2, second-kind, sum-first, sum-second}
