@@ -1,4 +1,4 @@
--- `c1ccccc1.c1ccccc1`: its placements by the statement, from those of `c1ccccc1` by computation. Assumes nothing.
+-- `c1ccccc1.c1ccccc1`: its matchings by the statement, from those of `c1ccccc1` by computation. Assumes nothing.
 use Prim.Native.Nat.{ℕ, _*_}
 use native.Mathlib.Omega.{arith}
 use mathlib.Core.Path.{_≡_, refl, _∙_}
@@ -30,7 +30,7 @@ use Rattle.reading.specs.Act.{atomAct, bridgeAct, branchAct, modeAct, act}
 use Rattle.reading.specs.Read.{hydrogenated, overfullAtoms, leftmost, ended, readFrom, readOf}
 use Rattle.mixture_rows.specs.Rows.{followed}
 use Rattle.mixture.specs.Mixed.{unmarkedText, joinedText}
-use Rattle.mixture.specs.Claims.{placements, Joinable}
+use Rattle.mixture.specs.Claims.{matchingsRead, Joinable}
 use Rattle.mixture.proofs.Mixture.{mixture}
 
 -- c1ccccc1
@@ -44,12 +44,12 @@ atomRubbish = replicate (atomCells * maxAtoms) (pos 7)
 pub bondRubbish : List ℤ
 bondRubbish = replicate (bondCells * maxBonds) (pos 9)
 
--- what is asked of a text, and its placements
+-- what is asked of a text, and its matchings
 record Alone : Type 0 where
   pub accepted : readOf benzene atomRubbish bondRubbish .code ≡ 0
   pub atoms : readOf benzene atomRubbish bondRubbish .atomCount ≡ 6
   pub bonds : readOf benzene atomRubbish bondRubbish .bondCount ≡ 6
-  pub rows : placements (readOf benzene atomRubbish bondRubbish) ≡ (1 ∷ 0 ∷ 1 ∷ 0 ∷ 1 ∷ 0 ∷ []) ∷ (0 ∷ 1 ∷ 0 ∷ 1 ∷ 0 ∷ 1 ∷ []) ∷ []
+  pub rows : matchingsRead (readOf benzene atomRubbish bondRubbish) ≡ (1 ∷ 0 ∷ 1 ∷ 0 ∷ 1 ∷ 0 ∷ []) ∷ (0 ∷ 1 ∷ 0 ∷ 1 ∷ 0 ∷ 1 ∷ []) ∷ []
 
 alone : Alone
 unfolding benzene atomRubbish bondRubbish bondDegree noneLoose side sideCount doubleCount noneCrowded noneStray lateCode each howMany run upTo among listed starts sameBytes symbols letters marks indexFrom numberOf selectedOf letterOf order markOf turned targets firstTarget firstFitting reachedIn hydrogensOf shiftedTarget delocalized nonzero digits several bondSymbols signs step next accepting resting atomOr bridgeOr closing extending charging hydrating symbolOr feed read rows passing isMatching eachOnce degree chosenInduced number withAtom withBond enough touches share bondSum started opened closed joined symbolKind begun joins joinedAlready closeRefusal symbolled atomAct bridgeAct branchAct modeAct act hydrogenated overfullAtoms leftmost matchable ended readFrom readOf
@@ -80,7 +80,7 @@ joinable =
     }
 
 -- each of the two rows of the first, followed by each of the two of the second
-pub two-benzenes : placements (readOf (joinedText benzene benzene) atomRubbish bondRubbish)
+pub two-benzenes : matchingsRead (readOf (joinedText benzene benzene) atomRubbish bondRubbish)
     ≡ (1 ∷ 0 ∷ 1 ∷ 0 ∷ 1 ∷ 0 ∷ 1 ∷ 0 ∷ 1 ∷ 0 ∷ 1 ∷ 0 ∷ [])
     ∷ (1 ∷ 0 ∷ 1 ∷ 0 ∷ 1 ∷ 0 ∷ 0 ∷ 1 ∷ 0 ∷ 1 ∷ 0 ∷ 1 ∷ [])
     ∷ (0 ∷ 1 ∷ 0 ∷ 1 ∷ 0 ∷ 1 ∷ 1 ∷ 0 ∷ 1 ∷ 0 ∷ 1 ∷ 0 ∷ [])

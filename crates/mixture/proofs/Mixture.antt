@@ -1,4 +1,4 @@
--- Two accepted texts joined by a dot: what reading hands back, and the placements. Assumes nothing.
+-- Two accepted texts joined by a dot: what reading hands back, and the matchings. Assumes nothing.
 use Prim.Native.Nat.{ℕ, _*_, _≤_}
 use native.Mathlib.Omega.{arith}
 use mathlib.Core.Path.{_≡_, refl, sym, ap, _∙_}
@@ -23,7 +23,7 @@ use Rattle.reading.proofs.Accepted.{read-sane, halt-code, early}
 use Rattle.mixture_rows.specs.Rows.{followed}
 use Rattle.mixture_rows.proofs.Tables.{matchings-beside, number-beside}
 use Rattle.mixture.specs.Mixed.{unmarkedText, joinedText, raisedBonds, sideBySide, mixed}
-use Rattle.mixture.specs.Claims.{placements, Joinable, Mixture}
+use Rattle.mixture.specs.Claims.{matchingsRead, Joinable, Mixture}
 use Rattle.mixture.proofs.Behind.{Room}
 use Rattle.mixture.proofs.Whole.{Joined, Ended, whole}
 use Rattle.mixture.proofs.Ending.{held-beside, overfull-add, joined-accepted}
@@ -135,8 +135,8 @@ module _ (A₁ B₁ A₂ B₂ A B : List ℤ) where
         let told : readOf (joinedText (c ∷ s) (b ∷ t)) A B ≡ accepted (e .memory) = joined-accepted h k l (e .joined) (joinedText (c ∷ s) (b ∷ t)) A B fits (e .reached) (y .ends) (y .shut) (x .passes) (y .passes) (x .some) (y .some) in
         record {
           accepted = told ∙ accepted-mixed h k l (e .joined) ∙ (λ v. mixed (sym (x .told) v) (sym (y .told) v) (length A) (length B));
-          rows = ap placements told ∙ matchings-beside (held-beside h k l (e .joined)) ∙ (λ v. followed (placements (sym (x .told) v)) (placements (sym (y .told) v)));
-          number = ap (λ (r : ReadResult). length (placements r)) told ∙ number-beside (held-beside h k l (e .joined)) ∙ (λ v. length (placements (sym (x .told) v)) * length (placements (sym (y .told) v)));
+          rows = ap matchingsRead told ∙ matchings-beside (held-beside h k l (e .joined)) ∙ (λ v. followed (matchingsRead (sym (x .told) v)) (matchingsRead (sym (y .told) v)));
+          number = ap (λ (r : ReadResult). length (matchingsRead r)) told ∙ number-beside (held-beside h k l (e .joined)) ∙ (λ v. length (matchingsRead (sym (x .told) v)) * length (matchingsRead (sym (y .told) v)));
         }
 
   -- THE STATEMENT, whatever marks the texts have

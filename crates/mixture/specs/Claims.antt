@@ -14,16 +14,16 @@ use Rattle.mixture_rows.specs.Rows.{followed}
 use Rattle.mixture_rows.specs.Beside.{Molecule, matchingsOf}
 use Rattle.mixture.specs.Mixed.{joinedText, mixed}
 
--- the molecule that reading handed back, and all its placements in 01's order
+-- the molecule that reading handed back, and all its matchings (01's placements) in 01's order
 abbrev pub moleculeOf : ReadResult → Molecule
 moleculeOf t = record { atoms = t .atoms; bonds = t .bonds; atomCount = t .atomCount; bondCount = t .bondCount }
 
-abbrev pub placements : ReadResult → List Row
-placements t = matchingsOf (moleculeOf t)
+abbrev pub matchingsRead : ReadResult → List Row
+matchingsRead t = matchingsOf (moleculeOf t)
 
 -- two texts, the tables that each is read into, and the tables that their join is read into
 module _ (s t : List ℕ) (A₁ B₁ A₂ B₂ A B : List ℤ) where
-  -- "two non-empty accepted texts .. whose join by a dot is within every limit": bytes, atoms and bonds (READING 58); the tables are long enough
+  -- "two non-empty accepted texts .. whose join by a dot is within every limit": its bytes, atoms and bonds; the tables are as long as 01 asks
   pub record Joinable : Type 0 where
     pub first-some : 0 < length s
     pub second-some : 0 < length t
@@ -34,8 +34,8 @@ module _ (s t : List ℕ) (A₁ B₁ A₂ B₂ A B : List ℤ) where
     pub bonds : readOf s A₁ B₁ .bondCount + readOf t A₂ B₂ .bondCount ≤ maxBonds
     pub room : enough A B ≡ true
 
-  -- the joined text is accepted, with both molecules side by side; its placements, and their number
+  -- the joined text is accepted, with both molecules side by side; its matchings, and their number
   pub record Mixture : Type 0 where
     pub accepted : readOf (joinedText s t) A B ≡ mixed (readOf s A₁ B₁) (readOf t A₂ B₂) (length A) (length B)
-    pub rows : placements (readOf (joinedText s t) A B) ≡ followed (placements (readOf s A₁ B₁)) (placements (readOf t A₂ B₂))
-    pub number : length (placements (readOf (joinedText s t) A B)) ≡ length (placements (readOf s A₁ B₁)) * length (placements (readOf t A₂ B₂))
+    pub rows : matchingsRead (readOf (joinedText s t) A B) ≡ followed (matchingsRead (readOf s A₁ B₁)) (matchingsRead (readOf t A₂ B₂))
+    pub number : length (matchingsRead (readOf (joinedText s t) A B)) ≡ length (matchingsRead (readOf s A₁ B₁)) * length (matchingsRead (readOf t A₂ B₂))

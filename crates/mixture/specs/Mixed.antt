@@ -31,7 +31,7 @@ raisedBonds n m t = run (raisedBond n) 0 m t
 abbrev pub sideBySide : ℕ → List ℤ → ℕ → List ℤ → ℕ → List ℤ
 sideBySide x first y second p = take x first ++ (take y second ++ replicate (p - (x + y)) (pos 0))
 
--- what reading the first text and reading the second handed back, together, in tables of p and q cells. "Over-full counts add" (READING 58)
+-- what reading the first text and reading the second handed back, together, in tables of p and q cells: counts of atoms, of bonds and of over-full atoms add
 abbrev pub mixed : ReadResult → ReadResult → ℕ → ℕ → ReadResult
 mixed t u p q =
     record {

@@ -16,7 +16,7 @@ pub record Molecule : Type 0 where
   pub atomCount : ℕ
   pub bondCount : ℕ
 
--- 01: the entries of its book, all its placements in their order
+-- 01: the entries of its book, its placements, in their order
 abbrev pub matchingsOf : Molecule → List Row
 matchingsOf t = matchings (matchingOf (t .atoms) (t .bonds) (t .atomCount) (t .bondCount)) (t .bondCount)
 

@@ -6,7 +6,7 @@ use Rattle.matching.specs.Enumeration.{Row}
 abbrev pub behind : Row → List Row → List Row
 behind r rows = map (λ s. r ++ s) rows
 
--- "For each row of the first, all rows of the second" (READING 58)
+-- for each row of the first, all rows of the second: in 01's order a row of the first decides before any of the second
 unfoldable pub followed : List Row → List Row → List Row
 followed [] second = []
 followed (r ∷ first) second = behind r second ++ followed first second
