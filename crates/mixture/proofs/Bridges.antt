@@ -57,7 +57,7 @@ between-raised n a b k = ap (λ (t : Bool). pick t (newBond (n + a) (n + b) k) (
     split true = refl
     split false = refl
 
-and-none : (x : Bool) → (x && false) ≡ false
+pub and-none : (x : Bool) → (x && false) ≡ false
 and-none true = refl
 and-none false = refl
 

@@ -2,7 +2,7 @@
 use Prim.Native.Nat.{ℕ, zero, suc}
 use native.Mathlib.Omega.{arith}
 use mathlib.Core.Path.{_≡_, refl, sym, ap, subst, _∙_}
-use mathlib.Core.Bool.{Bool, true, false, _&&_, not}
+use mathlib.Core.Bool.{true, not}
 use mathlib.Core.List.{List, [], _∷_, map}
 use lib.ListN.{getD, replicate, length-map, List·getD-map, length-replicate}
 use lib.Seq.{ext-getD}
@@ -32,6 +32,7 @@ use Rattle.reading.proofs.Atoms.{Ready, ready, ready-start, held-of}
 use Rattle.reading.proofs.Step.{sane-beginning, sane-going}
 use Rattle.mixture.proofs.Behind.{raised, Grounded, Room, Both}
 use Rattle.mixture.proofs.Steps.{Jointly, atom-both}
+use Rattle.mixture.proofs.Bridges.{and-none}
 use Rattle.mixture.proofs.Modes.{only-atom}
 use Rattle.mixture.proofs.Follow.{taken, takes, sane-taken, not-start, tens-first, read-grown, room-before, Step, step-of, Followed, follows}
 
@@ -137,10 +138,6 @@ pub no-second : (x : Last) → Second x 46 → ⊥
 no-second plain e = e
 no-second afterC e = omega arith
 no-second afterB e = omega arith
-
-and-none : (x : Bool) → (x && false) ≡ false
-and-none true = refl
-and-none false = refl
 
 -- ---- the second text, behind the dot
 module _ {p q j : ℕ} {x : Last} {ν : Memory} (k : Sane p q (at (seq x) 0) j ν) (shut : (r : ℕ) → getD (ν .st .opener) r 0 ≡ 0) (A B : List ℤ) where
