@@ -1,0 +1,4 @@
+pub mod Low
+pub mod Mixing
+pub mod Spreading
+pub mod Kept
