@@ -1,4 +1,5 @@
 pub mod Low
 pub mod Mixing
 pub mod Spreading
+pub mod Filling
 pub mod Kept

@@ -40,6 +40,9 @@ bump-low s e x h w = record { at = λ i. go i (ltb i (length s)) refl }
 pub low-more : {o : List ℕ} {h k : ℕ} → Low o h → h ≤ k → Low o k
 low-more w l = record { at = λ i. omega (arith, w .at i) }
 
+pub low-same : {o l : List ℕ} {h : ℕ} → o ≡ l → Low l h → Low o h
+low-same e w = rw e w
+
 pub zeros-low : (m h : ℕ) → Low (replicate m 0) h
 zeros-low m h = record { at = λ i. go i (ltb i m) refl }
   where

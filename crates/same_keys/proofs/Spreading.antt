@@ -60,6 +60,10 @@ pub next-low : (e f : ℕ → ℕ) (m n r : ℕ) (keys : List ℕ) → m ≤ max
 unfolding nextKeys
 next-low e f m n r keys l w = low-more (run-low e f (filledTo (mixedAt keys) n) (mixed-all-low keys n) 0 m (highest r) keys w) (omega arith)
 
+pub as-next : (e f : ℕ → ℕ) (m n : ℕ) (keys : List ℕ) {mx keys′ : List ℕ} → mx ≡ filledTo (mixedAt keys) n → keys′ ≡ run (spread e f mx) 0 m keys → keys′ ≡ nextKeys e f m n keys
+unfolding nextKeys
+as-next e f m n keys p q = q ∙ rw p
+
 -- the loop over the rounds stands at i
 pub record Refining (e f : ℕ → ℕ) (m n : ℕ) (keys₀ : List ℕ) (i : ℕ) (keys : List ℕ) : Type 0 where
   pub ran : Ran (λ (i : ℕ) (s : List ℕ). nextKeys e f m n s) keys₀ rounds i keys

@@ -70,7 +70,7 @@ fn plus(x: u16, y: u8) -> u64
 
 // The keys that n atoms begin with, from their bond sums and flags.
 fn fill_first(atoms: &[i32], sums: &[u16; SIDE], flags: &[u8; SIDE], n: usize, keys: &mut [u64; SIDE])
-    requires { ⌜ n ≤ maxSame ⌝ }
+    requires { ⌜ (n ≤ maxSame) × (maxSame ≤ length (now keys)) ⌝ }
     ensures { λ _. ⌜ now (keys .exit) ≡ upTo (sumKey (now (atoms .entry)) (now (sums .entry)) (now (flags .entry))) 0 n ++ drop n (now (keys .entry)) ⌝ }
 {
     let mut i = 0;
@@ -82,7 +82,7 @@ fn fill_first(atoms: &[i32], sums: &[u16; SIDE], flags: &[u8; SIDE], n: usize, k
 
 // The keys of n atoms, each mixed.
 fn mix_all(keys: &[u64; SIDE], n: usize, mixed: &mut [u64; SIDE])
-    requires { ⌜ n ≤ maxSame ⌝ }
+    requires { ⌜ (n ≤ maxSame) × (maxSame ≤ length (now mixed)) ⌝ }
     ensures { λ _. ⌜ now (mixed .exit) ≡ upTo (mixedAt (now (keys .entry))) 0 n ++ drop n (now (mixed .entry)) ⌝ }
 {
     let mut i = 0;

@@ -1,63 +1,57 @@
+-- `same_keys::fill_first` meets its contract. Assumes nothing.
+use Prim.Native.Nat.{_-_, _*_, _≤_}
+use native.Mathlib.Omega.{arith}
+use mathlib.Core.Path.{ap, _∙_}
+use denote.Ref.{now}
+use Prim.Native.Nat.{ℕ}
+use Rattle.loops.proofs.Loops.{Edited, fills, edited-start, filled-step, filled-end}
+use Rattle.same_keys.specs.Keys.{firstKey, sumKey}
 use Rattle.same_keys.proofs.fill_first.Statement.{statement}
 use Rattle.same_keys.proofs.fill_first.Tie as tie
-use Rattle.same_keys.proofs.fill_first.Reads as reads
-use Rattle.same_keys.proofs.fill_first.Lts as lts
-use Rattle.same_keys.proofs.first_key.Reads as first-key-reads
-use Rattle.same_keys.proofs.plus.Reads as plus-reads
 
 abbrev Inv-loop : tie.InvT-loop
-Inv-loop atoms sums flags n keys₀ i₀ keys i = ?
+Inv-loop atoms sums flags n keys₀ i₀ keys i = Edited (fills (sumKey atoms sums flags)) keys₀ n i keys
 
 abbrev μ-loop : tie.MeasureT-loop
-μ-loop atoms sums flags n keys₀ i₀ keys i = ?
+μ-loop atoms sums flags n keys₀ i₀ keys i = n - i
 
--- src/lib.rt:77:5
 loop-holds : tie.Need-loop-holds Inv-loop μ-loop
-loop-holds c = ?
+loop-holds c = edited-start
 
--- src/lib.rt:78:52
 mul-plus : tie.Need-mul-plus Inv-loop μ-loop
-mul-plus c = ?
+mul-plus c = omega arith
 
--- src/lib.rt:78:52
 element-copy-out-plus : tie.Need-element-copy-out-plus Inv-loop μ-loop
-element-copy-out-plus c = ?
+element-copy-out-plus c = omega arith
 
--- src/lib.rt:78:61
 element-copy-out-plus-2 : tie.Need-element-copy-out-plus-2 Inv-loop μ-loop
-element-copy-out-plus-2 c = ?
+element-copy-out-plus-2 c = omega arith
 
--- src/lib.rt:78:47
 plus-requires : tie.Need-plus-requires Inv-loop μ-loop
-plus-requires c κs = ?
+plus-requires c κs = tt
 
--- src/lib.rt:78:19
 first-key-requires : tie.Need-first-key-requires Inv-loop μ-loop
-first-key-requires c κs = ?
+first-key-requires c κs = omega arith
 
--- src/lib.rt:78:9
 mul-keys : tie.Need-mul-keys Inv-loop μ-loop
-mul-keys c = ?
+mul-keys c = omega arith
 
--- src/lib.rt:78:9
 element-write-keys : tie.Need-element-write-keys Inv-loop μ-loop
-element-write-keys c = ?
+element-write-keys c = omega arith
 
--- src/lib.rt:79:9
 add-i : tie.Need-add-i Inv-loop μ-loop
-add-i c = ?
+add-i c = omega arith
 
--- src/lib.rt:77:5
 loop-less : tie.Need-loop-less Inv-loop μ-loop
-loop-less c = ?
+loop-less c = omega arith
 
--- src/lib.rt:77:5
 loop-again : tie.Need-loop-again Inv-loop μ-loop
-loop-again c = ?
+loop-again c = let v = c .before .before .before .before .before .loop in
+    let s = c .before .before .before .before .before .before in
+    filled-step (v .inv) _ (c .before .before .before .before .loop-test .taken) (c .first-key .ensures ∙ ap (firstKey (now (s .args .atoms)) (v .i)) (c .before .plus .ensures))
 
--- src/lib.rt:72:1
 returns : tie.Need-returns Inv-loop μ-loop
-returns c = ?
+returns c = filled-end (c .before .loop .inv) (omega (arith, c .before .before .pre)) (c .loop-test .left)
 
 pub fill-first-spec : {M : Type 1} → statement M
 fill-first-spec =

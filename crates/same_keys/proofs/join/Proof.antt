@@ -1,7 +1,7 @@
 -- `same_keys::join` meets its contract. Assumes nothing.
 use native.Mathlib.Omega.{arith}
-use Rattle.same_keys.specs.Keys.{joinKeys}
-use Rattle.same_keys.proofs.Low.{bump-low}
+use Rattle.same_keys.specs.Keys.{joinKeys, highest}
+use Rattle.same_keys.proofs.Spreading.{half-low}
 use borrow.Author.Needs.{needs}
 use Rattle.same_keys.proofs.join.Statement.{statement}
 use Rattle.same_keys.proofs.join.Tie as tie
@@ -19,7 +19,7 @@ element-copy-out-keys-2 : tie.Need-element-copy-out-keys-2
 element-copy-out-keys-2 c = search needs
 
 add-keys : tie.Need-add-keys
-add-keys c = let s = c .before in omega (arith, s .pre .1 .0 .at (s .args .b), s .pre .1 .1 .at (s .args .a))
+add-keys c = let s = c .before .before in omega (arith, s .pre .1 .0 .at (s .args .b), s .pre .1 .1 .at (s .args .a))
 
 element-write-keys : tie.Need-element-write-keys
 element-write-keys c = search needs
@@ -37,7 +37,9 @@ element-copy-out-keys-4 : tie.Need-element-copy-out-keys-4
 element-copy-out-keys-4 c = search needs
 
 add-keys-2 : tie.Need-add-keys-2
-add-keys-2 c = ?
+add-keys-2 c =
+    let s = c .before .before .before .before in
+    omega (arith, half-low _ (s .args .a) (s .args .b) (highest 20) (s .pre .1 .0) (s .pre .1 .1) .at (s .args .b), s .pre .1 .0 .at (s .args .a))
 
 element-write-keys-2 : tie.Need-element-write-keys-2
 element-write-keys-2 c = search needs

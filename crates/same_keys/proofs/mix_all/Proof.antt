@@ -1,54 +1,46 @@
+-- `same_keys::mix_all` meets its contract. Assumes nothing.
+use Prim.Native.Nat.{_-_, _*_, _≤_}
+use native.Mathlib.Omega.{arith}
+use Rattle.loops.proofs.Loops.{Edited, fills, edited-start, filled-step, filled-end}
+use Rattle.same_keys.specs.Keys.{mixedAt}
 use Rattle.same_keys.proofs.mix_all.Statement.{statement}
 use Rattle.same_keys.proofs.mix_all.Tie as tie
-use Rattle.same_keys.proofs.mix_all.Reads as reads
-use Rattle.same_keys.proofs.mix_all.Lts as lts
-use Rattle.same_keys.proofs.mix.Reads as mix-reads
 
 abbrev Inv-loop : tie.InvT-loop
-Inv-loop keys n mixed₀ i₀ mixed i = ?
+Inv-loop keys n mixed₀ i₀ mixed i = Edited (fills (mixedAt keys)) mixed₀ n i mixed
 
 abbrev μ-loop : tie.MeasureT-loop
-μ-loop keys n mixed₀ i₀ mixed i = ?
+μ-loop keys n mixed₀ i₀ mixed i = n - i
 
--- src/lib.rt:89:5
 loop-holds : tie.Need-loop-holds Inv-loop μ-loop
-loop-holds c = ?
+loop-holds c = edited-start
 
--- src/lib.rt:90:24
 mul-mix : tie.Need-mul-mix Inv-loop μ-loop
-mul-mix c = ?
+mul-mix c = omega arith
 
--- src/lib.rt:90:24
 element-copy-out-mix : tie.Need-element-copy-out-mix Inv-loop μ-loop
-element-copy-out-mix c = ?
+element-copy-out-mix c = omega arith
 
--- src/lib.rt:90:20
 mix-requires : tie.Need-mix-requires Inv-loop μ-loop
-mix-requires c κs = ?
+mix-requires c κs = tt
 
--- src/lib.rt:90:9
 mul-mixed : tie.Need-mul-mixed Inv-loop μ-loop
-mul-mixed c = ?
+mul-mixed c = omega arith
 
--- src/lib.rt:90:9
 element-write-mixed : tie.Need-element-write-mixed Inv-loop μ-loop
-element-write-mixed c = ?
+element-write-mixed c = omega arith
 
--- src/lib.rt:91:9
 add-i : tie.Need-add-i Inv-loop μ-loop
-add-i c = ?
+add-i c = omega arith
 
--- src/lib.rt:89:5
 loop-less : tie.Need-loop-less Inv-loop μ-loop
-loop-less c = ?
+loop-less c = omega arith
 
--- src/lib.rt:89:5
 loop-again : tie.Need-loop-again Inv-loop μ-loop
-loop-again c = ?
+loop-again c = filled-step (c .before .before .before .loop .inv) _ (c .before .before .loop-test .taken) (c .mix .ensures)
 
--- src/lib.rt:84:1
 returns : tie.Need-returns Inv-loop μ-loop
-returns c = ?
+returns c = filled-end (c .before .loop .inv) (omega (arith, c .before .before .pre)) (c .loop-test .left)
 
 pub mix-all-spec : {M : Type 1} → statement M
 mix-all-spec =
