@@ -69,7 +69,13 @@ fn plus(x: u16, y: u8) -> u64
 }
 
 // The keys that n atoms begin with, from their bond sums and flags.
-fn fill_first(atoms: &[i32], sums: &[u16; SIDE], flags: &[u8; SIDE], n: usize, keys: &mut [u64; SIDE])
+fn fill_first(
+    atoms: &[i32],
+    sums: &[u16; SIDE],
+    flags: &[u8; SIDE],
+    n: usize,
+    keys: &mut [u64; SIDE],
+)
     requires { ⌜ (n ≤ maxSame) × (maxSame ≤ length (now keys)) ⌝ }
     ensures { λ _. ⌜ now (keys .exit) ≡ upTo (sumKey (now (atoms .entry)) (now (sums .entry)) (now (flags .entry))) 0 n ++ drop n (now (keys .entry)) ⌝ }
 {
@@ -139,13 +145,7 @@ fn next_keys(
 }
 
 // All rounds.
-fn refine(
-    ea: &[u16; MAX_BONDS],
-    eb: &[u16; MAX_BONDS],
-    m: usize,
-    n: usize,
-    keys: &mut [u64; SIDE],
-)
+fn refine(ea: &[u16; MAX_BONDS], eb: &[u16; MAX_BONDS], m: usize, n: usize, keys: &mut [u64; SIDE])
     requires { ⌜ Inside (now ea) (now eb) m ⌝ }
     requires { ⌜ (n ≤ maxSame) × Low (now keys) prime ⌝ }
     ensures { λ _. ⌜ now (keys .exit) ≡ refined (at (now (ea .entry))) (at (now (eb .entry))) m n (now (keys .entry)) ⌝ }
