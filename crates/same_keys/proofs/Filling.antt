@@ -3,6 +3,7 @@ use mathlib.Core.Path.{_≡_, refl, sym, ap, _∙_}
 use mathlib.Core.List.{List, _++_}
 use Prim.Native.Nat.{ℕ, zero, suc, _+_, _<_, _≤_}
 use native.Mathlib.Omega.{arith}
+use native.Mathlib.Nat.{div-add-mod'}
 use lib.IntN.{ℤ}
 use lib.ListN.{length, getD, take, drop, replicate, length-replicate}
 use lib.Seq.{getD-take}
@@ -22,8 +23,11 @@ use Rattle.same_keys.specs.Keys.{prime, firstKey, sumKey, at, filledTo, 
 use Rattle.same_keys.proofs.Low.{low-same, low-filled}
 use Rattle.same_keys.proofs.Mixing.{first-key-low}
 
+pub half-small : (n : ℕ) → n ≤ maxSame → rounds n ≤ 40
+half-small n l = let h = div-add-mod' n 2 in omega arith
+
 -- loops whose steps agree
-run-agree : {S : Type 0} (p q : ℕ → S → S) (k m : ℕ) (s : S) → ((j : ℕ) (s : S) → j < k + m → p j s ≡ q j s) → run p k m s ≡ run q k m s
+pub run-agree : {S : Type 0} (p q : ℕ → S → S) (k m : ℕ) (s : S) → ((j : ℕ) (s : S) → j < k + m → p j s ≡ q j s) → run p k m s ≡ run q k m s
 unfolding run
 run-agree p q k zero s h = refl
 run-agree p q k (suc m) s h = rw (h k s (omega arith)) (run-agree p q (suc k) m (q k s) (λ j s l. h j s (omega arith)))
@@ -35,15 +39,15 @@ module _ (e f e′ f′ : ℕ → ℕ) (m n : ℕ) (h : (k : ℕ) → k < m → 
       let mx = filledTo (mixedAt keys) n in
       run-agree (spread e f mx) (spread e′ f′ mx) 0 m keys (λ k s l. λ i. joinKeys mx (h k (omega arith) i) (g k (omega arith) i) s)
 
-  refined-agree : (keys : List ℕ) → refined e f m n keys ≡ refined e′ f′ m n keys
+  pub refined-agree : (r : ℕ) (keys : List ℕ) → refined e f m n r keys ≡ refined e′ f′ m n r keys
   unfolding refined
-  refined-agree keys = run-agree (λ (i : ℕ) (s : List ℕ). nextKeys e f m n s) (λ (i : ℕ) (s : List ℕ). nextKeys e′ f′ m n s) 0 rounds keys (λ k s l. next-agree s)
+  refined-agree r keys = run-agree (λ (i : ℕ) (s : List ℕ). nextKeys e f m n s) (λ (i : ℕ) (s : List ℕ). nextKeys e′ f′ m n s) 0 r keys (λ k s l. next-agree s)
 
 module _ {atoms bonds : List ℤ} {n m : ℕ} (v : Valid atoms bonds n m) (few : n ≤ maxSame) {ea eb el : List ℕ} (w : Wired bonds m ea eb el) where
-  first-at : (k : ℕ) → k < m → at ea k ≡ end1 bonds k
+  pub first-at : (k : ℕ) → k < m → at ea k ≡ end1 bonds k
   first-at k l = sym (getD-take m ea k 0 l) ∙ ap (λ (t : List ℕ). getD t k 0) (w .first-part) ∙ upTo-at (end1 bonds) m k 0 l
 
-  second-at : (k : ℕ) → k < m → at eb k ≡ end2 bonds k
+  pub second-at : (k : ℕ) → k < m → at eb k ≡ end2 bonds k
   second-at k l = sym (getD-take m eb k 0 l) ∙ ap (λ (t : List ℕ). getD t k 0) (w .second-part) ∙ upTo-at (end2 bonds) m k 0 l
 
   pub inside : Inside ea eb m
@@ -73,8 +77,8 @@ module _ {atoms bonds : List ℤ} {n m : ℕ} (v : Valid atoms bonds n m) (few :
     key-at : (a : ℕ) → a < n → sumKey atoms sums flags a ≡ firstKey atoms a (settledSum (molecule atoms bonds n m) a)
     key-at a l = λ i. firstKey atoms a (sum-at a l i + flag-at a l i)
 
-    pub keys-filled : {keys₂ : List ℕ} → keys₂ ≡ refined (at ea) (at eb) m n keys₁ → keys₂ ≡ keysOf (molecule atoms bonds n m)
+    pub keys-filled : {keys₂ : List ℕ} → keys₂ ≡ refined (at ea) (at eb) m n (rounds n) keys₁ → keys₂ ≡ keysOf (molecule atoms bonds n m)
     unfolding keysOf
     keys-filled r =
-        r ∙ ap (refined (at ea) (at eb) m n) (first-keys ∙ ap (λ (t : List ℕ). t ++ drop n (replicate maxSame 0)) (upTo-ext (sumKey atoms sums flags) (λ a. firstKey atoms a (settledSum (molecule atoms bonds n m) a)) 0 n (λ j l. key-at j (omega arith))))
-        ∙ refined-agree (at ea) (at eb) (end1 bonds) (end2 bonds) m n first-at second-at (filledTo (λ a. firstKey atoms a (settledSum (molecule atoms bonds n m) a)) n)
+        r ∙ ap (refined (at ea) (at eb) m n (rounds n)) (first-keys ∙ ap (λ (t : List ℕ). t ++ drop n (replicate maxSame 0)) (upTo-ext (sumKey atoms sums flags) (λ a. firstKey atoms a (settledSum (molecule atoms bonds n m) a)) 0 n (λ j l. key-at j (omega arith))))
+        ∙ refined-agree (at ea) (at eb) (end1 bonds) (end2 bonds) m n first-at second-at (rounds n) (filledTo (λ a. firstKey atoms a (settledSum (molecule atoms bonds n m) a)) n)

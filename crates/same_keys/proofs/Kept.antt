@@ -1,5 +1,5 @@
 -- Keys are kept by every redrawing: an atom and its image have equal keys, and the sums over all atoms are equal. Assumes nothing.
-use mathlib.Core.Path.{_≡_, refl, sym, ap, _∙_}
+use mathlib.Core.Path.{_≡_, refl, sym, ap, _∙_, subst}
 use mathlib.Core.Bool.{Bool, true, false, _&&_, _||_}
 use mathlib.Core.List.{List}
 use Prim.Native.Nat.{ℕ, zero, suc, _+_, _<_, _≤_}
@@ -74,7 +74,7 @@ other-end n a e f g l h = go (eqb e a) (eqb f a) refl refl
 
 -- a round of a molecule: each atom adds the mixed keys of those that it is joined to
 module _ (x : Molecule) (v : Valid (x .atoms) (x .bonds) (x .n) (x .m)) (few : x .n ≤ maxSame) where
-  abbrev next : List ℕ → List ℕ
+  abbrev pub next : List ℕ → List ℕ
   next keys = nextKeys (end1 (x .bonds)) (end2 (x .bonds)) (x .m) (x .n) keys
 
   module _ (keys : List ℕ) (size : length keys ≡ maxSame) where
@@ -103,13 +103,13 @@ pub record Kept (n : ℕ) (t keys1 keys2 : List ℕ) : Type 0 where
   pub kept : (a : ℕ) → a < n → at keys1 a ≡ at keys2 (image t a)
 
 module _ {x y : Molecule} (w : Redrawing x y) (v1 : Valid (x .atoms) (x .bonds) (x .n) (x .m)) (v2 : Valid (y .atoms) (y .bonds) (y .n) (y .m)) (few : x .n ≤ maxSame) where
-  abbrev t : List ℕ
+  abbrev pub t : List ℕ
   t = w .renumbering
 
-  few2 : y .n ≤ maxSame
+  pub few2 : y .n ≤ maxSame
   few2 = let e : x .n ≡ y .n = w .counts in omega arith
 
-  below : (a : ℕ) → a < x .n → image t a < y .n
+  pub below : (a : ℕ) → a < x .n → image t a < y .n
   below a l = let q = w .renumbers .below a l in let e : x .n ≡ y .n = w .counts in omega arith
 
   next-kept : (keys1 keys2 : List ℕ) → Kept (x .n) t keys1 keys2 → Kept (x .n) t (next x v1 few keys1) (next y v2 few2 keys2)
@@ -129,7 +129,7 @@ module _ {x y : Molecule} (w : Redrawing x y) (v1 : Valid (x .atoms) (x .bonds) 
           ∙ total-permuted (x .n) (image t) (w .renumbers .below) (w .renumbers .one) (λ b. pick (joined y (image t a) b) (mixedAt keys2 b) 0)
           ∙ ap (total (λ b. pick (joined y (image t a) b) (mixedAt keys2 b) 0)) (w .counts)
 
-  rounds-kept : (k j : ℕ) (keys1 keys2 : List ℕ) → Kept (x .n) t keys1 keys2
+  pub rounds-kept : (k j : ℕ) (keys1 keys2 : List ℕ) → Kept (x .n) t keys1 keys2
       → Kept (x .n) t (run (λ (i : ℕ) (s : List ℕ). next x v1 few s) k j keys1) (run (λ (i : ℕ) (s : List ℕ). next y v2 few2 s) k j keys2)
   unfolding run
   rounds-kept k zero keys1 keys2 h = h
@@ -149,7 +149,8 @@ module _ {x y : Molecule} (w : Redrawing x y) (v1 : Valid (x .atoms) (x .bonds) 
   pub keys-kept : Kept (x .n) t (keysOf x) (keysOf y)
   unfolding keysOf refined
   keys-kept =
-      rounds-kept 0 rounds (filledTo first1 (x .n)) (filledTo first2 (y .n))
+      subst (λ (k : ℕ). Kept (x .n) t (run (λ (i : ℕ) (s : List ℕ). next x v1 few s) 0 (rounds (x .n)) (filledTo first1 (x .n))) (run (λ (i : ℕ) (s : List ℕ). next y v2 few2 s) 0 (rounds k) (filledTo first2 (y .n)))) (w .counts)
+      (rounds-kept 0 (rounds (x .n)) (filledTo first1 (x .n)) (filledTo first2 (y .n))
       (record {
         size1 = filled-length first1 (x .n) few;
         size2 = filled-length first2 (y .n) few2;
@@ -157,7 +158,7 @@ module _ {x y : Molecule} (w : Redrawing x y) (v1 : Valid (x .atoms) (x .bonds) 
             filled-at first1 (x .n) a 0 (filledTo first1 (x .n)) (drop (x .n) (replicate maxSame 0)) refl l
             ∙ first-kept a l
             ∙ sym (filled-at first2 (y .n) (image t a) 0 (filledTo first2 (y .n)) (drop (y .n) (replicate maxSame 0)) refl (below a l));
-      })
+      }))
     where
       first1 : ℕ → ℕ
       first1 a = firstKey (x .atoms) a (settledSum x a)

@@ -3,3 +3,4 @@ pub mod Mixing
 pub mod Spreading
 pub mod Filling
 pub mod Kept
+pub mod Pairs

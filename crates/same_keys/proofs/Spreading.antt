@@ -12,7 +12,7 @@ use Rattle.loops.proofs.Loops.{Ran, ran-start, ran-step, ran-end}
 use Rattle.table.specs.Limits.{maxBonds}
 use Rattle.table_graph.specs.Built.{bump}
 use Rattle.same_model.specs.Same.{maxSame}
-use Rattle.same_keys.specs.Keys.{prime, mixed, at, filledTo, mixedAt, joinKeys, spread, nextKeys, rounds, refined, Low, highest, Inside}
+use Rattle.same_keys.specs.Keys.{prime, mixed, at, filledTo, mixedAt, joinKeys, spread, nextKeys, refined, Low, highest, Inside}
 use Rattle.same_keys.proofs.Low.{bump-at, bump-low, low-more, low-filled}
 use Rattle.same_keys.proofs.Mixing.{mixed-low}
 
@@ -64,18 +64,26 @@ pub as-next : (e f : ℕ → ℕ) (m n : ℕ) (keys : List ℕ) {mx keys′ : Li
 unfolding nextKeys
 as-next e f m n keys p q = q ∙ rw p
 
--- the loop over the rounds stands at i
-pub record Refining (e f : ℕ → ℕ) (m n : ℕ) (keys₀ : List ℕ) (i : ℕ) (keys : List ℕ) : Type 0 where
-  pub ran : Ran (λ (i : ℕ) (s : List ℕ). nextKeys e f m n s) keys₀ rounds i keys
-  pub low : Low keys (highest i)
+pub refined-low : (e f : ℕ → ℕ) (m n r s : ℕ) (keys : List ℕ) → m ≤ maxBonds → Low keys (highest s) → Low (refined e f m n r keys) (highest (s + r))
+unfolding refined run
+refined-low e f m n r s keys l w = go 0 r s keys w
+  where
+    go : (k r s : ℕ) (keys : List ℕ) → Low keys (highest s) → Low (run (λ (i : ℕ) (u : List ℕ). nextKeys e f m n u) k r keys) (highest (s + r))
+    go k zero s keys w = low-more w (omega arith)
+    go k (suc r) s keys w = low-more (go (suc k) r (s + 1) (nextKeys e f m n keys) (next-low e f m n s keys l w)) (omega arith)
 
-pub refining-start : {e f : ℕ → ℕ} {m n : ℕ} {keys : List ℕ} → Low keys prime → Refining e f m n keys 0 keys
+-- the loop over the rounds stands at i
+pub record Refining (e f : ℕ → ℕ) (m n r : ℕ) (keys₀ : List ℕ) (i : ℕ) (keys : List ℕ) : Type 0 where
+  pub ran : Ran (λ (i : ℕ) (s : List ℕ). nextKeys e f m n s) keys₀ r i keys
+  pub low : Low keys (highest (34 + i))
+
+pub refining-start : {e f : ℕ → ℕ} {m n r : ℕ} {keys : List ℕ} → Low keys (highest 34) → Refining e f m n r keys 0 keys
 refining-start w = record { ran = ran-start; low = low-more w (omega arith) }
 
-module _ {e f : ℕ → ℕ} {m n i : ℕ} {keys₀ keys : List ℕ} (w : Refining e f m n keys₀ i keys) where
-  pub refining-step : m ≤ maxBonds → i < rounds → {keys′ : List ℕ} → keys′ ≡ nextKeys e f m n keys → Refining e f m n keys₀ (i + 1) keys′
-  refining-step l h {keys′} r = record { ran = ran-step (w .ran) keys′ h r; low = rw r (next-low e f m n i keys l (w .low)) }
+module _ {e f : ℕ → ℕ} {m n r i : ℕ} {keys₀ keys : List ℕ} (w : Refining e f m n r keys₀ i keys) where
+  pub refining-step : m ≤ maxBonds → i < r → {keys′ : List ℕ} → keys′ ≡ nextKeys e f m n keys → Refining e f m n r keys₀ (i + 1) keys′
+  refining-step l h {keys′} q = record { ran = ran-step (w .ran) keys′ h q; low = rw q (low-more (next-low e f m n (34 + i) keys l (w .low)) (omega arith)) }
 
-  pub refining-end : rounds ≤ i → keys ≡ refined e f m n keys₀
+  pub refining-end : r ≤ i → keys ≡ refined e f m n r keys₀
   unfolding refined
   refining-end h = ran-end (w .ran) h

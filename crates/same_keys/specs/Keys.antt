@@ -1,10 +1,11 @@
 -- auxiliary: keys of atoms that every redrawing keeps: numbers that grow, round by round, by those of the atoms they are joined to; no claim rests on how well they tell atoms apart
-use Prim.Native.Nat.{ℕ, _+_, _*_, _<_, _≤_, _%_}
+use Prim.Native.Nat.{ℕ, _+_, _*_, _<_, _≤_, _/_, _%_}
 use mathlib.Core.Path.{_≡_}
+use mathlib.Core.Bool.{Bool}
 use mathlib.Core.List.{List, _++_}
-use lib.ListN.{length, getD, drop, replicate}
+use lib.ListN.{getD, set, drop, replicate}
 use lib.IntN.{ℤ, pos, negsuc}
-use Rattle.loops.specs.Loop.{run, upTo}
+use Rattle.loops.specs.Loop.{pick, run, upTo}
 use Rattle.table.specs.Limits.{maxBonds, ELEMENT, ISOTOPE, HYDROGENS, CHARGE, EXTENSION}
 use Rattle.table.specs.Cells.{number, atomCell, end1, end2}
 use Rattle.table_graph.specs.Built.{bump}
@@ -60,16 +61,53 @@ spread e f mx k keys = joinKeys mx (e k) (f k) keys
 unfoldable pub nextKeys : (ℕ → ℕ) → (ℕ → ℕ) → ℕ → ℕ → List ℕ → List ℕ
 nextKeys e f m n keys = run (spread e f (filledTo (mixedAt keys) n)) 0 m keys
 
--- how many rounds of neighbours a key tells of
-abbrev pub rounds : ℕ
-rounds = 8
+-- r rounds
+unfoldable pub refined : (ℕ → ℕ) → (ℕ → ℕ) → ℕ → ℕ → ℕ → List ℕ → List ℕ
+refined e f m n r keys = run (λ (i : ℕ) (s : List ℕ). nextKeys e f m n s) 0 r keys
 
-unfoldable pub refined : (ℕ → ℕ) → (ℕ → ℕ) → ℕ → ℕ → List ℕ → List ℕ
-refined e f m n keys = run (λ (i : ℕ) (s : List ℕ). nextKeys e f m n s) 0 rounds keys
+-- how many rounds of neighbours a key tells of: both ends of a chain of n atoms reach its middle
+abbrev pub rounds : ℕ → ℕ
+rounds n = n / 2 + 1
+
+abbrev pub refinedOf : Molecule → ℕ → List ℕ → List ℕ
+refinedOf x r keys = refined (end1 (x .bonds)) (end2 (x .bonds)) (x .m) (x .n) r keys
 
 -- the keys of a molecule
 unfoldable pub keysOf : Molecule → List ℕ
-keysOf x = refined (end1 (x .bonds)) (end2 (x .bonds)) (x .m) (x .n) (filledTo (λ a. firstKey (x .atoms) a (settledSum x a)) (x .n))
+keysOf x = refinedOf x (rounds (x .n)) (filledTo (λ a. firstKey (x .atoms) a (settledSum x a)) (x .n))
+
+-- keys for pairs of atoms: those of the molecule, refined again after one atom was told apart; 0 where they are not asked for
+abbrev pub apartBy : ℕ
+apartBy = 1000003
+
+abbrev pub pairRounds : ℕ
+pairRounds = 8
+
+abbrev pub pairLimit : ℕ
+pairLimit = 8192
+
+unfoldable pub toldApart : (ℕ → ℕ) → (ℕ → ℕ) → ℕ → ℕ → List ℕ → ℕ → List ℕ
+toldApart e f m n keys a = refined e f m n pairRounds (bump keys a apartBy)
+
+abbrev pub pairCell : List ℕ → ℕ → ℕ
+pairCell keys b = 4 * (at keys b % pairLimit)
+
+-- a row of a matrix with maxSame columns, and n rows
+abbrev pub setCell : (ℕ → ℕ) → ℕ → ℕ → List ℕ → List ℕ
+setCell g a b p = set p (maxSame * a + b) (g b)
+
+unfoldable pub rowFilled : ℕ → (ℕ → ℕ) → ℕ → List ℕ → List ℕ
+rowFilled n g a p = run (setCell g a) 0 n p
+
+unfoldable pub pairsFilled : (ℕ → ℕ) → (ℕ → ℕ) → ℕ → ℕ → List ℕ → List ℕ → List ℕ
+pairsFilled e f m n keys p = run (λ (a : ℕ) (s : List ℕ). rowFilled n (pairCell (toldApart e f m n keys a)) a s) 0 n p
+
+-- the matrix of a molecule: four times the key of each pair; zeros where it is not asked for
+unfoldable pub pairsOf : Bool → Molecule → List ℕ → List ℕ
+pairsOf on x keys = pick on (pairsFilled (end1 (x .bonds)) (end2 (x .bonds)) (x .m) (x .n) keys (replicate (maxSame * maxSame) 0)) (replicate (maxSame * maxSame) 0)
+
+abbrev pub pairKey : Bool → Molecule → List ℕ → ℕ → ℕ → ℕ
+pairKey on x keys a b = pick on (at (toldApart (end1 (x .bonds)) (end2 (x .bonds)) (x .m) (x .n) keys a) b % pairLimit) 0
 
 -- the mixed keys of n atoms, added up
 abbrev pub addMixed : List ℕ → ℕ → ℕ → ℕ

@@ -4,7 +4,8 @@ use native.Mathlib.Omega.{arith}
 use mathlib.Core.Path.{refl, ap}
 use lib.ListN.{length, length-replicate}
 use Rattle.table_graph.proofs.Graph.{wide}
-use Rattle.same_keys.proofs.Filling.{inside, first-low, keys-filled}
+use Rattle.same_keys.proofs.Low.{low-more}
+use Rattle.same_keys.proofs.Filling.{half-small, inside, first-low, keys-filled}
 use borrow.Author.Needs.{needs}
 use Rattle.same_keys.proofs.fill_keys.Statement.{statement}
 use Rattle.same_keys.proofs.fill_keys.Tie as tie
@@ -38,11 +39,14 @@ fill-flags-requires c κs = search needs
 fill-first-requires : tie.Need-fill-first-requires
 fill-first-requires c κs = let s = c .before .before .before .before .before .before .before .before .before .before .before .before .before .before .before .before in (s .pre .1 .0, omega (arith, ap length (s .pre .1 .1), length-replicate {A = ℕ} 64 0))
 
+add-refine : tie.Need-add-refine
+add-refine c = search needs
+
 refine-requires : tie.Need-refine-requires
 refine-requires c κs =
     let s = c .before .before .before .before .before .before .before .before .before .before .before .before .before .before .before .before .before .before .before .before in
     let w = c .before .before .before .before .before .before .before .before .before .before .before .before .before .before .before .wire .ensures in
-    (inside (s .pre .0) (s .pre .1 .0) (w .0), (s .pre .1 .0, first-low (s .pre .0) (s .pre .1 .0) (w .0) _ (w .1) (c .before .before .before .before .before .before .before .before .fill-flags .ensures) (s .pre .1 .1) (c .before .before .before .fill-first .ensures)))
+    (inside (s .pre .0) (s .pre .1 .0) (w .0), (s .pre .1 .0, half-small (s .args .n) (s .pre .1 .0), low-more (first-low (s .pre .0) (s .pre .1 .0) (w .0) _ (w .1) (c .before .before .before .before .before .before .before .before .fill-flags .ensures) (s .pre .1 .1) (c .before .before .before .fill-first .ensures)) (omega arith)))
 
 returns : tie.Need-returns
 returns c = let s = c .before .before .before .before .before .before .before .before .before .before .before .before .before .before .before .before .before .before .before .before .before in
@@ -61,5 +65,6 @@ fill-keys-spec =
     slice-aggregate-fill-flags-2
     fill-flags-requires
     fill-first-requires
+    add-refine
     refine-requires
     returns)

@@ -39,7 +39,7 @@ element-copy-out-keys-4 c = search needs
 add-keys-2 : tie.Need-add-keys-2
 add-keys-2 c =
     let s = c .before .before .before .before in
-    omega (arith, half-low _ (s .args .a) (s .args .b) (highest 20) (s .pre .1 .0) (s .pre .1 .1) .at (s .args .b), s .pre .1 .0 .at (s .args .a))
+    omega (arith, half-low _ (s .args .a) (s .args .b) (highest 80) (s .pre .1 .0) (s .pre .1 .1) .at (s .args .b), s .pre .1 .0 .at (s .args .a))
 
 element-write-keys-2 : tie.Need-element-write-keys-2
 element-write-keys-2 c = search needs

@@ -9,7 +9,7 @@ use Rattle.same_keys.proofs.spread.Statement.{statement}
 use Rattle.same_keys.proofs.spread.Tie as tie
 
 abbrev Inv-loop : tie.InvT-loop
-Inv-loop ea eb m mixed keys₀ k₀ keys k = Spreading (at ea) (at eb) mixed keys₀ m (highest 18) k keys
+Inv-loop ea eb m mixed keys₀ k₀ keys k = Spreading (at ea) (at eb) mixed keys₀ m (highest 78) k keys
 
 abbrev μ-loop : tie.MeasureT-loop
 μ-loop ea eb m mixed keys₀ k₀ keys k = m - k
