@@ -51,7 +51,7 @@ unfolding nextKeys
 next-length e f m n keys = run-length e f (filledTo (mixedAt keys) n) 0 m keys
 
 -- a bond has one other end
-other-end : (n a e f : ℕ) (g : ℕ → ℕ) → e < f → f < n → pick (eqb e a) (g f) 0 + pick (eqb f a) (g e) 0 ≡ total (λ b. pick ((eqb e a && eqb f b) || (eqb e b && eqb f a)) (g b) 0) n
+pub other-end : (n a e f : ℕ) (g : ℕ → ℕ) → e < f → f < n → pick (eqb e a) (g f) 0 + pick (eqb f a) (g e) 0 ≡ total (λ b. pick ((eqb e a && eqb f b) || (eqb e b && eqb f a)) (g b) 0) n
 other-end n a e f g l h = go (eqb e a) (eqb f a) refl refl
   where
     cut : (b : ℕ) (p q : Bool) → pick (p || (q && false)) (g b) 0 ≡ pick p (g b) 0

@@ -24,8 +24,8 @@ use table::row;
 // A prime; keys are mixed below it.
 const PRIME: u64 = 2147483647;
 
-// A number mixed.
-fn mix(x: u64) -> u64
+// internal: a number mixed.
+pub fn mix(x: u64) -> u64
     ensures { λ r. ⌜ r ≡ mixed x ⌝ }
 {
     let y = x % PRIME;

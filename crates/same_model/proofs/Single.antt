@@ -12,6 +12,7 @@ use Rattle.table.specs.Cells.{end1, end2, kind}
 use Rattle.table.specs.Valid.{Valid, sameEnds}
 use Rattle.table.proofs.Valid.{bond-row, kind-small, apart-at}
 use Rattle.kinds.specs.Kind.{order, maxKind}
+use Rattle.kinds.proofs.Kind.{order-small}
 use Rattle.matching.proofs.Graph.{and-intro, same-bool, never, or-cases}
 use Rattle.same_model.specs.Same.{Molecule, joins, orderBetween}
 use Rattle.same_model.specs.Redrawing.{joined}
@@ -88,3 +89,15 @@ module _ (x : Molecule) (v : Valid (x .atoms) (x .bonds) (x .n) (x .m)) (a b : �
           let s : orderBetween x a b ≡ order (kind (x .bonds) (c .at)) = order-total x a b ∙ one-total (c .at) l j (λ k. order (kind (x .bonds) k)) in
           let p = order-positive (kind (x .bonds) (c .at)) (kind-small v (c .at) l) in
           one-total (c .at) l j (λ k. o) ∙ sym (ap (λ (z : Bool). pick (not z) o 0) (ne-eqb (orderBetween x a b) 0 (λ q. omega arith)))
+
+  -- an order is at most 3
+  pub orders-low : orderBetween x a b ≤ 3
+  orders-low = go (each (λ k. not (joins x a b k)) 0 (x .m)) refl
+    where
+      go : (z : Bool) → each (λ k. not (joins x a b k)) 0 (x .m) ≡ z → orderBetween x a b ≤ 3
+      go true g = omega (arith, order-total x a b ∙ none-total g (λ k. order (kind (x .bonds) k)))
+      go false g =
+          let c = each-fails (λ k. not (joins x a b k)) 0 (x .m) g in
+          let l : c .at < x .m = omega (arith, c .below) in
+          let j = not-false (joins x a b (c .at)) (c .fails) in
+          omega (arith, order-total x a b ∙ one-total (c .at) l j (λ k. order (kind (x .bonds) k)), order-small (kind (x .bonds) (c .at)))
