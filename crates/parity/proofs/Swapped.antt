@@ -2,14 +2,14 @@
 use Prim.Native.Nat.{ℕ, zero, suc, _<_}
 use native.Mathlib.Omega.{arith}
 use mathlib.Core.Path.{_≡_, refl, sym, ap, _∙_}
-use mathlib.Core.Bool.{Bool, true, false, not, _&&_}
+use mathlib.Core.Bool.{Bool, true, false, not}
 use mathlib.Core.List.{List, [], _∷_}
 use lib.Dec.{eqb, ltb}
 use lib.ListN.{length, getD, set}
 use borrow.Author.Tests.{eqb-false, ltb-false, ltb-true, lt-ltb, le-ltb, not-true}
 use Rattle.loops.proofs.Loops.{and-left, and-right}
 use Rattle.parity.specs.Parity.{flipIf, oddly, oddPairs, over, odd, swapped, absent, unlike, Swaps, none, more, oddNumber, below, ascending}
-use Rattle.parity.proofs.Flips.{not-not, not-flip, flip-comm, adjacent-flips, ahead-flips}
+use Rattle.parity.proofs.Flips.{not-not, not-flip, adjacent-flips, ahead-flips}
 use Rattle.parity.proofs.Items.{oddly-perm, unlike-perm, head-perm, swapped-perm}
 
 -- of two numbers that differ, exactly one is over the other

@@ -3,14 +3,14 @@ use Prim.Native.Nat.{ℕ, zero, suc, _+_, _<_, _≤_}
 use native.Mathlib.Omega.{arith}
 use native.Mathlib.Numerals.{add-one}
 use native.Mathlib.Nat.{add-zero}
-use mathlib.Core.Path.{_≡_, refl, sym, ap, _∙_}
+use mathlib.Core.Path.{_≡_, refl, sym, _∙_}
 use mathlib.Core.Bool.{Bool, true, false, _&&_, not, true≢false}
 use mathlib.Core.Logic.{_↔_, _⊎_, inl, inr, ⊎-elim}
 use mathlib.Core.List.{List}
 use lib.IntN.{ℤ}
 use lib.Dec.{eqb, leb, ltb}
 use borrow.Author.Tests.{eqb-true, eqb-false, eq-eqb, leb-true, leb-false, ltb-true, lt-ltb, not-true, not-false}
-use Rattle.loops.specs.Loop.{pick, each, run}
+use Rattle.loops.specs.Loop.{pick, run}
 use Rattle.loops.proofs.Loops.{and-left, and-right, each-at, each-all, each-fails}
 use Rattle.table.specs.Valid.{valid, Valid}
 use Rattle.table.specs.Cells.{selected, hydrogens, mark, touches}
