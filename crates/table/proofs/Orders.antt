@@ -19,7 +19,7 @@ use Rattle.table.specs.Limits.{atomCells, ELEMENT, SELECTED, ISOTOPE, HY
 use Rattle.table.specs.Cells.{number, atomPlace, atomCell, selected, hydrogens, mark, touches}
 use Rattle.table.specs.Valid.{maxMark, selectedOk, atomOk, Valid}
 use Rattle.table.specs.Sound.{countBond, bondDegree, loose, noneLoose, unfit, noneUnfit, lateCode, sound}
-use Rattle.table.specs.Orders.{bondsFrom, bondsAt, hydrogenRank, turns, turnedMark, turnMark, turnMarks}
+use Rattle.table.specs.Orders.{bondsFrom, bondsAt, turns, turnedMark, turnMark, turnMarks}
 use Rattle.table.proofs.Valid.{range-of, range-high, atom-fine, atom-fine-back}
 use Rattle.table.proofs.Sound.{sound-valid, sound-late, sound-back}
 
@@ -119,7 +119,7 @@ module _ (bonds : List ℤ) (a : ℕ) where
 -- ranks that agree on the bonds at the atom turn alike
 pub turns-same : (f g : ℕ → ℕ) (atoms bonds : List ℤ) (m a : ℕ) → ((c : ℕ) → c < m → touches bonds a c ≡ true → f c ≡ g c) → turns f atoms bonds m a ≡ turns g atoms bonds m a
 unfolding turns
-turns-same f g atoms bonds m a h = ap (λ (l : List ℕ). odd (hydrogenRank (hydrogens atoms a) ++ l)) (ranks-same bonds a f g m h)
+turns-same f g atoms bonds m a h = rw (ranks-same bonds a f g m h)
 
 map-same : (l : List ℕ) → map (λ (b : ℕ). b) l ≡ l
 map-same [] = refl
