@@ -136,3 +136,127 @@ module _ (T : Bond → ℕ) where
         ap (runKeyed (closeToks c t1)) (keyed-close n m xs stk b t bs z ks h (first-in b c (openOf t) w) e)
         ∙ keyed-closes n m xs stk c t1 (bs ++ (b ∷ [])) (suc z) (ks ++ (K b ∷ [])) a (close-within b c t w) f
         ∙ (λ i. keyed (st xs (append-assoc bs (b ∷ []) c i) n m (hooks (closeAll c t1)) stk) (q i) (stamps (closeAll c t1)) (append-assoc ks (K b ∷ []) (map K c) i))
+
+-- reading a forest with further bonds, whose keys are K and which open at the times T
+module _ (N : List Bond) (c o : ℕ → List Bond) (k : Back N c o) (T : Bond → ℕ) (K : Bond → Keys)
+    (close : (n : ℕ) → CloseFrom T K (ringsBefore c o n) (c n)) (opening : (n : ℕ) → OpenFrom T (ringsBefore c o n + length (c n)) (o n)) where
+  abbrev R : ℕ → ℕ
+  R = ringsBefore c o
+
+  -- a reading at the time of the atom m, with the places of t open
+  abbrev At : List ℕ → List Bond → ℕ → ℕ → ℕ → List Slot → List ℕ → List Keys → Keyed
+  At xs bs h n m t stk ks = keyed (st xs bs h n (hooks t) stk) (R m) (stamps T t) ks
+
+  keyed-rings : (n m : ℕ) (xs stk : List ℕ) (t : List Slot) (bs : List Bond) (ks : List Keys) → Inv N c o k n t
+      → runKeyed (ringToks c o n t) (At xs bs n m n t stk ks) ≡ At xs (bs ++ c n) n m (suc n) (rings c o n t) stk (ks ++ map K (c n))
+  keyed-rings n m xs stk t bs ks v =
+      let t1 = closeAll (c n) t in
+      let e : R n + length (c n) + length (o n) ≡ R n + (length (c n) + length (o n)) = omega arith in
+      keyed-append (closeToks (c n) t) (openToks (o n) t1) (At xs bs n m n t stk ks)
+      ∙ ap (runKeyed (openToks (o n) t1)) (keyed-closes T K n m xs stk (c n) t bs (R n) ks (closes-at N c o k n) (closes-within N c o k n t v) (close n))
+      ∙ keyed-opens T n m xs stk (o n) t1 (bs ++ c n) (R n + length (c n)) (ks ++ map K (c n)) (opens-at N c o k n) (opening n)
+      ∙ ap (λ (z : ℕ). keyed (st xs (bs ++ c n) n m (hooks (rings c o n t)) stk) z (stamps T (rings c o n t)) (ks ++ map K (c n))) e
+
+  keyed-body : (f : Forest) (n : ℕ) (t : List Slot) (xs : List ℕ) (bs : List Bond) (ks : List Keys) (stk : List ℕ) → Inv N c o k n t
+      → ((xs : List ℕ) (bs : List Bond) (ks : List Keys) → runKeyed (toks c o f (suc n) (rings c o n t)) (At xs bs n (suc n) (suc n) (rings c o n t) stk ks)
+          ≡ At (xs ++ pre f) (bs ++ done c o f n (suc n)) (endHub f n (suc n)) (suc n + size f) (suc n + size f) (after c o f (suc n) (rings c o n t)) stk (ks ++ map K (done c o f n (suc n))))
+      → runKeyed (ringToks c o n t ++ toks c o f (suc n) (rings c o n t)) (At xs bs n (suc n) n t stk ks)
+      ≡ At (xs ++ pre f) (bs ++ (c n ++ done c o f n (suc n))) (endHub f n (suc n)) (suc n + size f) (suc n + size f) (after c o f (suc n) (rings c o n t)) stk (ks ++ (map K (c n) ++ map K (done c o f n (suc n))))
+  keyed-body f n t xs bs ks stk v ih =
+      let D = done c o f n (suc n) in
+      let t2 = after c o f (suc n) (rings c o n t) in
+      keyed-append (ringToks c o n t) (toks c o f (suc n) (rings c o n t)) (At xs bs n (suc n) n t stk ks)
+      ∙ ap (runKeyed (toks c o f (suc n) (rings c o n t))) (keyed-rings n (suc n) xs stk t bs ks v)
+      ∙ ih xs (bs ++ c n) (ks ++ map K (c n))
+      ∙ (λ i. At (xs ++ pre f) (append-assoc bs (c n) D i) (endHub f n (suc n)) (suc n + size f) (suc n + size f) t2 stk (append-assoc ks (map K (c n)) (map K D) i))
+
+  keyed-wrap : (g : Forest) (x : List Tok) (xs ys : List ℕ) (bs ds : List Bond) (h e n m n′ m′ : ℕ) (t t′ : List Slot) (ks ls : List Keys) (stk : List ℕ)
+      → ((stk : List ℕ) → runKeyed x (At xs bs h n n′ t stk ks) ≡ At ys ds e m m′ t′ stk ls)
+      → runKeyed (wrap g x) (At xs bs h n n′ t stk ks) ≡ At ys ds (hubAfter g h e) m m′ t′ stk ls
+  keyed-wrap leaf x xs ys bs ds h e n m n′ m′ t t′ ks ls stk r = r stk
+  keyed-wrap (node w j f g) x xs ys bs ds h e n m n′ m′ t t′ ks ls stk r =
+      (λ i. runKeyed (x ++ (back ∷ [])) (At xs bs h n n′ t (h ∷ stk) (append-nil ks i)))
+      ∙ keyed-append x (back ∷ []) (At xs bs h n n′ t (h ∷ stk) ks)
+      ∙ ap (runKeyed (back ∷ [])) (r (h ∷ stk))
+      ∙ (λ i. At ys ds h m m′ t′ stk (append-nil ls i))
+
+  done-hub : (g : Forest) (h e n : ℕ) → done c o g (hubAfter g h e) n ≡ done c o g h n
+  done-hub leaf h e n = refl
+  done-hub (node w j f g) h e n = refl
+
+  tree-hub : (g : Forest) (h e n : ℕ) → tree g (hubAfter g h e) n ≡ tree g h n
+  tree-hub leaf h e n = refl
+  tree-hub (node w j f g) h e n = refl
+
+  abbrev Grown : Bond → Type 0
+  Grown b = K b ≡ childKeys
+
+  -- reading the children of the hub
+  keyed-kids : (F : Forest) (n h : ℕ) (t : List Slot) (xs : List ℕ) (bs : List Bond) (ks : List Keys) (stk : List ℕ) → Inv N c o k n t → All Grown (tree F h n)
+      → runKeyed (toks c o F n t) (At xs bs h n n t stk ks) ≡ At (xs ++ pre F) (bs ++ done c o F h n) (endHub F h n) (n + size F) (n + size F) (after c o F n t) stk (ks ++ map K (done c o F h n))
+  keyed-kids leaf n h t xs bs ks stk v none = let e : n ≡ n + 0 = omega arith in λ i. At (sym (append-nil xs) i) (sym (append-nil bs) i) h (e i) (e i) t stk (sym (append-nil ks) i)
+  keyed-kids (node w j f g) n h t xs bs ks stk v (more a al) =
+      let u = rings c o n t in
+      let t2 = after c o f (suc n) u in
+      let v1 = inv-rings N c o k n t v in
+      let e = endHub f n (suc n) in
+      let n2 = suc n + size f in
+      let B = bond h n j in
+      let Df = done c o f n (suc n) in
+      let body = along j w ∷ (ringToks c o n t ++ toks c o f (suc n) u) in
+      let ys = (xs ++ (w ∷ [])) ++ pre f in
+      let ds = (bs ++ (B ∷ [])) ++ (c n ++ Df) in
+      let ls = (ks ++ (K B ∷ [])) ++ (map K (c n) ++ map K Df) in
+      let en : n2 + size g ≡ n + suc (size f + size g) = omega arith in
+      let af : All Grown (tree f n (suc n)) = all-left Grown (tree f n (suc n)) (tree g h n2) al in
+      let ag : All Grown (tree g (hubAfter g h e) n2) = rw (tree-hub g h e n2) (all-right Grown (tree f n (suc n)) (tree g h n2) al) in
+      let start : (stk : List ℕ) → runKeyed body (At xs bs h n n t stk ks) ≡ At ys ds e n2 n2 t2 stk ls = λ stk.
+      (λ i. runKeyed (ringToks c o n t ++ toks c o f (suc n) u) (At (xs ++ (w ∷ [])) (bs ++ (B ∷ [])) n (suc n) n t stk (ks ++ (sym a i ∷ []))))
+      ∙ keyed-body f n t (xs ++ (w ∷ [])) (bs ++ (B ∷ [])) (ks ++ (K B ∷ [])) stk v (λ xs bs ks. keyed-kids f (suc n) n u xs bs ks stk v1 af) in
+      keyed-append (wrap g body) (toks c o g n2 t2) (At xs bs h n n t stk ks)
+      ∙ ap (runKeyed (toks c o g n2 t2)) (keyed-wrap g body xs ys bs ds h e n n2 n n2 t t2 ks ls stk start)
+      ∙ keyed-kids g n2 (hubAfter g h e) t2 ys ds ls stk (inv-after N c o k f (suc n) u v1) ag
+      ∙ (λ i. At (regroup xs w (pre f) (pre g) i) (pile bs B (c n) Df (done c o g (hubAfter g h e) n2) (done c o g h n2) (done-hub g h e n2) i)
+        (endHub g (hubAfter g h e) n2) (en i) (en i) (after c o g n2 t2) stk (heap ks B (c n) Df (done c o g (hubAfter g h e) n2) (done c o g h n2) (done-hub g h e n2) i))
+    where
+      regroup : (xs : List ℕ) (w : ℕ) (a b : List ℕ) → ((xs ++ (w ∷ [])) ++ a) ++ b ≡ xs ++ (w ∷ (a ++ b))
+      regroup xs w a b = simp append-assoc
+
+      pile : (bs : List Bond) (x : Bond) (a b d d′ : List Bond) → d ≡ d′ → ((bs ++ (x ∷ [])) ++ (a ++ b)) ++ d ≡ bs ++ (x ∷ (a ++ (b ++ d′)))
+      pile bs x a b d d′ e = rw e (simp append-assoc)
+
+      heap : (ks : List Keys) (x : Bond) (a b d d′ : List Bond) → d ≡ d′ → ((ks ++ (K x ∷ [])) ++ (map K a ++ map K b)) ++ map K d ≡ ks ++ (K x ∷ map K (a ++ (b ++ d′)))
+      heap ks x a b d d′ e = rw e (simp (map-append, append-assoc))
+
+  -- reading the whole text
+  pub keyed-text : (F : Forest) (n h : ℕ) (t : List Slot) (xs : List ℕ) (bs : List Bond) (ks : List Keys) → Inv N c o k n t → All Grown (trees F n)
+      → runKeyed (text c o F n t) (At xs bs h n n t [] ks) ≡ At (xs ++ pre F) (bs ++ doneAll c o F n) (lastHub F h n) (n + size F) (n + size F) (after c o F n t) [] (ks ++ map K (doneAll c o F n))
+  keyed-text leaf n h t xs bs ks v none = let e : n ≡ n + 0 = omega arith in λ i. At (sym (append-nil xs) i) (sym (append-nil bs) i) h (e i) (e i) t [] (sym (append-nil ks) i)
+  keyed-text (node w j f g) n h t xs bs ks v al =
+      let u = rings c o n t in
+      let t2 = after c o f (suc n) u in
+      let v1 = inv-rings N c o k n t v in
+      let e = endHub f n (suc n) in
+      let n2 = suc n + size f in
+      let Df = done c o f n (suc n) in
+      let body = ringToks c o n t ++ toks c o f (suc n) u in
+      let ys = (xs ++ (w ∷ [])) ++ pre f in
+      let ds = bs ++ (c n ++ Df) in
+      let ls = ks ++ (map K (c n) ++ map K Df) in
+      let en : n2 + size g ≡ n + suc (size f + size g) = omega arith in
+      let af : All Grown (tree f n (suc n)) = all-left Grown (tree f n (suc n)) (trees g n2) al in
+      let ag : All Grown (trees g n2) = all-right Grown (tree f n (suc n)) (trees g n2) al in
+      (λ i. runKeyed (body ++ text c o g n2 t2) (At (xs ++ (w ∷ [])) bs n (suc n) n t [] (append-nil ks i)))
+      ∙ keyed-append body (text c o g n2 t2) (At (xs ++ (w ∷ [])) bs n (suc n) n t [] ks)
+      ∙ ap (runKeyed (text c o g n2 t2)) (keyed-body f n t (xs ++ (w ∷ [])) bs ks [] v (λ xs bs ks. keyed-kids f (suc n) n u xs bs ks [] v1 af))
+      ∙ keyed-text g n2 e t2 ys ds ls (inv-after N c o k f (suc n) u v1) ag
+      ∙ (λ i. At (regroup xs w (pre f) (pre g) i) (pile bs (c n) Df (doneAll c o g n2) i) (lastHub g e n2) (en i) (en i) (after c o g n2 t2) [] (heap ks (c n) Df (doneAll c o g n2) i))
+    where
+      regroup : (xs : List ℕ) (w : ℕ) (a b : List ℕ) → ((xs ++ (w ∷ [])) ++ a) ++ b ≡ xs ++ (w ∷ (a ++ b))
+      regroup xs w a b = simp append-assoc
+
+      pile : (bs : List Bond) (a b d : List Bond) → (bs ++ (a ++ b)) ++ d ≡ bs ++ (a ++ (b ++ d))
+      pile bs a b d = simp append-assoc
+
+      heap : (ks : List Keys) (a b d : List Bond) → (ks ++ (map K a ++ map K b)) ++ map K d ≡ ks ++ map K (a ++ (b ++ d))
+      heap ks a b d = simp (map-append, append-assoc)
