@@ -54,6 +54,11 @@ pub map-append : {A B : Type 0} (f : A → B) (l m : List A) → map f (l ++ m) 
 map-append f [] m = refl
 map-append {B = B} f (x ∷ l) m = ap (λ (r : List B). f x ∷ r) (map-append f l m)
 
+-- P holds of the bonds of the list and of the numbers z, z + 1, .. in turn
+abbrev pub From : (Bond → ℕ → Type 0) → ℕ → List Bond → Type 0
+From P z [] = Unit {0}
+From P z (b ∷ l) = P b z × From P (suc z) l
+
 -- T: the time at which a bond opens; the stamps of the writer's places
 module _ (T : Bond → ℕ) where
   abbrev pub stamp : Slot → ℕ
@@ -90,8 +95,7 @@ module _ (T : Bond → ℕ) where
 
   -- the bonds of the list open at the times z + 1, z + 2, ..
   abbrev pub OpenFrom : ℕ → List Bond → Type 0
-  OpenFrom z [] = Unit {0}
-  OpenFrom z (b ∷ l) = (T b ≡ suc z) × OpenFrom (suc z) l
+  OpenFrom = From (λ b z. T b ≡ suc z)
 
   keyed-opens : (n m : ℕ) (xs stk : List ℕ) (o : List Bond) (t : List Slot) (bs : List Bond) (z : ℕ) (ks : List Keys) → All (λ b. b .lo ≡ n) o → OpenFrom z o
       → runKeyed (openToks o t) (keyed (st xs bs n m (hooks t) stk) z (stamps t) ks) ≡ keyed (st xs bs n m (hooks (openAll o t)) stk) (z + length o) (stamps (openAll o t)) ks
@@ -112,8 +116,7 @@ module _ (T : Bond → ℕ) where
   -- K: the keys of a bond; the bonds of the list close at the times z + 1, z + 2, ..
   module _ (K : Bond → Keys) where
     abbrev pub CloseFrom : ℕ → List Bond → Type 0
-    CloseFrom z [] = Unit {0}
-    CloseFrom z (b ∷ l) = (K b ≡ keys (T b) (suc z)) × CloseFrom (suc z) l
+    CloseFrom = From (λ b z. K b ≡ keys (T b) (suc z))
 
     keyed-close : (n m : ℕ) (xs stk : List ℕ) (b : Bond) (t : List Slot) (bs : List Bond) (z : ℕ) (ks : List Keys) → ClosesAt n b → 0 < count (eqBond b) (openOf t) → K b ≡ keys (T b) (suc z)
         → stepKeyed (ring 0 (find b t)) (keyed (st xs bs n m (hooks t) stk) z (stamps t) ks) ≡ keyed (st xs (bs ++ (b ∷ [])) n m (hooks (release b t)) stk) (suc z) (stamps (release b t)) (ks ++ (K b ∷ []))

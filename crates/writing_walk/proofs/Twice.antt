@@ -179,7 +179,7 @@ module _ (n : ℕ) (order : List ℕ) (all : (v : ℕ) → v < n → 0 < times v
           let r = d (b0 .lo) (b0 .hi) in
           omega arith
 
-distinct-unused : (n : ℕ) (bs : List Bond) → Inside n bs → Distinct bs → Distinct (unused n bs)
+pub distinct-unused : (n : ℕ) (bs : List Bond) → Inside n bs → Distinct bs → Distinct (unused n bs)
 unfolding unused renumbered
 distinct-unused n bs i d a c =
     let M = map (renumber (pre (forestOf n bs))) bs in

@@ -39,6 +39,9 @@ pub data Keyed : Type 0 where
 abbrev pub stateOf : Keyed → St
 stateOf (keyed s z ts ks) = s
 
+abbrev pub timeOf : Keyed → ℕ
+timeOf (keyed s z ts ks) = z
+
 abbrev pub keysOf : Keyed → List Keys
 keysOf (keyed s z ts ks) = ks
 
