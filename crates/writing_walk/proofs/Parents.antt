@@ -2,16 +2,17 @@
 use mathlib.Core.Path.{_≡_, refl, sym, ap, _∙_}
 use mathlib.Core.Bool.{Bool, true, false, _&&_}
 use mathlib.Core.List.{List, [], _∷_, _++_, append-assoc, append-nil}
-use Prim.Native.Nat.{ℕ, zero, suc, _+_, _≤_}
+use Prim.Native.Nat.{ℕ, zero, suc, _+_, _≤_, _<_}
 use native.Mathlib.Omega.{arith}
 use lib.Dec.{eqb}
 use lib.ListN.{length, getD, length-append}
 use borrow.Author.Tests.{eq-eqb, ne-eqb, eqb-true, eqb-false}
-use Rattle.writing_walk.specs.Token.{Bond, bond}
+use Rattle.writing_walk.specs.Token.{Bond, bond, eqBond}
 use Rattle.writing_walk.specs.Emit.{Forest, leaf, node, size, tree, trees}
 use Rattle.writing_walk.specs.Check.{ends}
 use Rattle.writing_walk.specs.Flat.{kinds, ups}
-use Rattle.writing_walk.proofs.Count.{bit, count, eqb-same}
+use Rattle.writing_walk.proofs.Count.{bit, count, and-left, and-right, eqb-same}
+use Rattle.writing_walk.proofs.Times.{count-ends}
 
 -- the bonds from each atom to its parent; us: the parent's number plus 1 (0: none)
 abbrev upBonds : List ℕ → List ℕ → ℕ → List Bond
@@ -79,3 +80,27 @@ pub parent-bond : (F : Forest) (x y : ℕ) → count (ends x y) (trees F 0) ≡ 
 parent-bond F x y =
     let q : y ≡ 0 + y = omega arith in
     (λ i. count (ends x (q i)) (sym (trees-up F 0) i)) ∙ up-count x (ups F 0 0) (kinds F) 0 y (ups-long F 0 0)
+
+-- the same of one bond
+bond-found : (x y : ℕ) (l : List Bond) → 0 < count (ends x y) l → (k : ℕ) × (0 < count (eqBond (bond x y k)) l)
+bond-found x y [] h = absurd (omega arith)
+bond-found x y (b ∷ l) h = go (ends x y b) refl h (bond-found x y l)
+  where
+    go : (e : Bool) → ends x y b ≡ e → 0 < bit e + count (ends x y) l → (0 < count (ends x y) l → (k : ℕ) × (0 < count (eqBond (bond x y k)) l)) → (k : ℕ) × (0 < count (eqBond (bond x y k)) (b ∷ l))
+    go true e h f =
+        let p = eqb-true (b .lo) x (and-left (eqb (b .lo) x) (eqb (b .hi) y) e) in
+        let q = eqb-true (b .hi) y (and-right (eqb (b .lo) x) (eqb (b .hi) y) e) in
+        let s : eqBond (bond x y (b .kind)) b ≡ true = rw (eq-eqb x (b .lo) (sym p), eq-eqb y (b .hi) (sym q), eqb-same (b .kind)) in
+        (b .kind, omega (arith, ap bit s))
+    go false e h f = let r = f (omega arith) in (r .0, let s = r .1 in omega arith)
+
+-- THE SAME, by a bond: x is the parent of y exactly if some bond from x to y is in the forest
+pub parent-in : (F : Forest) (x y : ℕ) → getD (ups F 0 0) y 0 ≡ suc x → (k : ℕ) × (0 < count (eqBond (bond x y k)) (trees F 0))
+parent-in F x y e = bond-found x y (trees F 0) (omega (arith, parent-bond F x y, ap bit (eq-eqb (getD (ups F 0 0) y 0) (suc x) e)))
+
+pub in-parent : (F : Forest) (b : Bond) → 0 < count (eqBond b) (trees F 0) → getD (ups F 0 0) (b .hi) 0 ≡ suc (b .lo)
+in-parent F b h = go (eqb (getD (ups F 0 0) (b .hi) 0) (suc (b .lo))) refl
+  where
+    go : (x : Bool) → eqb (getD (ups F 0 0) (b .hi) 0) (suc (b .lo)) ≡ x → getD (ups F 0 0) (b .hi) 0 ≡ suc (b .lo)
+    go true e = eqb-true (getD (ups F 0 0) (b .hi) 0) (suc (b .lo)) e
+    go false e = absurd (omega (arith, parent-bond F (b .lo) (b .hi), ap bit e, count-ends b (trees F 0)))

@@ -212,7 +212,7 @@ sweep-same key l m h s a (suc d) = λ i. one i ++ sweep-same key l m h s (suc a)
     one : keep (λ b. eqb (key b) a) l ≡ keep (λ b. eqb (key b) a) m
     one = one-bond (keep (λ b. eqb (key b) a) l) (keep (λ b. eqb (key b) a) m) (alike-keep (λ b. eqb (key b) a) l m h) (let z = keep-count (λ b. true) (λ b. eqb (key b) a) l in let y = s a in omega arith)
 
-and-turn : (p q : Bond → Bool) (l : List Bond) → count (λ b. p b && q b) l ≡ count (λ b. q b && p b) l
+pub and-turn : (p q : Bond → Bool) (l : List Bond) → count (λ b. p b && q b) l ≡ count (λ b. q b && p b) l
 and-turn p q [] = refl
 and-turn p q (b ∷ l) = omega (arith, go (p b) (q b), and-turn p q l)
   where
