@@ -271,3 +271,132 @@ module _ (n : ℕ) (bs : List Bond) (i : Inside n bs) (d : Distinct bs) where
     follows z x b b′ v h g (child p w r) (closing p′ m′ w′ r′) l = absurd (let q = inside b h in let y = inside b′ g in omega arith)
     follows z x b b′ v h g (child p w r) (opening p′ m′ w′ r′) l = absurd (let q = inside b h in let y = inside b′ g in omega arith)
     follows z x b b′ v h g (child p w r) (child p′ w′ r′) l = omega arith
+
+-- the ranks that walk numbers give, for any list of parents
+data Walked (n : ℕ) (us : List ℕ) (x y : ℕ) : Type 0 where
+  upward : getD us x 0 ≡ suc y → walkRank n us x y ≡ 0 → Walked n us x y
+  downward : walkRank n us x y ≡ n + 2 + y → Walked n us x y
+  across : walkRank n us x y ≡ y + 2 → Walked n us x y
+
+walked : (n : ℕ) (us : List ℕ) (x y : ℕ) → Walked n us x y
+walked n us x y = go (eqb (getD us x 0) (suc y)) refl (eqb (getD us y 0) (suc x)) refl
+  where
+    go : (a : Bool) → eqb (getD us x 0) (suc y) ≡ a → (b : Bool) → eqb (getD us y 0) (suc x) ≡ b → Walked n us x y
+    go true e b f = let q = eqb-true (getD us x 0) (suc y) e in upward q (walk-parent n us x y q)
+    go false e true f = downward (walk-child n us x y (eqb-false (getD us x 0) (suc y) e) (eqb-true (getD us y 0) (suc x) f))
+    go false e false f = across (walk-bridge n us x y (eqb-false (getD us x 0) (suc y) e) (eqb-false (getD us y 0) (suc x) f))
+
+-- THE STATEMENTS: different other ends have different ranks; none is 1, the hydrogen's
+pub walk-apart : (n : ℕ) (us : List ℕ) (x y y′ : ℕ) → y < n → y′ < n → walkRank n us x y ≡ walkRank n us x y′ → y ≡ y′
+walk-apart n us x y y′ h g e = go (walked n us x y) (walked n us x y′)
+  where
+    go : Walked n us x y → Walked n us x y′ → y ≡ y′
+    go (upward q r) (upward q′ r′) = omega arith
+    go (upward q r) (downward r′) = absurd (omega arith)
+    go (upward q r) (across r′) = absurd (omega arith)
+    go (downward r) (upward q′ r′) = absurd (omega arith)
+    go (downward r) (downward r′) = omega arith
+    go (downward r) (across r′) = absurd (omega arith)
+    go (across r) (upward q′ r′) = absurd (omega arith)
+    go (across r) (downward r′) = absurd (omega arith)
+    go (across r) (across r′) = omega arith
+
+pub walk-not-one : (n : ℕ) (us : List ℕ) (x y : ℕ) → walkRank n us x y ≡ 1 → ⊥
+walk-not-one n us x y e = go (walked n us x y)
+  where
+    go : Walked n us x y → ⊥
+    go (upward q r) = omega arith
+    go (downward r) = omega arith
+    go (across r) = omega arith
+
+pub text-not-one : (big x p h : ℕ) → textRank big x p h ≡ 1 → ⊥
+unfolding textRank
+text-not-one big x zero h e = go (eqb h x) e
+  where
+    go : (a : Bool) → cond a 0 (big + 2 + h) ≡ 1 → ⊥
+    go true e = omega arith
+    go false e = omega arith
+text-not-one big x (suc p) h e = let q = text-bridge big x p h in omega arith
+
+touched : (x : ℕ) (b : Bond) → touches x b ≡ true → (n : ℕ) → b .lo < b .hi → b .hi < n → (x < n) × (otherEnd x b < n)
+touched x b t n l h = go (eqb (b .lo) x) refl (eqb (b .hi) x) refl t
+  where
+    go : (p : Bool) → eqb (b .lo) x ≡ p → (q : Bool) → eqb (b .hi) x ≡ q → (p || q) ≡ true → (x < n) × (cond p (b .hi) (b .lo) < n)
+    go true p q r t = let e = eqb-true (b .lo) x p in (omega arith, h)
+    go false p true r t = let e = eqb-true (b .hi) x r in (omega arith, omega arith)
+    go false p false r t = absurd (never false t refl)
+
+-- the bonds at an atom that go to the same atom have the same ends
+same-other : (x : ℕ) (b b′ : Bond) → b .lo < b .hi → b′ .lo < b′ .hi → touches x b ≡ true → touches x b′ ≡ true → otherEnd x b ≡ otherEnd x b′ → (b .lo ≡ b′ .lo) × (b .hi ≡ b′ .hi)
+same-other x b b′ l l′ t t′ e = go (eqb (b .lo) x) refl (eqb (b .hi) x) refl (eqb (b′ .lo) x) refl (eqb (b′ .hi) x) refl t t′ e
+  where
+    go : (p : Bool) → eqb (b .lo) x ≡ p → (q : Bool) → eqb (b .hi) x ≡ q → (p′ : Bool) → eqb (b′ .lo) x ≡ p′ → (q′ : Bool) → eqb (b′ .hi) x ≡ q′ → (p || q) ≡ true → (p′ || q′) ≡ true
+        → cond p (b .hi) (b .lo) ≡ cond p′ (b′ .hi) (b′ .lo) → (b .lo ≡ b′ .lo) × (b .hi ≡ b′ .hi)
+    go true p q r true p′ q′ r′ t t′ e = (eqb-true (b .lo) x p ∙ sym (eqb-true (b′ .lo) x p′), e)
+    go true p q r false p′ true r′ t t′ e = absurd (let u = eqb-true (b .lo) x p in let v = eqb-true (b′ .hi) x r′ in omega arith)
+    go true p q r false p′ false r′ t t′ e = absurd (never false t′ refl)
+    go false p true r true p′ q′ r′ t t′ e = absurd (let u = eqb-true (b .hi) x r in let v = eqb-true (b′ .lo) x p′ in omega arith)
+    go false p true r false p′ true r′ t t′ e = (e, eqb-true (b .hi) x r ∙ sym (eqb-true (b′ .hi) x r′))
+    go false p true r false p′ false r′ t t′ e = absurd (never false t′ refl)
+    go false p false r p′ s q′ r′ t t′ e = absurd (never false t refl)
+
+-- the bonds at the walk number x in what is read from the text of n atoms with the bonds bs; big is at least every key
+module _ (n : ℕ) (bs : List Bond) (i : Inside n bs) (d : Distinct bs) (x : ℕ) where
+  abbrev pub ReadAt : Bond → Type 0
+  ReadAt b = (0 < count (eqBond b) (completed n bs)) × (touches x b ≡ true)
+
+  -- a bond at an atom is told by its other end
+  pub other-tells : (b b′ : Bond) → ReadAt b → ReadAt b′ → otherEnd x b ≡ otherEnd x b′ → b ≡ b′
+  other-tells b b′ h g e =
+      let l = inside n bs i d b (h .0) in
+      let l′ = inside n bs i d b′ (g .0) in
+      let s = same-other x b b′ (l .0) (l′ .0) (h .1) (g .1) e in
+      same-bond (completed n bs) (distinct-completed n bs i d) b b′ (h .0) (g .0) (s .0) (s .1)
+
+  pub other-below : (b : Bond) → ReadAt b → otherEnd x b < n
+  other-below b h = let l = inside n bs i d b (h .0) in touched x b (h .1) n (l .0) (l .1) .1
+
+  module _ (big : ℕ) (large : ringsBefore (closingBonds n (unused n bs)) (openingBonds n (unused n bs)) n ≤ big) where
+    abbrev pub rankWritten : Bond → ℕ
+    rankWritten b = walkRank n (ups (forestOf n bs) 0 0) x (otherEnd x b)
+
+    abbrev pub rankRead : Bond → ℕ
+    rankRead b = textRank big x (keyAt x b (keyOf n bs b)) (b .hi)
+
+    lower : (b b′ : Bond) → ReadAt b → ReadAt b′ → rankWritten b < rankWritten b′ → rankRead b < rankRead b′
+    lower b b′ h g =
+        let l = inside n bs i d b (h .0) in
+        follows n bs i d big large x b b′ (touched x b (h .1) n (l .0) (l .1) .0) (h .0) (g .0) (seat n bs i d big x b (h .0) (h .1)) (seat n bs i d big x b′ (g .0) (g .1))
+
+    -- THE STATEMENT: of two bonds at an atom, the one that the writer ranks lower is the one that the reader ranks lower
+    pub ranks-alike : (b b′ : Bond) → ReadAt b → ReadAt b′ → ltb (rankRead b) (rankRead b′) ≡ ltb (rankWritten b) (rankWritten b′)
+    ranks-alike b b′ h g = go (tri (rankWritten b) (rankWritten b′))
+      where
+        go : Tri (rankWritten b) (rankWritten b′) → ltb (rankRead b) (rankRead b′) ≡ ltb (rankWritten b) (rankWritten b′)
+        go (below l) = lt-ltb (rankRead b) (rankRead b′) (lower b b′ h g l) ∙ sym (lt-ltb (rankWritten b) (rankWritten b′) l)
+        go (same e) =
+            let q : b ≡ b′ = other-tells b b′ h g (walk-apart n (ups (forestOf n bs) 0 0) x (otherEnd x b) (otherEnd x b′) (other-below b h) (other-below b′ g) e) in
+            le-ltb (rankRead b) (rankRead b′) (let r = ap rankRead q in omega arith) ∙ sym (le-ltb (rankWritten b) (rankWritten b′) (omega arith))
+        go (above l) = le-ltb (rankRead b) (rankRead b′) (let q = lower b′ b g h l in omega arith) ∙ sym (le-ltb (rankWritten b) (rankWritten b′) (omega arith))
+
+    -- and with them the hydrogen, whose rank is 1 in both
+    pub first-alike : (b : Bond) → ReadAt b → ltb (rankRead b) 1 ≡ ltb (rankWritten b) 1
+    first-alike b h = go (seat n bs i d big x b (h .0) (h .1))
+      where
+        go : Seat n bs i d big x b → ltb (rankRead b) 1 ≡ ltb (rankWritten b) 1
+        go (parent p w r) = lt-ltb (rankRead b) 1 (omega arith) ∙ sym (lt-ltb (rankWritten b) 1 (omega arith))
+        go (closing p m w r) = le-ltb (rankRead b) 1 (omega arith) ∙ sym (le-ltb (rankWritten b) 1 (omega arith))
+        go (opening p m w r) = le-ltb (rankRead b) 1 (omega arith) ∙ sym (le-ltb (rankWritten b) 1 (omega arith))
+        go (child p w r) = le-ltb (rankRead b) 1 (omega arith) ∙ sym (le-ltb (rankWritten b) 1 (omega arith))
+
+    -- no two bonds at an atom have the same rank
+    pub written-apart : (b b′ : Bond) → ReadAt b → ReadAt b′ → rankWritten b ≡ rankWritten b′ → b ≡ b′
+    written-apart b b′ h g e = other-tells b b′ h g (walk-apart n (ups (forestOf n bs) 0 0) x (otherEnd x b) (otherEnd x b′) (other-below b h) (other-below b′ g) e)
+
+    pub read-apart : (b b′ : Bond) → ReadAt b → ReadAt b′ → rankRead b ≡ rankRead b′ → b ≡ b′
+    read-apart b b′ h g e = go (tri (rankWritten b) (rankWritten b′))
+      where
+        go : Tri (rankWritten b) (rankWritten b′) → b ≡ b′
+        go (below l) = absurd (let q = lower b b′ h g l in omega arith)
+        go (same r) = written-apart b b′ h g r
+        go (above l) = absurd (let q = lower b′ b g h l in omega arith)
