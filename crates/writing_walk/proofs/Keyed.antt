@@ -162,7 +162,7 @@ module _ (N : List Bond) (c o : ℕ → List Bond) (k : Back N c o) (T : Bond �
 
   keyed-body : (f : Forest) (n : ℕ) (t : List Slot) (xs : List ℕ) (bs : List Bond) (ks : List Keys) (stk : List ℕ) → Inv N c o k n t
       → ((xs : List ℕ) (bs : List Bond) (ks : List Keys) → runKeyed (toks c o f (suc n) (rings c o n t)) (At xs bs n (suc n) (suc n) (rings c o n t) stk ks)
-          ≡ At (xs ++ pre f) (bs ++ done c o f n (suc n)) (endHub f n (suc n)) (suc n + size f) (suc n + size f) (after c o f (suc n) (rings c o n t)) stk (ks ++ map K (done c o f n (suc n))))
+      ≡ At (xs ++ pre f) (bs ++ done c o f n (suc n)) (endHub f n (suc n)) (suc n + size f) (suc n + size f) (after c o f (suc n) (rings c o n t)) stk (ks ++ map K (done c o f n (suc n))))
       → runKeyed (ringToks c o n t ++ toks c o f (suc n) (rings c o n t)) (At xs bs n (suc n) n t stk ks)
       ≡ At (xs ++ pre f) (bs ++ (c n ++ done c o f n (suc n))) (endHub f n (suc n)) (suc n + size f) (suc n + size f) (after c o f (suc n) (rings c o n t)) stk (ks ++ (map K (c n) ++ map K (done c o f n (suc n))))
   keyed-body f n t xs bs ks stk v ih =
@@ -220,7 +220,7 @@ module _ (N : List Bond) (c o : ℕ → List Bond) (k : Back N c o) (T : Bond �
       ∙ ap (runKeyed (toks c o g n2 t2)) (keyed-wrap g body xs ys bs ds h e n n2 n n2 t t2 ks ls stk start)
       ∙ keyed-kids g n2 (hubAfter g h e) t2 ys ds ls stk (inv-after N c o k f (suc n) u v1) ag
       ∙ (λ i. At (regroup xs w (pre f) (pre g) i) (pile bs B (c n) Df (done c o g (hubAfter g h e) n2) (done c o g h n2) (done-hub g h e n2) i)
-        (endHub g (hubAfter g h e) n2) (en i) (en i) (after c o g n2 t2) stk (heap ks B (c n) Df (done c o g (hubAfter g h e) n2) (done c o g h n2) (done-hub g h e n2) i))
+      (endHub g (hubAfter g h e) n2) (en i) (en i) (after c o g n2 t2) stk (heap ks B (c n) Df (done c o g (hubAfter g h e) n2) (done c o g h n2) (done-hub g h e n2) i))
     where
       regroup : (xs : List ℕ) (w : ℕ) (a b : List ℕ) → ((xs ++ (w ∷ [])) ++ a) ++ b ≡ xs ++ (w ∷ (a ++ b))
       regroup xs w a b = simp append-assoc

@@ -1,276 +1,42 @@
--- The order in which the writer ranks an atom's bonds is the order in which the reader meets them. Assumes nothing.
-use mathlib.Core.Path.{_≡_, refl, sym, ap, _∙_, subst}
-use mathlib.Core.Bool.{Bool, true, false, _&&_, _||_, cond}
+-- The ranks of an atom's bonds, by numbers alone. Assumes nothing.
+use mathlib.Core.Path.{_≡_, refl, sym, ap, _∙_}
+use mathlib.Core.Bool.{Bool, true, false, cond}
 use mathlib.Core.List.{List, [], _∷_, _++_}
-use Prim.Native.Nat.{ℕ, zero, suc, _+_, _-_, _≤_, _<_}
+use Prim.Native.Nat.{ℕ, zero, suc, _+_, _≤_, _<_}
 use native.Mathlib.Omega.{arith}
 use lib.Dec.{eqb, ltb}
-use lib.ListN.{length, getD}
-use borrow.Author.Tests.{eq-eqb, ne-eqb, eqb-true, eqb-false, lt-ltb, le-ltb}
-use Rattle.writing_walk.specs.Token.{Bond, bond, eqBond}
-use Rattle.writing_walk.specs.Emit.{Forest, trees}
-use Rattle.writing_walk.specs.Walk.{forestOf, keep, keepIf, sweep, closingBonds, openingBonds, unused}
-use Rattle.writing_walk.specs.Check.{ends}
-use Rattle.writing_walk.specs.Flat.{ups}
-use Rattle.writing_walk.specs.Keyed.{Keys, keys, childKeys, indexOf, ringsBefore, openingTime, closingTime, keyOf}
-use Rattle.writing_walk.specs.Ranks.{touches, otherEnd, keyAt, walkRank, textRank}
-use Rattle.writing_walk.proofs.Count.{bit, count, never, eqb-same, bond-eq, All, none, more, all-map, all-append}
-use Rattle.writing_walk.proofs.Read.{Back, Tri, below, same, above, tri}
-use Rattle.writing_walk.proofs.Walk.{Inside}
-use Rattle.writing_walk.proofs.Trip.{keep-count, back-of, inside-unused, completed, all-has}
-use Rattle.writing_walk.proofs.Twice.{Distinct, completed-inside, distinct-unused, and-turn}
-use Rattle.writing_walk.proofs.Times.{count-ends, completed-split, distinct-completed, bridge-apart, tree-keys, bridge-keys}
-use Rattle.writing_walk.proofs.Parents.{parent-bond, parent-in, in-parent}
-
--- a list in which a key rises: the places follow the key
-module _ (key : Bond → ℕ) where
-  abbrev Rising : List Bond → Type 0
-  Rising [] = Unit {0}
-  Rising (b ∷ l) = All (λ x. key b < key x) l × Rising l
-
-  index-rises : (L : List Bond) → Rising L → (b b′ : Bond) → 0 < count (eqBond b) L → 0 < count (eqBond b′) L → key b < key b′ → indexOf b L < indexOf b′ L
-  index-rises [] r b b′ h g k = absurd (omega arith)
-  index-rises (y ∷ l) r b b′ h g k = go (eqBond b y) refl (eqBond b′ y) refl h g (index-rises l (r .1) b b′)
-    where
-      go : (e : Bool) → eqBond b y ≡ e → (f : Bool) → eqBond b′ y ≡ f → 0 < bit e + count (eqBond b) l → 0 < bit f + count (eqBond b′) l
-          → (0 < count (eqBond b) l → 0 < count (eqBond b′) l → key b < key b′ → indexOf b l < indexOf b′ l) → cond e 0 (suc (indexOf b l)) < cond f 0 (suc (indexOf b′ l))
-      go true e true f h g i = absurd (let p = ap key (bond-eq b y e) in let q = ap key (bond-eq b′ y f) in omega arith)
-      go true e false f h g i = omega arith
-      go false e true f h g i = absurd (let p = all-has (λ x. key y < key x) l (r .0) b (omega arith) in let q = ap key (bond-eq b′ y f) in omega arith)
-      go false e false f h g i = let p = i (omega arith) (omega arith) k in omega arith
-
-  keep-key : (a : ℕ) (l : List Bond) → All (λ b. key b ≡ a) (keep (λ b. eqb (key b) a) l)
-  keep-key a [] = none
-  keep-key a (b ∷ l) = go (eqb (key b) a) refl (keep-key a l)
-    where
-      go : (e : Bool) → eqb (key b) a ≡ e → All (λ b. key b ≡ a) (keep (λ b. eqb (key b) a) l) → All (λ b. key b ≡ a) (keepIf e b (keep (λ b. eqb (key b) a) l))
-      go true e r = more (eqb-true (key b) a e) r
-      go false e r = r
-
-  sweep-above : (l : List Bond) (a d : ℕ) → All (λ b. a ≤ key b) (sweep key l a d)
-  sweep-above l a zero = none
-  sweep-above l a (suc d) =
-      all-append (λ b. a ≤ key b) (keep (λ b. eqb (key b) a) l) (sweep key l (suc a) d)
-      (all-map (λ b. key b ≡ a) (λ b. a ≤ key b) (λ b h. omega arith) (keep (λ b. eqb (key b) a) l) (keep-key a l))
-      (all-map (λ b. suc a ≤ key b) (λ b. a ≤ key b) (λ b h. omega arith) (sweep key l (suc a) d) (sweep-above l (suc a) d))
-
-  -- at most one bond before those with a higher key
-  rising-one : (a : ℕ) (k r : List Bond) → All (λ b. key b ≡ a) k → count (λ b. true) k ≤ 1 → All (λ b. suc a ≤ key b) r → Rising r → Rising (k ++ r)
-  rising-one a [] r none h g s = s
-  rising-one a (b ∷ []) r (more e none) h g s = (all-map (λ x. suc a ≤ key x) (λ x. key b < key x) (λ x p. omega arith) r g, s)
-  rising-one a (b ∷ x ∷ k) r e h g s = absurd (omega arith)
-
-  sweep-rising : (l : List Bond) → ((a : ℕ) → count (λ b. eqb (key b) a) l ≤ 1) → (a d : ℕ) → Rising (sweep key l a d)
-  sweep-rising l s a zero = tt
-  sweep-rising l s a (suc d) =
-      rising-one a (keep (λ b. eqb (key b) a) l) (sweep key l (suc a) d) (keep-key a l) (let z = keep-count (λ b. true) (λ b. eqb (key b) a) l in let y = s a in omega arith) (sweep-above l (suc a) d) (sweep-rising l s (suc a) d)
-
-index-below : (b : Bond) (l : List Bond) → 0 < count (eqBond b) l → indexOf b l < length l
-index-below b [] h = absurd (omega arith)
-index-below b (x ∷ l) h = go (eqBond b x) h (index-below b l)
-  where
-    go : (e : Bool) → 0 < bit e + count (eqBond b) l → (0 < count (eqBond b) l → indexOf b l < length l) → cond e 0 (suc (indexOf b l)) < suc (length l)
-    go true h f = omega arith
-    go false h f = let r = f (omega arith) in omega arith
-
-rings-later : (c o : ℕ → List Bond) (x d : ℕ) → ringsBefore c o x ≤ ringsBefore c o (x + d)
-rings-later c o x zero = let e : x + 0 ≡ x = omega arith in rw e (omega arith)
-rings-later c o x (suc d) = let e : x + suc d ≡ suc (x + d) = omega arith in rw e (omega (arith, rings-later c o x d))
-
--- a bond counted with a test that it passes
-count-passes : (q : Bond → Bool) (b : Bond) → q b ≡ true → (l : List Bond) → count (λ y. eqBond b y && q y) l ≡ count (eqBond b) l
-count-passes q b e [] = refl
-count-passes q b e (y ∷ l) = omega (arith, go (eqBond b y) refl, count-passes q b e l)
-  where
-    go : (x : Bool) → eqBond b y ≡ x → bit (x && q y) ≡ bit x
-    go true f = ap bit (sym (ap q (bond-eq b y f)) ∙ e)
-    go false f = refl
-
--- two bonds of a list that joins no two atoms twice: with the same ends they are one
-two-counted : (b b′ : Bond) → eqBond b b′ ≡ false → b .lo ≡ b′ .lo → b .hi ≡ b′ .hi → (l : List Bond) → count (eqBond b) l + count (eqBond b′) l ≤ count (ends (b .lo) (b .hi)) l
-two-counted b b′ n p q [] = omega arith
-two-counted b b′ n p q (y ∷ l) = omega (arith, go (eqBond b y) refl (eqBond b′ y) refl, two-counted b b′ n p q l)
-  where
-    ended : (z : Bond) → z ≡ y → b .lo ≡ z .lo → b .hi ≡ z .hi → 1 ≤ bit (ends (b .lo) (b .hi) y)
-    ended z e p q = subst (λ (y : Bond). 1 ≤ bit (ends (b .lo) (b .hi) y)) e (rw (eq-eqb (z .lo) (b .lo) (sym p), eq-eqb (z .hi) (b .hi) (sym q)) (omega arith))
-
-    go : (e : Bool) → eqBond b y ≡ e → (f : Bool) → eqBond b′ y ≡ f → bit e + bit f ≤ bit (ends (b .lo) (b .hi) y)
-    go true e true f = absurd (never (eqBond b b′) (ap (eqBond b) (bond-eq b′ y f) ∙ e) n)
-    go true e false f = ended b (bond-eq b y e) refl refl
-    go false e true f = ended b′ (bond-eq b′ y f) p q
-    go false e false f = omega arith
-
-pub same-bond : (l : List Bond) → Distinct l → (b b′ : Bond) → 0 < count (eqBond b) l → 0 < count (eqBond b′) l → b .lo ≡ b′ .lo → b .hi ≡ b′ .hi → b ≡ b′
-same-bond l d b b′ h g p q = go (eqBond b b′) refl
-  where
-    go : (e : Bool) → eqBond b b′ ≡ e → b ≡ b′
-    go true e = bond-eq b b′ e
-    go false e = absurd (omega (arith, d (b .lo) (b .hi), two-counted b b′ e p q l))
+use lib.ListN.{length, getD, length-append, List·getD-append}
+use lib.Seq.{getD-append-seam}
+use borrow.Author.Tests.{eq-eqb, ne-eqb, eqb-true, eqb-false, lt-ltb, le-ltb, ltb-true, ltb-false}
+use Rattle.writing_walk.specs.Ranks.{walkRank, textRank, Clock, offsetClock, Ascending}
+use Rattle.writing_walk.proofs.Count.{eqb-same, All, all-at}
+use Rattle.writing_walk.proofs.Read.{Tri, below, same, above, tri}
 
 -- the ranks by cases
-text-parent : (big x : ℕ) → textRank big x 0 x ≡ 0
+pub text-parent : (big x : ℕ) → textRank big x 0 x ≡ 0
 unfolding textRank
 text-parent big x = rw (eqb-same x)
 
-text-child : (big x h : ℕ) → x < h → textRank big x 0 h ≡ big + 2 + h
+pub text-child : (big x h : ℕ) → x < h → textRank big x 0 h ≡ big + 2 + h
 unfolding textRank
 text-child big x h g = rw (ne-eqb h x (omega arith))
 
-text-bridge : (big x p h : ℕ) → textRank big x (suc p) h ≡ suc (suc p)
+pub text-bridge : (big x p h : ℕ) → textRank big x (suc p) h ≡ suc (suc p)
 unfolding textRank
 text-bridge big x p h = rw (ne-eqb (suc p) 0 (omega arith))
 
 module _ (n : ℕ) (us : List ℕ) (x y : ℕ) where
-  walk-parent : getD us x 0 ≡ suc y → walkRank n us x y ≡ 0
+  pub walk-parent : getD us x 0 ≡ suc y → walkRank n us x y ≡ 0
   unfolding walkRank
   walk-parent e = rw (eq-eqb (getD us x 0) (suc y) e)
 
-  walk-child : (getD us x 0 ≡ suc y → ⊥) → getD us y 0 ≡ suc x → walkRank n us x y ≡ n + 2 + y
+  pub walk-child : (getD us x 0 ≡ suc y → ⊥) → getD us y 0 ≡ suc x → walkRank n us x y ≡ n + 2 + y
   unfolding walkRank
   walk-child h e = rw (ne-eqb (getD us x 0) (suc y) h, eq-eqb (getD us y 0) (suc x) e)
 
-  walk-bridge : (getD us x 0 ≡ suc y → ⊥) → (getD us y 0 ≡ suc x → ⊥) → walkRank n us x y ≡ y + 2
+  pub walk-bridge : (getD us x 0 ≡ suc y → ⊥) → (getD us y 0 ≡ suc x → ⊥) → walkRank n us x y ≡ y + 2
   unfolding walkRank
   walk-bridge h e = rw (ne-eqb (getD us x 0) (suc y) h, ne-eqb (getD us y 0) (suc x) e)
-
--- the other end and the key at either end
-other-low : (b : Bond) → otherEnd (b .lo) b ≡ b .hi
-other-low b = rw (eqb-same (b .lo))
-
-other-high : (b : Bond) → b .lo < b .hi → otherEnd (b .hi) b ≡ b .lo
-other-high b h = rw (ne-eqb (b .lo) (b .hi) (omega arith))
-
-key-low : (b : Bond) (k : Keys) → keyAt (b .lo) b k ≡ k .low
-key-low b k = rw (eqb-same (b .lo))
-
-key-high : (b : Bond) (k : Keys) → b .lo < b .hi → keyAt (b .hi) b k ≡ k .high
-key-high b k h = rw (ne-eqb (b .lo) (b .hi) (omega arith))
-
--- where a bond stands among those at the atom x: big is at least every key, p is the bond's key at x
-module _ (n : ℕ) (bs : List Bond) (i : Inside n bs) (d : Distinct bs) where
-  abbrev F : Forest
-  F = forestOf n bs
-
-  abbrev U : List ℕ
-  U = ups F 0 0
-
-  abbrev N : List Bond
-  N = unused n bs
-
-  abbrev C : ℕ → List Bond
-  C = closingBonds n N
-
-  abbrev O : ℕ → List Bond
-  O = openingBonds n N
-
-  abbrev In : Bond → Type 0
-  In b = 0 < count (eqBond b) (completed n bs)
-
-  abbrev W : ℕ → Bond → ℕ
-  W x b = walkRank n U x (otherEnd x b)
-
-  abbrev X : ℕ → ℕ → Bond → ℕ
-  X big x b = textRank big x (keyAt x b (keyOf n bs b)) (b .hi)
-
-  data Seat (big x : ℕ) (b : Bond) : Type 0 where
-    parent : b .hi ≡ x → W x b ≡ 0 → X big x b ≡ 0 → Seat big x b
-    closing : b .hi ≡ x → 0 < count (eqBond b) (C x) → W x b ≡ b .lo + 2 → X big x b ≡ suc (suc (ringsBefore C O x + indexOf b (C x))) → Seat big x b
-    opening : b .lo ≡ x → 0 < count (eqBond b) (O x) → W x b ≡ b .hi + 2 → X big x b ≡ suc (suc (ringsBefore C O x + length (C x) + indexOf b (O x))) → Seat big x b
-    child : b .lo ≡ x → W x b ≡ n + 2 + b .hi → X big x b ≡ big + 2 + b .hi → Seat big x b
-
-  inside : (b : Bond) → In b → (b .lo < b .hi) × (b .hi < n)
-  inside b h = all-has (λ b. (b .lo < b .hi) × (b .hi < n)) (completed n bs) (completed-inside n bs i) b h
-
-  -- no parent comes after its child
-  parent-before : (x y : ℕ) → getD U y 0 ≡ suc x → x < y
-  parent-before x y e =
-      let r = parent-in F x y e in
-      let q = completed-split n bs i (eqBond (bond x y (r .0))) in
-      inside (bond x y (r .0)) (let s = r .1 in omega arith) .0
-
-  back-N : Back N C O
-  back-N = back-of n N (inside-unused n bs i)
-
-  not-up : (b : Bond) → 0 < count (eqBond b) N → getD U (b .hi) 0 ≡ suc (b .lo) → ⊥
-  not-up b h e = omega (arith, bridge-apart n bs i d b h, parent-bond F (b .lo) (b .hi), ap bit (eq-eqb (getD U (b .hi) 0) (suc (b .lo)) e))
-
-  module _ (big : ℕ) where
-    parent-seat : (b : Bond) → In b → 0 < count (eqBond b) (trees F 0) → Seat big (b .hi) b
-    parent-seat b h t =
-        let o = other-high b (inside b h .0) in
-        let k = key-high b (keyOf n bs b) (inside b h .0) ∙ ap (λ (y : Keys). y .high) (tree-keys n bs i d b t) in
-        parent refl (ap (walkRank n U (b .hi)) o ∙ walk-parent n U (b .hi) (b .lo) (in-parent F b t)) (ap (λ (p : ℕ). textRank big (b .hi) p (b .hi)) k ∙ text-parent big (b .hi))
-
-    closing-seat : (b : Bond) → In b → 0 < count (eqBond b) N → Seat big (b .hi) b
-    closing-seat b h t =
-        let l = inside b h .0 in
-        let o = other-high b l in
-        let k = key-high b (keyOf n bs b) l ∙ ap (λ (y : Keys). y .high) (bridge-keys n bs i d b t) in
-        closing refl (let z = back-N .closes (b .hi) (eqBond b) in let y = count-passes (λ y. eqb (y .hi) (b .hi)) b (eqb-same (b .hi)) N in omega arith)
-        (ap (walkRank n U (b .hi)) o ∙ walk-bridge n U (b .hi) (b .lo) (not-up b t) (λ e. let q = parent-before (b .hi) (b .lo) e in omega arith))
-        (ap (λ (p : ℕ). textRank big (b .hi) p (b .hi)) k ∙ text-bridge big (b .hi) (ringsBefore C O (b .hi) + indexOf b (C (b .hi))) (b .hi))
-
-    opening-seat : (b : Bond) → In b → 0 < count (eqBond b) N → Seat big (b .lo) b
-    opening-seat b h t =
-        let l = inside b h .0 in
-        let o = other-low b in
-        let k = key-low b (keyOf n bs b) ∙ ap (λ (y : Keys). y .low) (bridge-keys n bs i d b t) in
-        opening refl (let z = back-N .opens (b .lo) (eqBond b) in let y = count-passes (λ y. eqb (y .lo) (b .lo)) b (eqb-same (b .lo)) N in omega arith)
-        (ap (walkRank n U (b .lo)) o ∙ walk-bridge n U (b .lo) (b .hi) (λ e. let q = parent-before (b .hi) (b .lo) e in omega arith) (not-up b t))
-        (ap (λ (p : ℕ). textRank big (b .lo) p (b .hi)) k ∙ text-bridge big (b .lo) (ringsBefore C O (b .lo) + length (C (b .lo)) + indexOf b (O (b .lo))) (b .hi))
-
-    child-seat : (b : Bond) → In b → 0 < count (eqBond b) (trees F 0) → Seat big (b .lo) b
-    child-seat b h t =
-        let l = inside b h .0 in
-        let o = other-low b in
-        let k = key-low b (keyOf n bs b) ∙ ap (λ (y : Keys). y .low) (tree-keys n bs i d b t) in
-        child refl (ap (walkRank n U (b .lo)) o ∙ walk-child n U (b .lo) (b .hi) (λ e. let q = parent-before (b .hi) (b .lo) e in omega arith) (in-parent F b t))
-        (ap (λ (p : ℕ). textRank big (b .lo) p (b .hi)) k ∙ text-child big (b .lo) (b .hi) l)
-
-    -- every bond at x has its seat
-    seat : (x : ℕ) (b : Bond) → In b → touches x b ≡ true → Seat big x b
-    seat x b h t = go (count (eqBond b) (trees F 0)) refl (eqb (b .lo) x) refl (eqb (b .hi) x) refl t
-      where
-        go : (m : ℕ) → count (eqBond b) (trees F 0) ≡ m → (p : Bool) → eqb (b .lo) x ≡ p → (q : Bool) → eqb (b .hi) x ≡ q → (p || q) ≡ true → Seat big x b
-        go zero m true p q r t = subst (λ (y : ℕ). Seat big y b) (eqb-true (b .lo) x p) (opening-seat b h (let s = completed-split n bs i (eqBond b) in omega arith))
-        go zero m false p true r t = subst (λ (y : ℕ). Seat big y b) (eqb-true (b .hi) x r) (closing-seat b h (let s = completed-split n bs i (eqBond b) in omega arith))
-        go zero m false p false r t = absurd (never false t refl)
-        go (suc z) m true p q r t = subst (λ (y : ℕ). Seat big y b) (eqb-true (b .lo) x p) (child-seat b h (omega arith))
-        go (suc z) m false p true r t = subst (λ (y : ℕ). Seat big y b) (eqb-true (b .hi) x r) (parent-seat b h (omega arith))
-        go (suc z) m false p false r t = absurd (never false t refl)
-
-    -- the places of the closings and of the openings at x follow the other ends
-    closings-rise : (x : ℕ) (b b′ : Bond) → 0 < count (eqBond b) (C x) → 0 < count (eqBond b′) (C x) → b .lo < b′ .lo → indexOf b (C x) < indexOf b′ (C x)
-    closings-rise x b b′ =
-        index-rises (λ b. b .lo) (C x)
-        (sweep-rising (λ b. b .lo) (keep (λ b. eqb (b .hi) x) N) (λ a. let z = keep-count (λ b. eqb (b .lo) a) (λ b. eqb (b .hi) x) N in let y = distinct-unused n bs i d a x in omega arith) 0 n) b b′
-
-    openings-rise : (x : ℕ) (b b′ : Bond) → 0 < count (eqBond b) (O x) → 0 < count (eqBond b′) (O x) → b .hi < b′ .hi → indexOf b (O x) < indexOf b′ (O x)
-    openings-rise x b b′ =
-        index-rises (λ b. b .hi) (O x)
-        (sweep-rising (λ b. b .hi) (keep (λ b. eqb (b .lo) x) N)
-        (λ a. let z = keep-count (λ b. eqb (b .hi) a) (λ b. eqb (b .lo) x) N in let y = distinct-unused n bs i d x a in let w = and-turn (λ b. eqb (b .hi) a) (λ b. eqb (b .lo) x) N in omega arith) 0 n) b b′
-
-    room : (x : ℕ) → x < n → ringsBefore C O x + (length (C x) + length (O x)) ≤ ringsBefore C O n
-    room x h = let e : suc x + (n - suc x) ≡ n = omega arith in rw e at (rings-later C O (suc x) (n - suc x))
-
-    follows : ringsBefore C O n ≤ big → (x : ℕ) (b b′ : Bond) → x < n → In b → In b′ → Seat big x b → Seat big x b′ → W x b < W x b′ → X big x b < X big x b′
-    follows z x b b′ v h g (parent p w r) (parent p′ w′ r′) l = absurd (omega arith)
-    follows z x b b′ v h g (parent p w r) (closing p′ m′ w′ r′) l = omega arith
-    follows z x b b′ v h g (parent p w r) (opening p′ m′ w′ r′) l = omega arith
-    follows z x b b′ v h g (parent p w r) (child p′ w′ r′) l = omega arith
-    follows z x b b′ v h g (closing p m w r) (parent p′ w′ r′) l = absurd (omega arith)
-    follows z x b b′ v h g (closing p m w r) (closing p′ m′ w′ r′) l = let q = closings-rise x b b′ m m′ (omega arith) in omega arith
-    follows z x b b′ v h g (closing p m w r) (opening p′ m′ w′ r′) l = let q = index-below b (C x) m in omega arith
-    follows z x b b′ v h g (closing p m w r) (child p′ w′ r′) l = let q = index-below b (C x) m in let y = room x v in omega arith
-    follows z x b b′ v h g (opening p m w r) (parent p′ w′ r′) l = absurd (omega arith)
-    follows z x b b′ v h g (opening p m w r) (closing p′ m′ w′ r′) l = absurd (let q = inside b h in let y = inside b′ g in omega arith)
-    follows z x b b′ v h g (opening p m w r) (opening p′ m′ w′ r′) l = let q = openings-rise x b b′ m m′ (omega arith) in omega arith
-    follows z x b b′ v h g (opening p m w r) (child p′ w′ r′) l = let q = index-below b (O x) m in let y = room x v in omega arith
-    follows z x b b′ v h g (child p w r) (parent p′ w′ r′) l = absurd (omega arith)
-    follows z x b b′ v h g (child p w r) (closing p′ m′ w′ r′) l = absurd (let q = inside b h in let y = inside b′ g in omega arith)
-    follows z x b b′ v h g (child p w r) (opening p′ m′ w′ r′) l = absurd (let q = inside b h in let y = inside b′ g in omega arith)
-    follows z x b b′ v h g (child p w r) (child p′ w′ r′) l = omega arith
 
 -- the ranks that walk numbers give, for any list of parents
 data Walked (n : ℕ) (us : List ℕ) (x y : ℕ) : Type 0 where
@@ -318,85 +84,103 @@ text-not-one big x zero h e = go (eqb h x) e
     go false e = omega arith
 text-not-one big x (suc p) h e = let q = text-bridge big x p h in omega arith
 
-touched : (x : ℕ) (b : Bond) → touches x b ≡ true → (n : ℕ) → b .lo < b .hi → b .hi < n → (x < n) × (otherEnd x b < n)
-touched x b t n l h = go (eqb (b .lo) x) refl (eqb (b .hi) x) refl t
+ltb-alike : (a b c e : ℕ) → (a < b → c < e) → (b ≤ a → e ≤ c) → ltb a b ≡ ltb c e
+ltb-alike a b c e f g = go (ltb a b) refl
   where
-    go : (p : Bool) → eqb (b .lo) x ≡ p → (q : Bool) → eqb (b .hi) x ≡ q → (p || q) ≡ true → (x < n) × (cond p (b .hi) (b .lo) < n)
-    go true p q r t = let e = eqb-true (b .lo) x p in (omega arith, h)
-    go false p true r t = let e = eqb-true (b .hi) x r in (omega arith, omega arith)
-    go false p false r t = absurd (never false t refl)
+    go : (x : Bool) → ltb a b ≡ x → x ≡ ltb c e
+    go true p = sym (lt-ltb c e (f (ltb-true a b p)))
+    go false p = sym (le-ltb c e (g (ltb-false a b p)))
 
--- the bonds at an atom that go to the same atom have the same ends
-same-other : (x : ℕ) (b b′ : Bond) → b .lo < b .hi → b′ .lo < b′ .hi → touches x b ≡ true → touches x b′ ≡ true → otherEnd x b ≡ otherEnd x b′ → (b .lo ≡ b′ .lo) × (b .hi ≡ b′ .hi)
-same-other x b b′ l l′ t t′ e = go (eqb (b .lo) x) refl (eqb (b .hi) x) refl (eqb (b′ .lo) x) refl (eqb (b′ .hi) x) refl t t′ e
+suc-ltb : (a b : ℕ) → ltb (suc a) (suc b) ≡ ltb a b
+suc-ltb a b = ltb-alike (suc a) (suc b) a b (λ u. omega arith) (λ u. omega arith)
+
+-- the same order under every clock
+data Told (x p h : ℕ) : Type 0 where
+  ahead : p ≡ 0 → h ≡ x → Told x p h
+  digit : 0 < p → Told x p h
+  behind : p ≡ 0 → (h ≡ x → ⊥) → Told x p h
+
+told : (x p h : ℕ) → Told x p h
+told x zero h = go (eqb h x) refl
   where
-    go : (p : Bool) → eqb (b .lo) x ≡ p → (q : Bool) → eqb (b .hi) x ≡ q → (p′ : Bool) → eqb (b′ .lo) x ≡ p′ → (q′ : Bool) → eqb (b′ .hi) x ≡ q′ → (p || q) ≡ true → (p′ || q′) ≡ true
-        → cond p (b .hi) (b .lo) ≡ cond p′ (b′ .hi) (b′ .lo) → (b .lo ≡ b′ .lo) × (b .hi ≡ b′ .hi)
-    go true p q r true p′ q′ r′ t t′ e = (eqb-true (b .lo) x p ∙ sym (eqb-true (b′ .lo) x p′), e)
-    go true p q r false p′ true r′ t t′ e = absurd (let u = eqb-true (b .lo) x p in let v = eqb-true (b′ .hi) x r′ in omega arith)
-    go true p q r false p′ false r′ t t′ e = absurd (never false t′ refl)
-    go false p true r true p′ q′ r′ t t′ e = absurd (let u = eqb-true (b .hi) x r in let v = eqb-true (b′ .lo) x p′ in omega arith)
-    go false p true r false p′ true r′ t t′ e = (e, eqb-true (b .hi) x r ∙ sym (eqb-true (b′ .hi) x r′))
-    go false p true r false p′ false r′ t t′ e = absurd (never false t′ refl)
-    go false p false r p′ s q′ r′ t t′ e = absurd (never false t refl)
+    go : (e : Bool) → eqb h x ≡ e → Told x 0 h
+    go true e = ahead refl (eqb-true h x e)
+    go false e = behind refl (eqb-false h x e)
+told x (suc p) h = digit (omega arith)
 
--- the bonds at the walk number x in what is read from the text of n atoms with the bonds bs; big is at least every key
-module _ (n : ℕ) (bs : List Bond) (i : Inside n bs) (d : Distinct bs) (x : ℕ) where
-  abbrev pub ReadAt : Bond → Type 0
-  ReadAt b = (0 < count (eqBond b) (completed n bs)) × (touches x b ≡ true)
+told-ahead : (big x p h : ℕ) → p ≡ 0 → h ≡ x → textRank big x p h ≡ 0
+unfolding textRank
+told-ahead big x p h e q = rw (eq-eqb p 0 e, eq-eqb h x q)
 
-  -- a bond at an atom is told by its other end
-  pub other-tells : (b b′ : Bond) → ReadAt b → ReadAt b′ → otherEnd x b ≡ otherEnd x b′ → b ≡ b′
-  other-tells b b′ h g e =
-      let l = inside n bs i d b (h .0) in
-      let l′ = inside n bs i d b′ (g .0) in
-      let s = same-other x b b′ (l .0) (l′ .0) (h .1) (g .1) e in
-      same-bond (completed n bs) (distinct-completed n bs i d) b b′ (h .0) (g .0) (s .0) (s .1)
+told-digit : (big x p h : ℕ) → 0 < p → textRank big x p h ≡ suc p
+unfolding textRank
+told-digit big x p h e = rw (ne-eqb p 0 (omega arith))
 
-  pub other-below : (b : Bond) → ReadAt b → otherEnd x b < n
-  other-below b h = let l = inside n bs i d b (h .0) in touched x b (h .1) n (l .0) (l .1) .1
+told-behind : (big x p h : ℕ) → p ≡ 0 → (h ≡ x → ⊥) → textRank big x p h ≡ big + 2 + h
+unfolding textRank
+told-behind big x p h e q = rw (eq-eqb p 0 e, ne-eqb h x q)
 
-  module _ (big : ℕ) (large : ringsBefore (closingBonds n (unused n bs)) (openingBonds n (unused n bs)) n ≤ big) where
-    abbrev pub rankWritten : Bond → ℕ
-    rankWritten b = walkRank n (ups (forestOf n bs) 0 0) x (otherEnd x b)
+module _ (clock : ℕ → ℕ) (z : ℕ) (c : Clock clock z) (big big′ : ℕ) (large : z ≤ big) (large′ : clock z ≤ big′) (x : ℕ) where
+  positive : (p : ℕ) → 0 < p → p ≤ z → 0 < clock p
+  positive p h l = let q = c .rises 0 p h l in let e = c .zeroth in omega arith
 
-    abbrev pub rankRead : Bond → ℕ
-    rankRead b = textRank big x (keyAt x b (keyOf n bs b)) (b .hi)
+  at-most : (p : ℕ) → p ≤ z → clock p ≤ big′
+  at-most p l = go (tri p z)
+    where
+      go : Tri p z → clock p ≤ big′
+      go (below h) = let q = c .rises p z h (omega arith) in omega arith
+      go (same h) = let q = ap clock h in omega arith
+      go (above h) = absurd (omega arith)
 
-    lower : (b b′ : Bond) → ReadAt b → ReadAt b′ → rankWritten b < rankWritten b′ → rankRead b < rankRead b′
-    lower b b′ h g =
-        let l = inside n bs i d b (h .0) in
-        follows n bs i d big large x b b′ (touched x b (h .1) n (l .0) (l .1) .0) (h .0) (g .0) (seat n bs i d big x b (h .0) (h .1)) (seat n bs i d big x b′ (g .0) (g .1))
+  kept : (p q : ℕ) → p ≤ z → q ≤ z → ltb (clock p) (clock q) ≡ ltb p q
+  kept p q l m = go (tri p q)
+    where
+      go : Tri p q → ltb (clock p) (clock q) ≡ ltb p q
+      go (below h) = lt-ltb (clock p) (clock q) (c .rises p q h m) ∙ sym (lt-ltb p q h)
+      go (same h) = le-ltb (clock p) (clock q) (let e = ap clock h in omega arith) ∙ sym (le-ltb p q (omega arith))
+      go (above h) = le-ltb (clock p) (clock q) (let e = c .rises q p h l in omega arith) ∙ sym (le-ltb p q (omega arith))
 
-    -- THE STATEMENT: of two bonds at an atom, the one that the writer ranks lower is the one that the reader ranks lower
-    pub ranks-alike : (b b′ : Bond) → ReadAt b → ReadAt b′ → ltb (rankRead b) (rankRead b′) ≡ ltb (rankWritten b) (rankWritten b′)
-    ranks-alike b b′ h g = go (tri (rankWritten b) (rankWritten b′))
-      where
-        go : Tri (rankWritten b) (rankWritten b′) → ltb (rankRead b) (rankRead b′) ≡ ltb (rankWritten b) (rankWritten b′)
-        go (below l) = lt-ltb (rankRead b) (rankRead b′) (lower b b′ h g l) ∙ sym (lt-ltb (rankWritten b) (rankWritten b′) l)
-        go (same e) =
-            let q : b ≡ b′ = other-tells b b′ h g (walk-apart n (ups (forestOf n bs) 0 0) x (otherEnd x b) (otherEnd x b′) (other-below b h) (other-below b′ g) e) in
-            le-ltb (rankRead b) (rankRead b′) (let r = ap rankRead q in omega arith) ∙ sym (le-ltb (rankWritten b) (rankWritten b′) (omega arith))
-        go (above l) = le-ltb (rankRead b) (rankRead b′) (let q = lower b′ b g h l in omega arith) ∙ sym (le-ltb (rankWritten b) (rankWritten b′) (omega arith))
+  -- THE LAW: ranks by times and ranks by another measure of the same times are ordered alike
+  pub text-retold : (p h q g : ℕ) → p ≤ z → q ≤ z → ltb (textRank big′ x (clock p) h) (textRank big′ x (clock q) g) ≡ ltb (textRank big x p h) (textRank big x q g)
+  text-retold p h q g l m = go (told x p h) (told x q g)
+    where
+      zero-stays : (p : ℕ) → p ≡ 0 → clock p ≡ 0
+      zero-stays p e = ap clock e ∙ c .zeroth
 
-    -- and with them the hydrogen, whose rank is 1 in both
-    pub first-alike : (b : Bond) → ReadAt b → ltb (rankRead b) 1 ≡ ltb (rankWritten b) 1
-    first-alike b h = go (seat n bs i d big x b (h .0) (h .1))
-      where
-        go : Seat n bs i d big x b → ltb (rankRead b) 1 ≡ ltb (rankWritten b) 1
-        go (parent p w r) = lt-ltb (rankRead b) 1 (omega arith) ∙ sym (lt-ltb (rankWritten b) 1 (omega arith))
-        go (closing p m w r) = le-ltb (rankRead b) 1 (omega arith) ∙ sym (le-ltb (rankWritten b) 1 (omega arith))
-        go (opening p m w r) = le-ltb (rankRead b) 1 (omega arith) ∙ sym (le-ltb (rankWritten b) 1 (omega arith))
-        go (child p w r) = le-ltb (rankRead b) 1 (omega arith) ∙ sym (le-ltb (rankWritten b) 1 (omega arith))
+      go : Told x p h → Told x q g → ltb (textRank big′ x (clock p) h) (textRank big′ x (clock q) g) ≡ ltb (textRank big x p h) (textRank big x q g)
+      go (ahead a e) (ahead b f) = rw (told-ahead big′ x (clock p) h (zero-stays p a) e, told-ahead big′ x (clock q) g (zero-stays q b) f, told-ahead big x p h a e, told-ahead big x q g b f)
+      go (ahead a e) (digit b) = rw (told-ahead big′ x (clock p) h (zero-stays p a) e, told-digit big′ x (clock q) g (positive q b m), told-ahead big x p h a e, told-digit big x q g b) (ltb-alike 0 (suc (clock q)) 0 (suc q) (λ u. omega arith) (λ u. omega arith))
+      go (ahead a e) (behind b f) = rw (told-ahead big′ x (clock p) h (zero-stays p a) e, told-behind big′ x (clock q) g (zero-stays q b) f, told-ahead big x p h a e, told-behind big x q g b f) (ltb-alike 0 (big′ + 2 + g) 0 (big + 2 + g) (λ u. omega arith) (λ u. omega arith))
+      go (digit a) (ahead b f) = rw (told-digit big′ x (clock p) h (positive p a l), told-ahead big′ x (clock q) g (zero-stays q b) f, told-digit big x p h a, told-ahead big x q g b f) (ltb-alike (suc (clock p)) 0 (suc p) 0 (λ u. omega arith) (λ u. omega arith))
+      go (digit a) (digit b) = rw (told-digit big′ x (clock p) h (positive p a l), told-digit big′ x (clock q) g (positive q b m), told-digit big x p h a, told-digit big x q g b) (suc-ltb (clock p) (clock q) ∙ kept p q l m ∙ sym (suc-ltb p q))
+      go (digit a) (behind b f) = rw (told-digit big′ x (clock p) h (positive p a l), told-behind big′ x (clock q) g (zero-stays q b) f, told-digit big x p h a, told-behind big x q g b f) (let y = at-most p l in ltb-alike (suc (clock p)) (big′ + 2 + g) (suc p) (big + 2 + g) (λ u. omega arith) (λ u. omega arith))
+      go (behind a e) (ahead b f) = rw (told-behind big′ x (clock p) h (zero-stays p a) e, told-ahead big′ x (clock q) g (zero-stays q b) f, told-behind big x p h a e, told-ahead big x q g b f) (ltb-alike (big′ + 2 + h) 0 (big + 2 + h) 0 (λ u. omega arith) (λ u. omega arith))
+      go (behind a e) (digit b) = rw (told-behind big′ x (clock p) h (zero-stays p a) e, told-digit big′ x (clock q) g (positive q b m), told-behind big x p h a e, told-digit big x q g b) (let y = at-most q m in ltb-alike (big′ + 2 + h) (suc (clock q)) (big + 2 + h) (suc q) (λ u. omega arith) (λ u. omega arith))
+      go (behind a e) (behind b f) = rw (told-behind big′ x (clock p) h (zero-stays p a) e, told-behind big′ x (clock q) g (zero-stays q b) f, told-behind big x p h a e, told-behind big x q g b f) (ltb-alike (big′ + 2 + h) (big′ + 2 + g) (big + 2 + h) (big + 2 + g) (λ u. omega arith) (λ u. omega arith))
 
-    -- no two bonds at an atom have the same rank
-    pub written-apart : (b b′ : Bond) → ReadAt b → ReadAt b′ → rankWritten b ≡ rankWritten b′ → b ≡ b′
-    written-apart b b′ h g e = other-tells b b′ h g (walk-apart n (ups (forestOf n bs) 0 0) x (otherEnd x b) (otherEnd x b′) (other-below b h) (other-below b′ g) e)
+  pub first-retold : (p h : ℕ) → p ≤ z → ltb (textRank big′ x (clock p) h) 1 ≡ ltb (textRank big x p h) 1
+  first-retold p h l = go (told x p h)
+    where
+      go : Told x p h → ltb (textRank big′ x (clock p) h) 1 ≡ ltb (textRank big x p h) 1
+      go (ahead a e) = rw (told-ahead big′ x (clock p) h (ap clock a ∙ c .zeroth) e, told-ahead big x p h a e)
+      go (digit a) = rw (told-digit big′ x (clock p) h (positive p a l), told-digit big x p h a) (let y = positive p a l in ltb-alike (suc (clock p)) 1 (suc p) 1 (λ u. omega arith) (λ u. omega arith))
+      go (behind a e) = rw (told-behind big′ x (clock p) h (ap clock a ∙ c .zeroth) e, told-behind big x p h a e) (ltb-alike (big′ + 2 + h) 1 (big + 2 + h) 1 (λ u. omega arith) (λ u. omega arith))
 
-    pub read-apart : (b b′ : Bond) → ReadAt b → ReadAt b′ → rankRead b ≡ rankRead b′ → b ≡ b′
-    read-apart b b′ h g e = go (tri (rankWritten b) (rankWritten b′))
-      where
-        go : Tri (rankWritten b) (rankWritten b′) → b ≡ b′
-        go (below l) = absurd (let q = lower b b′ h g l in omega arith)
-        go (same r) = written-apart b b′ h g r
-        go (above l) = absurd (let q = lower b′ b g h l in omega arith)
+-- offsets that ascend are a clock
+pub offset-clock : (l : List ℕ) → Ascending l → Clock (offsetClock l) (length l)
+offset-clock l s = record { zeroth = refl; rises = rises }
+  where
+    rises : (a b : ℕ) → a < b → b ≤ length l → offsetClock l a < offsetClock l b
+    rises zero zero h g = absurd (omega arith)
+    rises zero (suc b) h g = omega arith
+    rises (suc a) zero h g = absurd (omega arith)
+    rises (suc a) (suc b) h g = let q = s a b (omega arith) (omega arith) in omega arith
+
+-- an offset above all before it is added at the end
+pub ascending-more : (l : List ℕ) (p : ℕ) → Ascending l → All (λ y. y < p) l → Ascending (l ++ (p ∷ []))
+ascending-more l p s a i j h g = go (tri j (length l))
+  where
+    go : Tri j (length l) → getD (l ++ (p ∷ [])) i 0 < getD (l ++ (p ∷ [])) j 0
+    go (below k) = rw (List·getD-append l (p ∷ []) 0 i (omega arith), List·getD-append l (p ∷ []) 0 j k) (s i j h k)
+    go (same k) = rw (List·getD-append l (p ∷ []) 0 i (omega arith), k, getD-append-seam l p [] 0) (all-at (λ y. y < p) 0 l i a (omega arith))
+    go (above k) = absurd (let q = length-append l (p ∷ []) in omega arith)
