@@ -301,7 +301,7 @@ trees-relabel pay leaf n = refl
 trees-relabel pay (node w k f g) n = rw (size-relabel pay f, tree-relabel pay f n (suc n), trees-relabel pay g (suc n + size f))
 
 -- as many atoms as the walk visits
-eqb-turn : (a b : ℕ) → eqb a b ≡ eqb b a
+pub eqb-turn : (a b : ℕ) → eqb a b ≡ eqb b a
 eqb-turn a b = go (eqb a b) refl
   where
     go : (x : Bool) → eqb a b ≡ x → x ≡ eqb b a

@@ -120,7 +120,7 @@ found p P (b ∷ l) (more g a) h = go (p b) refl h (found p P l a)
     go true e h f = record { it = b; passes = e; has = g }
     go false e h f = f (omega arith)
 
-count-less : (p q : Bond → Bool) (l : List Bond) → All (λ b. bit (p b) ≤ bit (q b)) l → count p l ≤ count q l
+pub count-less : (p q : Bond → Bool) (l : List Bond) → All (λ b. bit (p b) ≤ bit (q b)) l → count p l ≤ count q l
 count-less p q [] none = omega arith
 count-less p q (b ∷ l) (more h a) = omega (arith, count-less p q l a)
 
