@@ -2,122 +2,103 @@
 use Prim.Native.Nat.{ℕ, zero, suc, _+_, _≤_, _<_}
 use native.Mathlib.Omega.{arith}
 use mathlib.Core.Path.{_≡_, refl, sym, ap, _∙_, subst}
-use mathlib.Core.Bool.{Bool, true, false, _&&_, _||_, cond}
+use mathlib.Core.Bool.{Bool, true, false, _&&_}
 use mathlib.Core.List.{List, [], _∷_, _++_, map}
 use lib.Dec.{eqb, ltb}
 use lib.ListN.{length, getD}
-use borrow.Author.Tests.{eqb-true, eqb-false}
-use Rattle.parity.specs.Parity.{flipIf, oddly, oddPairs, over, odd, unlike, ascending, turned, Apart, Perm, nil, cons, swap, trans}
+use Rattle.parity.specs.Parity.{flipIf, oddly, oddPairs, over, odd, absent, unlike, ascending, turned, Apart, Perm}
 use Rattle.parity.specs.Mark.{markIf, turnBetween}
-use Rattle.parity.proofs.Items.{perm-same, oddly-perm}
+use Rattle.parity.proofs.Items.{oddly-perm, unlike-perm}
 use Rattle.parity.proofs.Turns.{Listed, turned-back, turned-listed, apart-perm, alike-even}
 use Rattle.parity.proofs.Marks.{mark-trip}
-use Rattle.kinds.specs.Kind.{turned as turnedKind}
 use Rattle.writing_walk.specs.Token.{Bond, bond, eqBond}
 use Rattle.writing_walk.specs.Emit.{pre}
 use Rattle.writing_walk.specs.Walk.{forestOf, place, renumber, renumbered, keep, keepIf}
-use Rattle.writing_walk.specs.Same.{count, All, none, more, Perm as BondPerm, nil as none-swapped, cons as first-kept, swap as first-swapped, trans as in-turn}
-use Rattle.writing_walk.specs.Ranks.{touches, otherEnd}
-use Rattle.writing_walk.proofs.Count.{never}
+use Rattle.writing_walk.specs.Same.{count, All, none, more}
+use Rattle.writing_walk.specs.Flat.{ups}
+use Rattle.writing_walk.specs.Keyed.{Keys, childKeys, keyOf, indexOf}
+use Rattle.writing_walk.specs.Ranks.{touches, otherEnd, keyAt, walkRank, textRank, rankWritten, rankRead, Clock}
+use Rattle.writing_walk.proofs.Count.{never, all-at, all-map}
 use Rattle.writing_walk.proofs.Walk.{Inside}
-use Rattle.writing_walk.proofs.Trip.{completed, renumbering}
+use Rattle.writing_walk.proofs.Trip.{completed, renumbering, round-trip}
+use Rattle.writing_walk.proofs.Twice.{Distinct, completed-inside}
+use Rattle.writing_walk.proofs.Times.{distinct-completed}
+use Rattle.writing_walk.proofs.Ranks.{walk-apart}
+use Rattle.writing_walk.proofs.Seats.{ReadAt, ringTokens, ranks-alike, first-alike, other-below}
 use Rattle.writing_walk.proofs.Order.{atom-place}
-use Rattle.writing_walk.proofs.Sums.{eqb-place}
-use Rattle.writing_walk.proofs.Perm.{bonds-permuted}
-use Rattle.walk_orders.specs.Orders.{bondAt, numbersFrom, numbersAt, withHydrogen, writerRank, readerRank, newNumber}
-use Rattle.walk_orders.proofs.Numbers.{endsAt, numbers-map}
+use Rattle.walk_orders.specs.Orders.{bondAt, numbersAt, withHydrogen, writerRank, readerRank, newNumber}
+use Rattle.walk_orders.proofs.Numbers.{endsAt, numbers-map, numbers-ascend, ascending-unlike, unlike-map, map-map, index-found, at-counted, numberTo, joins, joined-once, first-only, number-back, numbers-back, ends-unlike, all-ends}
+use Rattle.walk_orders.proofs.Carried.{perm-back, walkEnds, touches-place, other-place, same-ends}
 
--- ---- the same bonds at an atom, seen from it
+at-map : {A : Type 0} (f : Bond → A) (a : A) (l : List Bond) (j : ℕ) → j < length l → getD (map f l) j a ≡ f (bondAt l j)
+at-map f a [] j h = absurd (omega arith)
+at-map f a (b ∷ l) zero h = refl
+at-map f a (b ∷ l) (suc j) h = at-map f a l j (omega arith)
 
-perm-back : {A : Type 0} {l m : List A} → Perm l m → Perm m l
-perm-back nil = nil
-perm-back (cons p) = cons (perm-back p)
-perm-back (swap p) = swap (perm-back p)
-perm-back (trans p q) = trans (perm-back q) (perm-back p)
+oddly-of : (t : ℕ → Bool) (f : ℕ → ℕ) (l : List ℕ) → oddly t (map f l) ≡ oddly (λ y. t (f y)) l
+unfolding oddly
+oddly-of t f [] = refl
+oddly-of t f (y ∷ l) = ap (flipIf (t (f y))) (oddly-of t f l)
 
-ends-perm : (x : ℕ) {l m : List Bond} → BondPerm l m → Perm (endsAt x l) (endsAt x m)
-ends-perm x none-swapped = nil
-ends-perm x (first-kept {x = b} {l} {m} p) = go (touches x b) (ends-perm x p)
-  where
-    go : (t : Bool) → Perm (endsAt x l) (endsAt x m) → Perm (map (otherEnd x) (keepIf t b (keep (touches x) l))) (map (otherEnd x) (keepIf t b (keep (touches x) m)))
-    go true r = cons r
-    go false r = r
-ends-perm x (first-swapped {x = b} {y = c} {l} {m} p) = go (touches x b) (touches x c) (ends-perm x p)
-  where
-    go : (t u : Bool) → Perm (endsAt x l) (endsAt x m)
-        → Perm (map (otherEnd x) (keepIf t b (keepIf u c (keep (touches x) l)))) (map (otherEnd x) (keepIf u c (keepIf t b (keep (touches x) m))))
-    go true true r = swap r
-    go true false r = cons r
-    go false true r = cons r
-    go false false r = r
-ends-perm x (in-turn p q) = trans (ends-perm x p) (ends-perm x q)
+oddly-same : (s t : ℕ → Bool) (l : List ℕ) → All (λ y. s y ≡ t y) l → oddly s l ≡ oddly t l
+unfolding oddly
+oddly-same s t [] none = refl
+oddly-same s t (y ∷ l) (more h a) = λ j. flipIf (h j) (oddly-same s t l a j)
 
-module _ (n : ℕ) (bs : List Bond) (i : Inside n bs) (v : ℕ) (h : v < n) where
+odd-hydrogen : (h : Bool) (l : List ℕ) → odd (withHydrogen h l) ≡ flipIf (h && oddly (over 1) l) (odd l)
+unfolding odd oddPairs
+odd-hydrogen true l = refl
+odd-hydrogen false l = refl
+
+-- ---- the atom v of n, with the walk number x, and the bonds read, with their keys, under a clock
+
+module _ (n : ℕ) (bs : List Bond) (i : Inside n bs) (d : Distinct bs) (v : ℕ) (h : v < n) (clock : ℕ → ℕ) (big : ℕ) (c : Clock clock (ringTokens n bs)) (large : clock (ringTokens n bs) ≤ big) where
   abbrev order : List ℕ
   order = pre (forestOf n bs)
 
   abbrev x : ℕ
   x = place order v
 
-  -- the walk numbers of the other ends
-  abbrev pub walkEnds : List ℕ
-  walkEnds = map (λ b. place order (otherEnd v b)) (keep (touches v) bs)
+  abbrev read : List Bond
+  read = completed n bs
 
-  or-turn : (p q : Bool) → (p || q) ≡ (q || p)
-  or-turn true true = refl
-  or-turn true false = refl
-  or-turn false true = refl
-  or-turn false false = refl
+  abbrev ends-old : List ℕ
+  ends-old = walkEnds n bs v
 
-  module _ (b : Bond) (g : (b .lo < b .hi) × (b .hi < n)) where
-    at-lo : eqb (place order (b .lo)) x ≡ eqb (b .lo) v
-    at-lo = eqb-place n order (renumbering n bs i .every) v h (b .lo) (let l = g .0 in let m = g .1 in omega arith)
+  abbrev ends-new : List ℕ
+  ends-new = endsAt x read
 
-    at-hi : eqb (place order (b .hi)) x ≡ eqb (b .hi) v
-    at-hi = eqb-place n order (renumbering n bs i .every) v h (b .hi) (g .1)
+  -- an atom to which a bond of x goes, by its walk number: how the writer and the reader rank the bond, and its old and its new number
+  abbrev rank : ℕ → ℕ
+  rank y = walkRank n (ups (forestOf n bs) 0 0) x y
 
-    abbrev turnedTo : Bool → Bond
-    turnedTo t = cond t (bond (place order (b .lo)) (place order (b .hi)) (b .kind)) (bond (place order (b .hi)) (place order (b .lo)) (turnedKind (b .kind)))
+  abbrev new : ℕ → ℕ
+  new y = numberTo x read y
 
-    touches-place : touches x (renumber order b) ≡ touches v b
-    touches-place = go (ltb (place order (b .lo)) (place order (b .hi)))
-      where
-        go : (t : Bool) → touches x (turnedTo t) ≡ touches v b
-        go true = λ j. at-lo j || at-hi j
-        go false = (λ j. at-hi j || at-lo j) ∙ or-turn (eqb (b .hi) v) (eqb (b .lo) v)
+  abbrev text : ℕ → ℕ
+  text y = readerRank clock big read (map (keyOf n bs) read) x (new y)
 
-    other-place : touches v b ≡ true → otherEnd x (renumber order b) ≡ place order (otherEnd v b)
-    other-place t = go (ltb (place order (b .lo)) (place order (b .hi)))
-      where
-        -- exactly one end is v
-        one : (p q : Bool) → eqb (b .lo) v ≡ p → eqb (b .hi) v ≡ q → (p || q) ≡ true → cond q (place order (b .lo)) (place order (b .hi)) ≡ place order (cond p (b .hi) (b .lo))
-        one true true e f u = absurd (let y = eqb-true (b .lo) v e in let z = eqb-true (b .hi) v f in let l = g .0 in omega arith)
-        one true false e f u = refl
-        one false true e f u = refl
-        one false false e f u = absurd (never false u refl)
+  abbrev old : ℕ → ℕ
+  old y = numberTo v bs (getD order y 0)
 
-        pushed : (p : Bool) → cond p (place order (b .hi)) (place order (b .lo)) ≡ place order (cond p (b .hi) (b .lo))
-        pushed true = refl
-        pushed false = refl
+  in-read : Inside n read
+  in-read = completed-inside n bs i
 
-        go : (t : Bool) → otherEnd x (turnedTo t) ≡ place order (otherEnd v b)
-        go true = (λ j. cond (at-lo j) (place order (b .hi)) (place order (b .lo))) ∙ pushed (eqb (b .lo) v)
-        go false = (λ j. cond (at-hi j) (place order (b .lo)) (place order (b .hi))) ∙ one (eqb (b .lo) v) (eqb (b .hi) v) refl refl t
+  -- a bond read at x, with that atom at its other end
+  pub record Standing (y : ℕ) : Type 0 where
+    pub it : Bond
+    pub found : ReadAt n bs x it
+    pub ends-in : otherEnd x it ≡ y
+    pub ranked : text y ≡ rankRead clock big n bs x it
 
-  renumbered-ends : (l : List Bond) → Inside n l → endsAt x (map (renumber order) l) ≡ map (λ b. place order (otherEnd v b)) (keep (touches v) l)
-  renumbered-ends [] none = refl
-  renumbered-ends (b ∷ l) (more g a) =
-      ap (λ (t : Bool). map (otherEnd x) (keepIf t (renumber order b) (keep (touches x) (map (renumber order) l)))) (touches-place b g)
-      ∙ go (touches v b) refl (renumbered-ends l a)
-    where
-      go : (t : Bool) → touches v b ≡ t → endsAt x (map (renumber order) l) ≡ map (λ b. place order (otherEnd v b)) (keep (touches v) l)
-          → map (otherEnd x) (keepIf t (renumber order b) (keep (touches x) (map (renumber order) l))) ≡ map (λ b. place order (otherEnd v b)) (keepIf t b (keep (touches v) l))
-      go true e r = λ j. other-place b g e j ∷ r j
-      go false e r = r
-
-  -- THE STATEMENT: the atoms to which the bonds of v go are, under the renumbering, those to which the bonds read at its walk number go
-  pub same-ends : Perm walkEnds (endsAt x (completed n bs))
-  unfolding renumbered
-  same-ends =
-      let p : BondPerm (completed n bs) (map (renumber order) bs) = bonds-permuted n bs i in
-      subst (λ (l : List ℕ). Perm l (endsAt x (completed n bs))) (renumbered-ends bs i) (perm-back (ends-perm x p))
+  standing : (j : ℕ) → j < length read → touches x (bondAt read j) ≡ true → Standing (otherEnd x (bondAt read j))
+  unfolding readerRank
+  standing j l t =
+      let b = bondAt read j in
+      let e : new (otherEnd x b) ≡ j = number-back n read in-read (distinct-completed n bs i d) x j l t in
+      record {
+        it = b;
+        found = (at-counted read j l, t);
+        ends-in = refl;
+        ranked = ap (λ (m : ℕ). readerRank clock big read (map (keyOf n bs) read) x m) e ∙ ap (λ (k : Keys). textRank big x (clock (keyAt x b k)) (b .hi)) (at-map (keyOf n bs) childKeys read j l);
+      }

@@ -14,7 +14,7 @@ use Rattle.writing_walk.specs.Check.{ends}
 use Rattle.writing_walk.specs.Same.{bit, count, All, none, more}
 use Rattle.writing_walk.specs.Keyed.{indexOf}
 use Rattle.writing_walk.specs.Ranks.{touches, otherEnd}
-use Rattle.writing_walk.proofs.Count.{and-left, and-right, never, eqb-same, bond-eq, all-map}
+use Rattle.writing_walk.proofs.Count.{and-left, and-right, never, eqb-same, bond-same, bond-eq, all-map}
 use Rattle.writing_walk.proofs.Trip.{eqb-turn}
 use Rattle.writing_walk.proofs.Read.{Tri, tri}
 use Rattle.writing_walk.proofs.Walk.{Inside}
@@ -142,6 +142,9 @@ index-found b (x ∷ l) h = go (eqBond b x) refl h (index-found b l)
     go true e h f = (omega arith, sym (bond-eq b x e))
     go false e h f = let r = f (omega arith) in (omega arith, r .1)
 
+pub at-counted : (l : List Bond) (j : ℕ) → j < length l → 0 < count (eqBond (bondAt l j)) l
+at-counted l j h = at-passes (eqBond (bondAt l j)) l j h (bond-same (bondAt l j))
+
 -- the bond between x and y
 abbrev pub joins : ℕ → ℕ → Bond → Bool
 joins x y b = touches x b && eqb (otherEnd x b) y
@@ -218,3 +221,12 @@ module _ (n : ℕ) (l : List Bond) (i : Inside n l) (d : Distinct l) where
 
   pub ends-unlike : (x : ℕ) → unlike (endsAt x l) ≡ true
   ends-unlike x = once-unlike (endsAt x l) (λ y. let q = count-ends-at x y l in let r = joined-once x y in omega arith)
+
+-- each other end of a bond at x is found by the number of its bond
+pub all-ends : (P : ℕ → Type 0) (x : ℕ) (l : List Bond) → ((j : ℕ) → j < length l → touches x (bondAt l j) ≡ true → P (otherEnd x (bondAt l j))) → All P (endsAt x l)
+all-ends P x [] h = none
+all-ends P x (b ∷ l) h = go (touches x b) (λ t. h 0 (omega arith) t) (all-ends P x l (λ j k t. h (suc j) (omega arith) t))
+  where
+    go : (t : Bool) → (t ≡ true → P (otherEnd x b)) → All P (endsAt x l) → All P (map (otherEnd x) (keepIf t b (keep (touches x) l)))
+    go true e r = more (e refl) r
+    go false e r = r
