@@ -186,7 +186,7 @@ pub map-map : {A B : Type 0} (f : A → B) (g : Bond → A) (l : List Bond) → 
 map-map f g [] = refl
 map-map {B = B} f g (b ∷ l) = ap (λ (r : List B). f (g b) ∷ r) (map-map f g l)
 
-map-same : (l : List ℕ) → map (λ (b : ℕ). b) l ≡ l
+pub map-same : (l : List ℕ) → map (λ (b : ℕ). b) l ≡ l
 map-same [] = refl
 map-same (b ∷ l) = ap (λ (r : List ℕ). b ∷ r) (map-same l)
 

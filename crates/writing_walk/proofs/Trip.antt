@@ -101,7 +101,7 @@ ways-join v (b ∷ bs) = go (eqb (b .lo) v) refl (eqb (b .hi) v) refl (all-map (
     go false p true q r = more {b = neighbour (b .lo) (turned (b .kind))} (let z : eqBond (bond (b .lo) v (turned (turned (b .kind)))) b ≡ true = rw (turned-twice (b .kind), eqb-same (b .lo), eq-eqb v (b .hi) (sym (eqb-true (b .hi) v q)), eqb-same (b .kind)) in omega (arith, ap bit z)) r
     go false p false q r = r
 
-in-map : (f : Bond → Bond) (b : Bond) (l : List Bond) → 0 < count (eqBond b) l → 0 < count (eqBond (f b)) (map f l)
+pub in-map : (f : Bond → Bond) (b : Bond) (l : List Bond) → 0 < count (eqBond b) l → 0 < count (eqBond (f b)) (map f l)
 in-map f b [] h = absurd (omega arith)
 in-map f b (x ∷ l) h = go (eqBond b x) refl h (in-map f b l)
   where
