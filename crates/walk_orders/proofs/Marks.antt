@@ -1,34 +1,34 @@
 -- What becomes of a tetrahedral mark that is written and read: turned exactly where the old and the new bond numbers are an odd number of swaps apart. Assumes nothing.
-use Prim.Native.Nat.{ℕ, zero, suc, _+_, _≤_, _<_}
+use Prim.Native.Nat.{ℕ, zero, suc, _≤_, _<_}
 use native.Mathlib.Omega.{arith}
 use mathlib.Core.Path.{_≡_, refl, sym, ap, _∙_, subst}
 use mathlib.Core.Bool.{Bool, true, false, not, _&&_, cond}
-use mathlib.Core.List.{List, [], _∷_, _++_, map}
+use mathlib.Core.List.{List, [], _∷_, map}
 use lib.Dec.{eqb, ltb}
 use lib.ListN.{length, getD}
 use borrow.Author.Tests.{eqb-true}
 use Rattle.parity.specs.Parity.{flipIf, oddly, oddPairs, over, odd, absent, unlike, ascending, turned, Apart, Perm}
 use Rattle.parity.specs.Mark.{markIf, turnBetween}
-use Rattle.parity.proofs.Items.{oddly-perm, unlike-perm}
+use Rattle.parity.proofs.Items.{oddly-perm}
 use Rattle.parity.proofs.Turns.{Listed, turned-back, turned-listed, apart-perm, alike-even}
 use Rattle.parity.proofs.Marks.{mark-trip}
 use Rattle.writing_walk.specs.Token.{Bond, bond, eqBond}
 use Rattle.writing_walk.specs.Emit.{pre}
-use Rattle.writing_walk.specs.Walk.{forestOf, place, renumber, renumbered, keep, keepIf}
+use Rattle.writing_walk.specs.Walk.{forestOf, place, renumber, renumbered, keep}
 use Rattle.writing_walk.specs.Same.{count, All, none, more}
 use Rattle.writing_walk.specs.Flat.{ups}
 use Rattle.writing_walk.specs.Keyed.{Keys, childKeys, keyOf, indexOf}
-use Rattle.writing_walk.specs.Ranks.{touches, otherEnd, keyAt, walkRank, textRank, rankWritten, rankRead, Clock}
+use Rattle.writing_walk.specs.Ranks.{touches, otherEnd, keyAt, walkRank, textRank, rankRead, Clock}
 use Rattle.writing_walk.proofs.Count.{never, eqb-same, all-at, all-map}
 use Rattle.writing_walk.proofs.Walk.{Inside}
 use Rattle.writing_walk.proofs.Trip.{completed, renumbering, round-trip, in-map}
 use Rattle.writing_walk.proofs.Twice.{Distinct, completed-inside}
 use Rattle.writing_walk.proofs.Times.{distinct-completed}
-use Rattle.writing_walk.proofs.Ranks.{walk-apart}
-use Rattle.writing_walk.proofs.Seats.{ReadAt, ringTokens, ranks-alike, first-alike, other-below}
+use Rattle.writing_walk.proofs.Ranks.{walk-apart, walk-not-one, text-not-one}
+use Rattle.writing_walk.proofs.Seats.{ReadAt, ringTokens, ranks-alike, first-alike, read-apart, other-below}
 use Rattle.writing_walk.proofs.Order.{atom-place}
 use Rattle.walk_orders.specs.Orders.{bondAt, numbersAt, withHydrogen, writerRank, readerRank, newNumber}
-use Rattle.walk_orders.proofs.Numbers.{endsAt, map-same, numbers-map, numbers-ascend, ascending-unlike, unlike-map, map-map, index-found, at-counted, numberTo, joins, joined-once, first-only, number-back, numbers-back, ends-unlike, all-ends}
+use Rattle.walk_orders.proofs.Numbers.{endsAt, map-same, numbers-map, numbers-ascend, ascending-unlike, unlike-map, absent-rank, map-map, index-found, at-counted, numberTo, joins, joined-once, first-only, number-back, numbers-back, ends-unlike, all-ends}
 use Rattle.walk_orders.proofs.Carried.{perm-back, walkEnds, touches-place, other-place, same-ends}
 
 at-map : {A : Type 0} (f : Bond → A) (a : A) (l : List Bond) (j : ℕ) → j < length l → getD (map f l) j a ≡ f (bondAt l j)
@@ -63,6 +63,11 @@ odd-hydrogen : (h : Bool) (l : List ℕ) → odd (withHydrogen h l) ≡ flipIf (
 unfolding odd oddPairs
 odd-hydrogen true l = refl
 odd-hydrogen false l = refl
+
+unlike-hydrogen : (h : Bool) (f : ℕ → ℕ) → ((y : ℕ) → f y ≡ 1 → ⊥) → (l : List ℕ) → unlike (map f l) ≡ true → unlike (withHydrogen h (map f l)) ≡ true
+unfolding unlike
+unlike-hydrogen true f e l u = rw (absent-rank 1 f e l) u
+unlike-hydrogen false f e l u = u
 
 -- ---- the atom v of n, with the walk number x, and the bonds read, with their keys, under a clock
 
@@ -192,12 +197,18 @@ module _ (n : ℕ) (bs : List Bond) (i : Inside n bs) (d : Distinct bs) (v : ℕ
   rank-apart : Apart rank ends-old
   rank-apart =
       apart-perm rank (perm-back old-new)
-      (unlike-map n rank (walk-apart n (ups (forestOf n bs) 0 0) x) ends-new
+      (unlike-map (λ y. y < n) rank (walk-apart n (ups (forestOf n bs) 0 0) x) ends-new
       (all-map Standing (λ y. y < n) (λ y p. subst (λ (z : ℕ). z < n) (p .ends-in) (other-below n bs i d x (p .it) (p .found))) ends-new standing-all)
       (ends-unlike n read in-read (distinct-completed n bs i d) x))
 
   new-apart : Apart new ends-old
   new-apart = apart-perm new (perm-back old-new) (ap unlike new-listed ∙ ascending-unlike (numbersAt x read) (numbers-ascend x read))
+
+  text-apart : Apart text ends-new
+  text-apart =
+      unlike-map Standing text
+      (λ y z p q e. sym (p .ends-in) ∙ ap (otherEnd x) (read-apart n bs i d x clock big c large (p .it) (q .it) (p .found) (q .found) (sym (p .ranked) ∙ e ∙ q .ranked)) ∙ q .ends-in)
+      ends-new standing-all (ends-unlike n read in-read (distinct-completed n bs i d) x)
 
   -- as many bonds before the hydrogen, as they are written and as they are read
   before-hydrogen : oddly (over 1) (map text ends-new) ≡ oddly (over 1) (map rank ends-old)
@@ -236,3 +247,16 @@ module _ (n : ℕ) (bs : List Bond) (i : Inside n bs) (d : Distinct bs) (v : ℕ
       (λ j. markIf (read-turn a j) (markIf (written-turn a j) k))
       ∙ mark-trip (behind a) old new rank text old-new alike rank-apart new-apart k
       ∙ ap (λ (b : Bool). markIf b k) numbers-turn
+
+  -- in each of the three lists no number stands twice, so that every number of swaps that sorts it tells the same parity (parity's `sorting-swaps`)
+  pub written-unlike : (a : Bool) → unlike (withHydrogen a (map (writerRank n bs v) (numbersAt v bs))) ≡ true
+  written-unlike a = ap (λ (l : List ℕ). unlike (withHydrogen a l)) (sym ranks-listed) ∙ unlike-hydrogen a rank (walk-not-one n (ups (forestOf n bs) 0 0) x) ends-old rank-apart
+
+  pub read-unlike : (a : Bool) → unlike (withHydrogen a (map (readerRank clock big read (map (keyOf n bs) read) x) (numbersAt x read))) ≡ true
+  unfolding readerRank
+  read-unlike a =
+      ap (λ (l : List ℕ). unlike (withHydrogen a l)) (sym texts-listed)
+      ∙ unlike-hydrogen a text (λ y. text-not-one big x (clock (keyAt x (bondAt read (new y)) (getD (map (keyOf n bs) read) (new y) childKeys))) (bondAt read (new y) .hi)) ends-new text-apart
+
+  pub numbers-unlike : unlike (map (newNumber n bs read) (numbersAt v bs)) ≡ true
+  numbers-unlike = ap unlike (sym renumbered-listed) ∙ new-apart

@@ -3,18 +3,18 @@ use Prim.Native.Nat.{ℕ, zero, suc, _+_, _≤_, _<_}
 use native.Mathlib.Omega.{arith}
 use mathlib.Core.Path.{_≡_, refl, sym, ap, _∙_, subst}
 use mathlib.Core.Bool.{Bool, true, false, not, _&&_, _||_, cond}
-use mathlib.Core.List.{List, [], _∷_, _++_, map}
+use mathlib.Core.List.{List, [], _∷_, map}
 use lib.Dec.{eqb, ltb}
-use lib.ListN.{length, getD}
+use lib.ListN.{length}
 use borrow.Author.Tests.{ne-eqb, eqb-true, eqb-false, lt-ltb, ltb-true, not-true}
 use Rattle.parity.specs.Parity.{absent, unlike, below, ascending}
-use Rattle.writing_walk.specs.Token.{Bond, bond, eqBond}
+use Rattle.writing_walk.specs.Token.{Bond, eqBond}
 use Rattle.writing_walk.specs.Walk.{keep, keepIf}
 use Rattle.writing_walk.specs.Check.{ends}
 use Rattle.writing_walk.specs.Same.{bit, count, All, none, more}
 use Rattle.writing_walk.specs.Keyed.{indexOf}
 use Rattle.writing_walk.specs.Ranks.{touches, otherEnd}
-use Rattle.writing_walk.proofs.Count.{and-left, and-right, never, eqb-same, bond-same, bond-eq, all-map}
+use Rattle.writing_walk.proofs.Count.{and-left, and-right, eqb-same, bond-same, bond-eq, all-map}
 use Rattle.writing_walk.proofs.Trip.{eqb-turn}
 use Rattle.writing_walk.proofs.Read.{Tri, tri}
 use Rattle.writing_walk.proofs.Walk.{Inside}
@@ -95,19 +95,25 @@ once-unlike [] h = refl
 once-unlike (x ∷ l) h =
     rw (count-absent x l (let q = h x in let e = ap bit (eqb-same x) in omega arith)) (once-unlike l (λ y. let q = h y in omega arith))
 
--- nor its image under ranks that differ
-module _ (n : ℕ) (f : ℕ → ℕ) (apart : (y z : ℕ) → y < n → z < n → f y ≡ f z → y ≡ z) where
-  absent-map : (y : ℕ) (l : List ℕ) → y < n → All (λ z. z < n) l → absent y l ≡ true → absent (f y) (map f l) ≡ true
+-- nor its image under ranks that tell apart all of which P holds
+module _ (P : ℕ → Type 0) (f : ℕ → ℕ) (apart : (y z : ℕ) → P y → P z → f y ≡ f z → y ≡ z) where
+  absent-map : (y : ℕ) (l : List ℕ) → P y → All P l → absent y l ≡ true → absent (f y) (map f l) ≡ true
   unfolding absent
   absent-map y [] h none a = refl
   absent-map y (z ∷ l) h (more g r) a =
       let e = eqb-false y z (not-true (eqb y z) (and-left (not (eqb y z)) (absent y l) a)) in
       rw (ne-eqb (f y) (f z) (λ q. e (apart y z h g q))) (absent-map y l h r (and-right (not (eqb y z)) (absent y l) a))
 
-  pub unlike-map : (l : List ℕ) → All (λ z. z < n) l → unlike l ≡ true → unlike (map f l) ≡ true
+  pub unlike-map : (l : List ℕ) → All P l → unlike l ≡ true → unlike (map f l) ≡ true
   unfolding unlike
   unlike-map [] none u = refl
   unlike-map (y ∷ l) (more h r) u = rw (absent-map y l h r (and-left (absent y l) (unlike l) u)) (unlike-map l r (and-right (absent y l) (unlike l) u))
+
+-- a rank that none has
+pub absent-rank : (r : ℕ) (f : ℕ → ℕ) → ((y : ℕ) → f y ≡ r → ⊥) → (l : List ℕ) → absent r (map f l) ≡ true
+unfolding absent
+absent-rank r f h [] = refl
+absent-rank r f h (y ∷ l) = rw (ne-eqb r (f y) (λ e. h y (sym e))) (absent-rank r f h l)
 
 -- the place of the one bond that passes a test
 abbrev pub firstOf : (Bond → Bool) → List Bond → ℕ
@@ -129,10 +135,6 @@ first-only p (b ∷ l) c (suc j) h e = go (p b) c (first-only p l (omega arith) 
     go false c r = ap suc r
 
 -- the place of a bond of the list
-pub index-first : (b : Bond) (l : List Bond) → indexOf b l ≡ firstOf (eqBond b) l
-index-first b [] = refl
-index-first b (x ∷ l) = ap (λ (m : ℕ). cond (eqBond b x) 0 (suc m)) (index-first b l)
-
 pub index-found : (b : Bond) (l : List Bond) → 0 < count (eqBond b) l → (indexOf b l < length l) × (bondAt l (indexOf b l) ≡ b)
 index-found b [] h = absurd (omega arith)
 index-found b (x ∷ l) h = go (eqBond b x) refl h (index-found b l)

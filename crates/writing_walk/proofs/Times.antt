@@ -1,6 +1,6 @@
 -- The keys that the text of a molecule gives to the bonds that are read from it. Assumes nothing.
 use mathlib.Core.Path.{_≡_, refl, sym, ap, _∙_, subst}
-use mathlib.Core.Bool.{Bool, true, false, _&&_, _||_, cond}
+use mathlib.Core.Bool.{Bool, true, false, _||_, cond}
 use mathlib.Core.List.{List, [], _∷_, _++_, map, append-assoc}
 use Prim.Native.Nat.{ℕ, suc, _+_, _≤_, _<_}
 use native.Mathlib.Omega.{arith}
@@ -8,11 +8,10 @@ use native.Mathlib.Nat.{zero-add}
 use lib.Dec.{eqb}
 use lib.ListN.{length, length-append}
 use Rattle.writing_walk.specs.Token.{Bond, eqBond}
-use Rattle.writing_walk.specs.Reading.{runTokens, startTokens}
 use Rattle.writing_walk.specs.Emit.{Forest, size, pre, trees}
-use Rattle.writing_walk.specs.Walk.{forestOf, closingBonds, openingBonds, relabel, renumber, renumbered, unused, write}
+use Rattle.writing_walk.specs.Walk.{forestOf, closingBonds, openingBonds, relabel, renumbered, unused, write}
 use Rattle.writing_walk.specs.Check.{ends, some}
-use Rattle.writing_walk.specs.Keyed.{Keys, keys, childKeys, Keyed, keyed, stateOf, timeOf, keysOf, runKeyed, startKeyed, indexOf, ringsBefore, openingTime, closingTime, keyOf}
+use Rattle.writing_walk.specs.Keyed.{keys, childKeys, timeOf, keysOf, runKeyed, startKeyed, indexOf, ringsBefore, openingTime, closingTime, keyOf}
 use Rattle.writing_walk.proofs.Count.{bit, count, count-append, eqb-same, bond-same, bond-eq, All, none, more, all-map}
 use Rattle.writing_walk.proofs.Read.{Back, ClosesAt, closes-at, opens-at}
 use Rattle.writing_walk.proofs.Whole.{inv-start}

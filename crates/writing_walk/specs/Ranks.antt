@@ -1,4 +1,4 @@
--- 02, P8: "In text the neighbours are ordered: the preceding atom, the virtual hydrogen, bridges as their digits stand in the text at this atom, then children"; an atom's bonds by rank, where the hydrogen has the rank 1
+-- auxiliary: 02, P8, "In text the neighbours are ordered: the preceding atom, the virtual hydrogen, bridges as their digits stand in the text at this atom, then children"; an atom's bonds by rank, where the hydrogen has the rank 1
 use mathlib.Core.Path.{_≡_}
 use mathlib.Core.Bool.{Bool, _||_, cond}
 use mathlib.Core.List.{List}
