@@ -2,6 +2,7 @@
 use Prim.Native.Nat.{ℕ, zero, suc, _+_, _<_, _≤_}
 use native.Mathlib.Omega.{arith}
 use native.Mathlib.Nat.{add-zero}
+use native.Mathlib.Numerals.{add-one}
 use mathlib.Core.Path.{_≡_, refl, sym, ap, _∙_}
 use mathlib.Core.Bool.{Bool, true, false, _&&_, not, true≢false}
 use mathlib.Core.List.{List, [], _∷_, _++_, map}
@@ -17,11 +18,11 @@ use Rattle.parity.specs.Mark.{markIf, turnBetween}
 use Rattle.parity.proofs.Turns.{Listed, turned-listed}
 use Rattle.table.specs.Limits.{atomCells, ELEMENT, SELECTED, ISOTOPE, HYDROGENS, CHARGE, EXTENSION, MARK}
 use Rattle.table.specs.Cells.{number, atomPlace, atomCell, selected, hydrogens, mark, touches}
-use Rattle.table.specs.Valid.{maxMark, selectedOk, atomOk, Valid}
+use Rattle.table.specs.Valid.{maxMark, markOk, selectedOk, atomOk, Valid}
 use Rattle.table.specs.Sound.{countBond, bondDegree, loose, noneLoose, unfit, noneUnfit, lateCode, sound}
 use Rattle.table.specs.Orders.{bondsFrom, bondsAt, turns, turnedMark, turnMark, turnMarks}
 use Rattle.table.proofs.Valid.{range-of, range-high, atom-fine, atom-fine-back}
-use Rattle.table.proofs.Sound.{sound-valid, sound-late, sound-back}
+use Rattle.table.proofs.Sound.{run-last, sound-valid, sound-late, sound-back}
 
 -- ---- the bonds at an atom
 
@@ -253,7 +254,7 @@ module _ {t u : List ℤ} {n : ℕ} (s : ButMarks t u n) where
   unfolding noneLoose
   but-loose bonds m = each-same (λ a. not (loose t bonds m a)) (λ a. not (loose u bonds m a)) n (λ a l. rw (s .field a SELECTED (omega arith) (λ e. omega arith)))
 
-  but-unfit : (bonds : List ℤ) (m : ℕ) → noneUnfit t bonds n m ≡ noneUnfit u bonds n m
+  pub but-unfit : (bonds : List ℤ) (m : ℕ) → noneUnfit t bonds n m ≡ noneUnfit u bonds n m
   unfolding noneUnfit
   but-unfit bonds m = each-same (λ a. not (unfit t bonds m a)) (λ a. not (unfit u bonds m a)) n (λ a l. rw (s .marked a l, s .field a HYDROGENS (omega arith) (λ e. omega arith)))
 
@@ -261,39 +262,52 @@ module _ {t u : List ℤ} {n : ℕ} (s : ButMarks t u n) where
   unfolding lateCode
   but-late bonds m = rw (but-loose bonds m, but-unfit bonds m)
 
-module _ (rank : ℕ → ℕ → ℕ) (bonds : List ℤ) (m n : ℕ) (t : List ℤ) where
-  pub turned-but : ButMarks (turnMarks rank bonds m n t) t n
+-- one atom more
+pub turn-more : (rank : ℕ → ℕ → ℕ) (bonds : List ℤ) (m k : ℕ) (t : List ℤ) → turnMarks rank bonds m (k + 1) t ≡ turnMark rank bonds m k (turnMarks rank bonds m k t)
+unfolding turnMarks
+turn-more rank bonds m k t = let e : 0 + k ≡ k = omega arith in rw (add-one k) (run-last (turnMark rank bonds m) 0 k t ∙ ap (λ (j : ℕ). turnMark rank bonds m j (run (turnMark rank bonds m) 0 k t)) e)
+
+-- the marks of k atoms turned, of a table with n
+module _ (rank : ℕ → ℕ → ℕ) (bonds : List ℤ) (m k n : ℕ) (t : List ℤ) where
+  pub turned-but : ButMarks (turnMarks rank bonds m k t) t n
   unfolding number
-  turned-but = record {
-    field = turned-field rank bonds m n t;
-    marked = λ a l. ap (λ (z : ℤ). ltb 0 (number z)) (turned-cell rank bonds m n t a l) ∙ turned-marked rank bonds m t a;
-  }
+  turned-but = record { field = turned-field rank bonds m k t; marked = λ a l. go a (ltb a k) refl }
+    where
+      go : (a : ℕ) (x : Bool) → ltb a k ≡ x → ltb 0 (mark (turnMarks rank bonds m k t) a) ≡ ltb 0 (mark t a)
+      go a true e = ap (λ (z : ℤ). ltb 0 (number z)) (turned-cell rank bonds m k t a (ltb-true a k e)) ∙ turned-marked rank bonds m t a
+      go a false e = ap (λ (z : ℤ). ltb 0 (number z)) (turned-rest rank bonds m k t a MARK (ltb-false a k e) (omega arith))
 
   -- a valid table stays valid, a sound one sound
-  turned-atom : (a : ℕ) → a < n → atomOk t a ≡ true → atomOk (turnMarks rank bonds m n t) a ≡ true
+  turned-mark-ok : (a : ℕ) → markOk t a ≡ true → markOk (turnMarks rank bonds m k t) a ≡ true
+  turned-mark-ok a h = go (ltb a k) refl
+    where
+      go : (x : Bool) → ltb a k ≡ x → markOk (turnMarks rank bonds m k t) a ≡ true
+      go true e = rw (turned-cell rank bonds m k t a (ltb-true a k e)) (range-of (turnedMark rank t bonds m a) maxMark (turned-small rank bonds m t a (range-high (atomCell t a MARK) maxMark h)))
+      go false e = rw (turned-rest rank bonds m k t a MARK (ltb-false a k e) (omega arith)) h
+
+  turned-atom : (a : ℕ) → atomOk t a ≡ true → atomOk (turnMarks rank bonds m k t) a ≡ true
   unfolding selectedOk
-  turned-atom a l h =
+  turned-atom a h =
       let f = atom-fine t a h in
-      let at : (g : ℕ) → g < atomCells → (g ≡ MARK → ⊥) → atomCell (turnMarks rank bonds m n t) a g ≡ atomCell t a g = turned-field rank bonds m n t a in
-      let k : mark t a ≤ maxMark = range-high (atomCell t a MARK) maxMark (f .mark) in
+      let at : (g : ℕ) → g < atomCells → (g ≡ MARK → ⊥) → atomCell (turnMarks rank bonds m k t) a g ≡ atomCell t a g = turned-field rank bonds m k t a in
       atom-fine-back (record {
         element = rw (at ELEMENT (omega arith) (λ e. omega arith)) (f .element);
         isotope = rw (at ISOTOPE (omega arith) (λ e. omega arith)) (f .isotope);
         hydrogens = rw (at HYDROGENS (omega arith) (λ e. omega arith)) (f .hydrogens);
         charge = rw (at CHARGE (omega arith) (λ e. omega arith)) (f .charge);
         extension = rw (at EXTENSION (omega arith) (λ e. omega arith)) (f .extension);
-        mark = rw (turned-cell rank bonds m n t a l) (range-of (turnedMark rank t bonds m a) maxMark (turned-small rank bonds m t a k));
+        mark = turned-mark-ok a (f .mark);
         selected = rw (at ELEMENT (omega arith) (λ e. omega arith), at SELECTED (omega arith) (λ e. omega arith)) (f .selected);
       })
 
-  pub turned-valid : {others : List ℤ} {k : ℕ} → Valid t others n k → Valid (turnMarks rank bonds m n t) others n k
+  pub turned-valid : {others : List ℤ} {o : ℕ} → Valid t others n o → Valid (turnMarks rank bonds m k t) others n o
   turned-valid v = record {
     few-atoms = v .few-atoms;
     few-bonds = v .few-bonds;
-    atom-rows = each-all (atomOk (turnMarks rank bonds m n t)) n (λ a l. turned-atom a l (each-at (atomOk t) n a (v .atom-rows) l));
+    atom-rows = each-all (atomOk (turnMarks rank bonds m k t)) n (λ a l. turned-atom a (each-at (atomOk t) n a (v .atom-rows) l));
     bond-rows = v .bond-rows;
     apart = v .apart;
   }
 
-  pub turned-sound : (others : List ℤ) (k : ℕ) → sound t others n k ≡ true → sound (turnMarks rank bonds m n t) others n k ≡ true
-  turned-sound others k h = sound-back (turnMarks rank bonds m n t) others n k (turned-valid (sound-valid t others n k h)) (but-late turned-but others k ∙ sound-late t others n k h)
+  pub turned-sound : (others : List ℤ) (o : ℕ) → sound t others n o ≡ true → sound (turnMarks rank bonds m k t) others n o ≡ true
+  turned-sound others o h = sound-back (turnMarks rank bonds m k t) others n o (turned-valid (sound-valid t others n o h)) (but-late turned-but others o ∙ sound-late t others n o h)

@@ -238,7 +238,7 @@ module _ (atoms bonds : List ℤ) (n m : ℕ) where
       go c (none-first e f g h) z = absurd (omega arith)
 
 -- ---- how many bonds an atom has
-run-last : {S : Type 0} (step : ℕ → S → S) (k m : ℕ) (s : S) → run step k (suc m) s ≡ step (k + m) (run step k m s)
+pub run-last : {S : Type 0} (step : ℕ → S → S) (k m : ℕ) (s : S) → run step k (suc m) s ≡ step (k + m) (run step k m s)
 unfolding run
 run-last step k zero s = simp add-zero
 run-last step k (suc m) s = let e : k + suc m ≡ suc k + m = omega arith in rw e (run-last step (suc k) m (step k s))
