@@ -43,7 +43,7 @@ module _ (atoms bonds : List ℤ) (n m : ℕ) where
   -- only marks differ from the table's
   pub written-but : ButMarks (marksWritten atoms bonds n m) atoms n
   unfolding marksWritten
-  written-but = turned-but (writtenRank bonds n m) bonds m n atoms
+  written-but = turned-but (writtenRank bonds n m) bonds m n n atoms
 
   pub written-cell : (a : ℕ) → a < n → atomCell (marksWritten atoms bonds n m) a MARK ≡ pos (turnedMark (writtenRank bonds n m) atoms bonds m a)
   unfolding marksWritten
@@ -55,11 +55,11 @@ module _ (atoms bonds : List ℤ) (n m : ℕ) where
 
   pub written-valid : Valid atoms bonds n m → Valid (marksWritten atoms bonds n m) bonds n m
   unfolding marksWritten
-  written-valid v = turned-valid (writtenRank bonds n m) bonds m n atoms v
+  written-valid v = turned-valid (writtenRank bonds n m) bonds m n n atoms v
 
   pub written-sound : sound atoms bonds n m ≡ true → sound (marksWritten atoms bonds n m) bonds n m ≡ true
   unfolding marksWritten
-  written-sound h = turned-sound (writtenRank bonds n m) bonds m n atoms bonds m h
+  written-sound h = turned-sound (writtenRank bonds n m) bonds m n n atoms bonds m h
 
   -- without marks the table itself is written
   module _ (none : (a : ℕ) → a < n → atomCell atoms a MARK ≡ pos 0) where
