@@ -13,9 +13,8 @@ use Rattle.table.specs.Cells.{number, touches}
 use Rattle.table.specs.Orders.{bondsFrom, bondsAt, turns, turnedMark, turnMarks}
 use Rattle.table_graph.specs.Graph.{share, bondSum}
 use Rattle.writing_walk.specs.Walk.{forestOf, renumbered, unused, write}
-use Rattle.writing_walk.specs.Ranks.{walkRank}
 use Rattle.writing.specs.Spell.{decimal, markBytes, hydrogenBytes, sizeBytes, bracketBytes, withoutBrackets, spelledAtom, kindBytes, bridgeBytes, restBytes, tokensBytes}
-use Rattle.writing.specs.Write.{tokens, writtenRank, marksWritten, textOf}
+use Rattle.writing.specs.Write.{tokens, rankAt, writtenRank, marksWritten, textOf}
 
 -- a row of an element with its hydrogens and its mark, and a row of a bond
 atom : ℕ → ℕ → ℕ → List ℤ
@@ -57,5 +56,5 @@ marked-texts : textOf alanine-atoms alanine-bonds 6 5 ∷ textOf halides-atoms h
     ∷ (91 ∷ 67 ∷ 64 ∷ 93 ∷ 40 ∷ 70 ∷ 41 ∷ 40 ∷ 67 ∷ 108 ∷ 41 ∷ 40 ∷ 66 ∷ 114 ∷ 41 ∷ 73 ∷ [])
     ∷ (70 ∷ 91 ∷ 67 ∷ 64 ∷ 64 ∷ 93 ∷ 40 ∷ 67 ∷ 108 ∷ 41 ∷ 40 ∷ 66 ∷ 114 ∷ 41 ∷ 73 ∷ [])
     ∷ (70 ∷ 91 ∷ 67 ∷ 64 ∷ 93 ∷ 49 ∷ 40 ∷ 67 ∷ 108 ∷ 41 ∷ 67 ∷ 67 ∷ 49 ∷ []) ∷ []
-unfolding atom joined alanine-atoms alanine-bonds halides-atoms halides-bonds star-atoms star-bonds ring-atoms ring-bonds order bondSymbol turned run upTo oddly oddPairs odd among symbols bare bytesOf selectedBytes targets firstTarget firstFitting reachedIn hydrogensOf number touches bondsFrom bondsAt turns turnedMark turnMarks share bondSum forestOf renumbered unused write walkRank decimal markBytes hydrogenBytes sizeBytes bracketBytes withoutBrackets spelledAtom kindBytes bridgeBytes restBytes tokensBytes tokens writtenRank marksWritten textOf
+unfolding atom joined alanine-atoms alanine-bonds halides-atoms halides-bonds star-atoms star-bonds ring-atoms ring-bonds order bondSymbol turned run upTo oddly oddPairs odd among symbols bare bytesOf selectedBytes targets firstTarget firstFitting reachedIn hydrogensOf number touches bondsFrom bondsAt turns turnedMark turnMarks share bondSum forestOf renumbered unused write decimal markBytes hydrogenBytes sizeBytes bracketBytes withoutBrackets spelledAtom kindBytes bridgeBytes restBytes tokensBytes tokens rankAt writtenRank marksWritten textOf
 marked-texts = refl

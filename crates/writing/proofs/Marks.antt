@@ -5,20 +5,27 @@ use mathlib.Core.Path.{_≡_, refl, ap, _∙_}
 use mathlib.Core.Bool.{Bool, true, false, cond}
 use mathlib.Core.List.{List, [], _∷_, _++_, map}
 use lib.IntN.{ℤ, pos}
-use lib.Dec.{eqb}
+use lib.Dec.{eqb, ltb}
+use lib.ListN.{getD}
 use Rattle.loops.specs.Loop.{pick, run, upTo}
 use Rattle.loops.proofs.Loops.{upTo-at}
 use Rattle.parity.specs.Parity.{odd}
 use Rattle.table.specs.Limits.{ELEMENT, SELECTED, ISOTOPE, HYDROGENS, CHARGE, EXTENSION, MARK}
-use Rattle.table.specs.Cells.{number, atomCell, hydrogens, mark, touches}
+use Rattle.table.specs.Cells.{number, atomCell, hydrogens, mark, end1, end2, touches}
 use Rattle.table.specs.Valid.{Valid}
 use Rattle.table.specs.Sound.{sound}
 use Rattle.table.specs.Orders.{bondsFrom, bondsAt, hydrogenRank, turns, turnedMark, turnMark, turnMarks}
 use Rattle.table.proofs.Orders.{ButMarks, turned-but, turned-cell, turned-valid, turned-sound, unmarked-stays, ranks-same}
 use Rattle.writing_walk.specs.Token.{bond}
+use Rattle.writing_walk.specs.Emit.{Forest, pre}
+use Rattle.writing_walk.specs.Walk.{forestOf, place}
+use Rattle.writing_walk.specs.Same.{bit}
+use Rattle.writing_walk.specs.Flat.{ups}
+use Rattle.writing_walk.specs.Ranks.{otherEnd, walkRank}
+use Rattle.writing_walk.proofs.Parents.{parent-bond}
 use Rattle.walk_orders.specs.Orders.{numbersFrom, numbersAt, withHydrogen, writerRank}
 use Rattle.writing.specs.Spell.{bracketBytes, withoutBrackets, spelledAtom, atomBytes, tokensBytes}
-use Rattle.writing.specs.Write.{walkBond, bondList, tokens, writtenRank, marksWritten, textOf}
+use Rattle.writing.specs.Write.{walkBond, bondList, tokens, precedes, rankAt, writtenRank, marksWritten, textOf}
 
 -- the bytes of an atom look at its mark only where it is handed in
 pub spelled-but : {t u : List ℤ} {n : ℕ} → ButMarks t u n → (a k sum : ℕ) → spelledAtom t a k sum ≡ spelledAtom u a k sum
@@ -88,9 +95,38 @@ module _ (bonds : List ℤ) (a : ℕ) where
   unfolding bondsAt numbersAt
   bonds-numbers m = numbers-from 0 m
 
+-- ranks by the bonds of the forest are ranks by parents
+positive : (b : Bool) → ltb 0 (bit b) ≡ b
+positive true = refl
+positive false = refl
+
+parent-is : (walked : Forest) (x y : ℕ) → precedes walked x y ≡ eqb (getD (ups walked 0 0) y 0) (suc x)
+parent-is walked x y = ap (ltb 0) (parent-bond walked x y) ∙ positive (eqb (getD (ups walked 0 0) y 0) (suc x))
+
+by-parents : (walked : Forest) (n x y : ℕ) → rankAt walked n x y ≡ walkRank n (ups walked 0 0) x y
+unfolding rankAt walkRank
+by-parents walked n x y =
+    (λ i. pick (parent-is walked y x i) 0 (pick (parent-is walked x y i) (n + 2 + y) (y + 2))) ∙ go (eqb (getD (ups walked 0 0) x 0) (suc y)) (eqb (getD (ups walked 0 0) y 0) (suc x))
+  where
+    go : (p q : Bool) → pick p 0 (pick q (n + 2 + y) (y + 2)) ≡ cond p 0 (cond q (n + 2 + y) (y + 2))
+    go true q = refl
+    go false true = refl
+    go false false = refl
+
+pub written-rank : (bonds : List ℤ) (n m a b : ℕ) → writtenRank bonds n m a b
+    ≡ walkRank n (ups (forestOf n (bondList bonds m)) 0 0) (place (pre (forestOf n (bondList bonds m))) a) (place (pre (forestOf n (bondList bonds m))) (otherEnd a (walkBond bonds b)))
+unfolding writtenRank
+written-rank bonds n m a b =
+    by-parents (forestOf n (bondList bonds m)) n (place (pre (forestOf n (bondList bonds m))) a) (place (pre (forestOf n (bondList bonds m))) (pick (eqb (end1 bonds b) a) (end2 bonds b) (end1 bonds b)))
+    ∙ ap (λ (c : ℕ). walkRank n (ups (forestOf n (bondList bonds m)) 0 0) (place (pre (forestOf n (bondList bonds m))) a) (place (pre (forestOf n (bondList bonds m))) c)) (go (eqb (end1 bonds b) a))
+  where
+    go : (t : Bool) → pick t (end2 bonds b) (end1 bonds b) ≡ cond t (end2 bonds b) (end1 bonds b)
+    go true = refl
+    go false = refl
+
 pub rank-is : (bonds : List ℤ) (n m a b : ℕ) → b < m → writtenRank bonds n m a b ≡ writerRank n (bondList bonds m) a b
-unfolding writtenRank writerRank
-rank-is bonds n m a b h = rw (upTo-at (walkBond bonds) m b (bond 0 0 0) h)
+unfolding writerRank
+rank-is bonds n m a b h = written-rank bonds n m a b ∙ rw (upTo-at (walkBond bonds) m b (bond 0 0 0) h)
 
 with-hydrogen : (h : ℕ) (l : List ℕ) → hydrogenRank h ++ l ≡ withHydrogen (eqb h 1) l
 with-hydrogen h l = go (eqb h 1)

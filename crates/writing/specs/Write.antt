@@ -4,7 +4,7 @@ use mathlib.Core.Bool.{Bool, true, false, _&&_}
 use mathlib.Core.List.{List, [], _∷_, _++_}
 use lib.ListN.{length, replicate}
 use lib.IntN.{ℤ}
-use lib.Dec.{leb, ltb}
+use lib.Dec.{eqb, leb, ltb}
 use Rattle.loops.specs.Loop.{pick, upTo}
 use Rattle.table.specs.Limits.{maxAtoms, maxBonds}
 use Rattle.table.specs.Cells.{end1, end2, kind}
@@ -13,10 +13,9 @@ use Rattle.table.specs.Sound.{sound}
 use Rattle.table.specs.Orders.{turnMarks}
 use Rattle.ids.specs.Limits.{maxDepth, bridges, maxText}
 use Rattle.writing_walk.specs.Token.{Bond, bond, Tok, apart, along, ring, branch, back}
-use Rattle.writing_walk.specs.Emit.{Forest, pre}
+use Rattle.writing_walk.specs.Emit.{Forest, pre, trees}
 use Rattle.writing_walk.specs.Walk.{forestOf, place, write}
-use Rattle.writing_walk.specs.Flat.{ups}
-use Rattle.writing_walk.specs.Ranks.{otherEnd, walkRank}
+use Rattle.writing_walk.specs.Same.{count}
 use Rattle.writing_walk.specs.Depth.{nests}
 use Rattle.writing.specs.Spell.{atomBytes, tokensBytes}
 
@@ -31,11 +30,19 @@ bondList bonds m = upTo (walkBond bonds) 0 m
 unfoldable pub tokens : List ℤ → ℕ → ℕ → List Tok
 tokens bonds n m = write n (λ a. a) (bondList bonds m)
 
--- 02, P8, the place of the bond b among the neighbours of the atom a in the text: "the preceding atom, the virtual hydrogen, bridges as their digits stand in the text at this atom, then children"
+-- in walk numbers: x precedes y in the text, the walk going from x on to y
+abbrev pub precedes : Forest → ℕ → ℕ → Bool
+precedes walked x y = ltb 0 (count (λ b. eqb (b .lo) x && eqb (b .hi) y) (trees walked 0))
+
+-- 02, P8, where the bond from x to y stands among the neighbours of x: "the preceding atom, the virtual hydrogen, bridges as their digits stand in the text at this atom, then children"; the hydrogen has rank 1; the digits stand "by ascending walk number of the other end"
+unfoldable pub rankAt : Forest → ℕ → ℕ → ℕ → ℕ
+rankAt walked n x y = pick (precedes walked y x) 0 (pick (precedes walked x y) (n + 2 + y) (y + 2))
+
+-- the same of the bond b at the atom a
 unfoldable pub writtenRank : List ℤ → ℕ → ℕ → ℕ → ℕ → ℕ
 writtenRank bonds n m a b =
     let walked : Forest = forestOf n (bondList bonds m) in
-    walkRank n (ups walked 0 0) (place (pre walked) a) (place (pre walked) (otherEnd a (walkBond bonds b)))
+    rankAt walked n (place (pre walked) a) (place (pre walked) (pick (eqb (end1 bonds b) a) (end2 bonds b) (end1 bonds b)))
 
 -- "reading turns it when the two orders differ by an odd number of swaps, and writing turns it back": the atoms with their marks as they are written
 unfoldable pub marksWritten : List ℤ → List ℤ → ℕ → ℕ → List ℤ

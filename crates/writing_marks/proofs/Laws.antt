@@ -19,7 +19,7 @@ use Rattle.writing_walk.specs.Walk.{forestOf, place}
 use Rattle.writing_walk.specs.Flat.{ups}
 use Rattle.writing_walk.specs.Ranks.{walkRank}
 use Rattle.writing.specs.Write.{walkBond, bondList, writtenRank}
-use Rattle.writing.proofs.Marks.{written-mark}
+use Rattle.writing.proofs.Marks.{written-mark, written-rank}
 use Rattle.writing_visit.specs.Visit.{BondsFit}
 use Rattle.writing_bridges.specs.Unused.{Numbered}
 use Rattle.writing_marks.specs.Marks.{unmarked, withRanks, Ranked, Turned}
@@ -69,17 +69,15 @@ module _ (bonds : List ℤ) {n m : ℕ} {number up : List ℕ} (f : BondsFit (wa
       ∙ rank-same n up (ups (forestOf n (bondList bonds m)) 0 0) (walked a) (walked c) (d .up (walked a) (d .below a h)) (d .up (walked c) (d .below c g))
 
   first-rank : (b : ℕ) → b < m → walkRank n up (getD number (end1 bonds b) 0 - 1) (getD number (end2 bonds b) 0 - 1) ≡ writtenRank bonds n m (end1 bonds b) b
-  unfolding writtenRank
   first-rank b h =
       let e = ends-below b h in
-      between (end1 bonds b) (end2 bonds b) (e .0) (e .1) ∙ sym (rw (eq-eqb (end1 bonds b) (end1 bonds b) refl))
+      between (end1 bonds b) (end2 bonds b) (e .0) (e .1) ∙ sym (written-rank bonds n m (end1 bonds b) b ∙ rw (eq-eqb (end1 bonds b) (end1 bonds b) refl))
 
   second-rank : (b : ℕ) → b < m → walkRank n up (getD number (end2 bonds b) 0 - 1) (getD number (end1 bonds b) 0 - 1) ≡ writtenRank bonds n m (end2 bonds b) b
-  unfolding writtenRank
   second-rank b h =
       let e = ends-below b h in
       let l = f .ends b h .0 in
-      between (end2 bonds b) (end1 bonds b) (e .1) (e .0) ∙ sym (rw (ne-eqb (end1 bonds b) (end2 bonds b) (omega arith)))
+      between (end2 bonds b) (end1 bonds b) (e .1) (e .0) ∙ sym (written-rank bonds n m (end2 bonds b) b ∙ rw (ne-eqb (end1 bonds b) (end2 bonds b) (omega arith)))
 
   -- the loop stands before the bond k
   pub ranked-start : (ranks : List ℕ) → Ranked bonds n m 0 ranks
