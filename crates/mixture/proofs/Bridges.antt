@@ -2,7 +2,7 @@
 use Prim.Native.Nat.{ℕ, zero, suc, _+_, _-_, _≤_, _<_}
 use native.Mathlib.Omega.{arith}
 use native.Mathlib.Numerals.{add-one}
-use native.Mathlib.Decide.{ℕ-discrete, decLt}
+use native.Mathlib.Decide.{ℕ-discrete}
 use mathlib.Core.Path.{_≡_, refl, sym, ap, subst, _∙_}
 use mathlib.Core.Bool.{Bool, true, false, _&&_, _||_, not, true≢false}
 use mathlib.Core.List.{List, map}
@@ -10,7 +10,7 @@ use lib.ListN.{getD, set, List·getD-map}
 use lib.Seq.{getD-set-same, getD-set-other}
 use lib.IntN.{ℤ}
 use lib.Dec.{eqb, leb, ltb}
-use borrow.Author.Tests.{ne-eqb, eqb-false, lt-ltb, le-ltb, leb-false, lt-leb}
+use borrow.Author.Tests.{ne-eqb, eqb-false, leb-false, lt-leb}
 use Rattle.loops.specs.Loop.{pick, each}
 use Rattle.loops.proofs.Loops.{each-all}
 use Rattle.kinds.specs.Kind.{turned, meet, clash}
@@ -24,7 +24,7 @@ use Rattle.reading.specs.Act.{bridgeBond, orRefuse, bridgeAct, branchAct}
 use Rattle.reading.proofs.Atoms.{Held}
 use Rattle.mixture_rows.specs.Beside.{raisedRow, BondsBeside}
 use Rattle.mixture_rows.proofs.Parts.{each-parts}
-use Rattle.mixture_rows.proofs.Graph.{eqb-raised}
+use Rattle.mixture_rows.proofs.Graph.{eqb-raised, ltb-raised}
 use Rattle.mixture_rows.proofs.Bonds.{second-end1, second-end2}
 use Rattle.mixture.proofs.Rows.{bonds-written, set-alike, map-set}
 use Rattle.mixture.proofs.Behind.{raised, Behind, Side, Both}
@@ -42,13 +42,6 @@ raised-more : (n x : ℕ) → raised n (x + 1) ≡ n + x + 1
 raised-more n x = ap (raised n) (add-one x) ∙ sym (add-one (n + x))
 
 -- ---- bonds
-ltb-raised : (n a b : ℕ) → ltb (n + a) (n + b) ≡ ltb a b
-ltb-raised n a b = split (decLt a b)
-  where
-    split : Dec (a < b) → ltb (n + a) (n + b) ≡ ltb a b
-    split (yes l) = lt-ltb (n + a) (n + b) (omega arith) ∙ sym (lt-ltb a b l)
-    split (no l) = le-ltb (n + a) (n + b) (omega arith) ∙ sym (le-ltb a b (omega arith))
-
 between-raised : (n a b k : ℕ) → between (n + a) (n + b) k ≡ raisedRow n (between a b k)
 unfolding number
 between-raised n a b k = ap (λ (t : Bool). pick t (newBond (n + a) (n + b) k) (newBond (n + b) (n + a) (turned k))) (ltb-raised n a b) ∙ split (ltb a b)

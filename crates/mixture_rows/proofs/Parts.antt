@@ -7,7 +7,7 @@ use mathlib.Core.Bool.{Bool, true, false, _&&_}
 use mathlib.Core.List.{List, [], _∷_, _++_}
 use Rattle.loops.specs.Loop.{pick, each, howMany, run, upTo}
 
-next : (x j : ℕ) → suc x + j ≡ x + suc j
+pub next : (x j : ℕ) → suc x + j ≡ x + suc j
 next x j = omega arith
 
 -- ---- a loop from k on, and one from l on that does the same
