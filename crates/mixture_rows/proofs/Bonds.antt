@@ -59,7 +59,7 @@ module _ {n m k : ℕ} {bonds1 bonds2 bonds : List ℤ} (w : BondsBeside n m k b
   at-end1 : (a b : ℕ) → b < k → eqb (end1 bonds (m + b)) (n + a) ≡ eqb (end1 bonds2 b) a
   at-end1 a b l = ap (λ (x : ℕ). eqb x (n + a)) (second-end1 b l) ∙ eqb-raised n (end1 bonds2 b) a
 
-  at-end2 : (a b : ℕ) → b < k → eqb (end2 bonds (m + b)) (n + a) ≡ eqb (end2 bonds2 b) a
+  pub at-end2 : (a b : ℕ) → b < k → eqb (end2 bonds (m + b)) (n + a) ≡ eqb (end2 bonds2 b) a
   at-end2 a b l = ap (λ (x : ℕ). eqb x (n + a)) (second-end2 b l) ∙ eqb-raised n (end2 bonds2 b) a
 
   pub touch-first : (a b : ℕ) → b < m → touches bonds a b ≡ touches bonds1 a b
