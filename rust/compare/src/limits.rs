@@ -1,7 +1,7 @@
 //! Molecules at the limits of writing.
 
 use crate::random::Random;
-use balsa_reference::{Atom, Bond, Kind, Molecule, MAX_ATOMS, MAX_BONDS};
+use balsa_reference::{Atom, Bond, Kind, Mark, Molecule, MAX_ATOMS, MAX_BONDS};
 
 const CARBON: Atom = Atom {
     element: 6,
@@ -10,6 +10,7 @@ const CARBON: Atom = Atom {
     hydrogens: 0,
     charge: 0,
     extension: 0,
+    mark: Mark::None,
 };
 
 /// The longest spelling of an atom.
@@ -20,6 +21,7 @@ pub const LONG: Atom = Atom {
     hydrogens: 9,
     charge: -9,
     extension: 9999,
+    mark: Mark::None,
 };
 
 fn of_ends(atoms: usize, ends: impl Iterator<Item = (usize, usize)>, kind: Kind) -> Molecule {

@@ -2,6 +2,7 @@
 
 use crate::conformation::marks;
 use crate::refusal::Code;
+use crate::tetrahedral::{has_unfit_mark, Mark};
 
 /// An atom.
 #[derive(Clone, Copy, Debug, Default, PartialEq, Eq)]
@@ -18,6 +19,8 @@ pub struct Atom {
     pub charge: i8,
     /// The extension, 0 for none.
     pub extension: u16,
+    /// The tetrahedral mark, which refers to the hydrogen and then the bonds by ascending number.
+    pub mark: Mark,
 }
 
 /// The kind of a bond, under its number in a table.
@@ -162,8 +165,10 @@ impl Molecule {
             return Some(code);
         }
         let mut atoms = self.atoms.iter().zip(self.degrees());
-        let is_loose = atoms.any(|(atom, degree)| atom.selected && degree < 2);
-        is_loose.then_some(Code::LooseSelected)
+        if atoms.any(|(atom, degree)| atom.selected && degree < 2) {
+            return Some(Code::LooseSelected);
+        }
+        has_unfit_mark(self).then_some(Code::UnfitMark)
     }
 
     /// Each atom's neighbours.
