@@ -1,5 +1,6 @@
 //! Molecules at the limits of writing.
 
+use crate::molecules::mark_centers;
 use crate::random::Random;
 use balsa_reference::{Atom, Bond, Kind, Mark, Molecule, MAX_ATOMS, MAX_BONDS};
 
@@ -97,12 +98,16 @@ pub fn longest(random: &mut Random) -> Molecule {
     molecule
 }
 
-/// A molecule at one of the limits.
+/// A molecule at one of the limits, perhaps with tetrahedral marks.
 pub fn molecule(random: &mut Random) -> Molecule {
-    match random.below(4) {
+    let mut molecule = match random.below(4) {
         0 => complete(random),
         1 => fan(random),
         2 => nested(random),
         _ => longest(random),
+    };
+    if random.percent(30) {
+        mark_centers(random, &mut molecule);
     }
+    molecule
 }
