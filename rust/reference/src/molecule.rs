@@ -2,7 +2,7 @@
 
 use crate::conformation::marks;
 use crate::refusal::Code;
-use crate::tetrahedral::{has_unfit_mark, Mark};
+use crate::tetrahedral::{is_unfit, Mark};
 
 /// An atom.
 #[derive(Clone, Copy, Debug, Default, PartialEq, Eq)]
@@ -164,11 +164,14 @@ impl Molecule {
         if let Err(code) = marks(self) {
             return Some(code);
         }
-        let mut atoms = self.atoms.iter().zip(self.degrees());
-        if atoms.any(|(atom, degree)| atom.selected && degree < 2) {
+        let degrees = self.degrees();
+        let mut atoms = self.atoms.iter().zip(&degrees);
+        if atoms.any(|(atom, &degree)| atom.selected && degree < 2) {
             return Some(Code::LooseSelected);
         }
-        has_unfit_mark(self).then_some(Code::UnfitMark)
+        let mut atoms = self.atoms.iter().zip(&degrees);
+        let has_unfit = atoms.any(|(atom, &degree)| is_unfit(atom, degree));
+        has_unfit.then_some(Code::UnfitMark)
     }
 
     /// Each atom's neighbours.

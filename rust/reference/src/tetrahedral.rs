@@ -1,6 +1,6 @@
 //! The marks `@` and `@@`: orders of neighbours, and whether an odd number of swaps lies between them.
 
-use crate::molecule::{Atom, Molecule};
+use crate::molecule::Atom;
 
 /// The tetrahedral mark of an atom, under its number in a table.
 #[derive(Clone, Copy, Debug, Default, PartialEq, Eq)]
@@ -113,11 +113,9 @@ impl InText {
     }
 }
 
-/// Whether a marked atom has not four neighbours, or more than one hydrogen among them.
-pub fn has_unfit_mark(molecule: &Molecule) -> bool {
-    let mut atoms = molecule.atoms.iter().zip(molecule.degrees());
-    atoms.any(|(atom, degree)| {
-        let neighbours = degree + usize::from(atom.hydrogens);
-        atom.mark != Mark::None && (neighbours != 4 || atom.hydrogens > 1)
-    })
+/// Whether an atom with this number of bonds is marked and has not four neighbours, or more than one
+/// hydrogen among them.
+pub fn is_unfit(atom: &Atom, degree: usize) -> bool {
+    let neighbours = degree + usize::from(atom.hydrogens);
+    atom.mark != Mark::None && (neighbours != 4 || atom.hydrogens > 1)
 }

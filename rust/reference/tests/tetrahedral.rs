@@ -118,8 +118,8 @@ fn turned_if(mark: Mark, is_odd: bool) -> Mark {
     }
 }
 
-/// The mark of the only marked atom, whose neighbours are of four elements, as it refers to them by
-/// ascending atomic number.
+/// The mark of the only marked atom, whose neighbours differ in element or extension, as it refers to
+/// them in ascending order of these.
 fn hand(molecule: &Molecule) -> Mark {
     let is_marked = |atom: &Atom| atom.mark != Mark::None;
     let center = molecule.atoms.iter().position(is_marked).unwrap();
@@ -128,10 +128,52 @@ fn hand(molecule: &Molecule) -> Mark {
         (one, other) if other == center => Some(one),
         _ => None,
     });
-    let elements = others.map(|other| molecule.atoms[other].element.into());
-    let hydrogen = (molecule.atoms[center].hydrogens == 1).then_some(1);
-    let order: Vec<usize> = hydrogen.into_iter().chain(elements).collect();
+    let name = |element: u8, extension: u16| 10_000 * usize::from(element) + usize::from(extension);
+    let names = others.map(|other| {
+        let Atom {
+            element, extension, ..
+        } = molecule.atoms[other];
+        name(element, extension)
+    });
+    let hydrogen = (molecule.atoms[center].hydrogens == 1).then_some(name(1, 0));
+    let order: Vec<usize> = hydrogen.into_iter().chain(names).collect();
     turned_if(molecule.atoms[center].mark, is_odd(&order))
+}
+
+/// Texts that are known as spellings of one drawing, those of OpenSMILES among them.
+#[test]
+fn spellings_of_one_drawing() {
+    let drawings: [&[&str]; 4] = [
+        &[
+            "N[C@](Br)(O)C",
+            "Br[C@](O)(N)C",
+            "O[C@](Br)(C)N",
+            "Br[C@](C)(O)N",
+            "C[C@](Br)(N)O",
+            "Br[C@](N)(C)O",
+            "C[C@@](Br)(O)N",
+            "Br[C@@](N)(O)C",
+            "[C@@](C)(Br)(O)N",
+            "[C@@](Br)(N)(O)C",
+        ],
+        &[
+            "FC1[CH2:1][C@](Br)(Cl)[CH2:2]CC1",
+            "[C@]1(Br)(Cl)[CH2:2]CCC(F)[CH2:1]1",
+        ],
+        // L-alanine
+        &[
+            "N[C@@H]([CH3:1])[C:2](=O)O",
+            "[CH3:1][C@H](N)[C:2](=O)O",
+            "O[C:2](=O)[C@@H](N)[CH3:1]",
+            "[H][C@](N)([CH3:1])[C:2](=O)O",
+            "[C@H](N)([CH3:1])[C:2](=O)O",
+        ],
+        &["[F:1][C@H](Cl)Br", "[C@]1(Cl)(Br)[H].[F:1]1"],
+    ];
+    for spellings in drawings {
+        let hands: Vec<Mark> = spellings.iter().map(|text| hand(&molecule(text))).collect();
+        assert!(hands.iter().all(|hand| *hand == hands[0]), "{hands:?}");
+    }
 }
 
 /// All orders of some items.
