@@ -203,8 +203,8 @@ impl Implementation for Faulty {
         if self.has("place of 23") && answer.code == 23 {
             answer.place = text.len();
         }
-        if self.has("marks as in the text") && answer.is_accepted() {
-            turn_marks_behind_hydrogens(buffers, answer.numbers[0]);
+        if self.has("the hydrogen last") && answer.is_accepted() {
+            put_hydrogens_last(buffers, answer.numbers[0]);
         }
         if self.has("dirty table") && answer.code == 3 {
             *buffers.bonds.last_mut().unwrap() = 1;
@@ -293,8 +293,8 @@ impl Implementation for Faulty {
     }
 }
 
-/// Exchanges the tetrahedral marks of atoms with a hydrogen, as if it stood behind the first bond.
-fn turn_marks_behind_hydrogens(buffers: &mut Buffers, atoms: usize) {
+/// Exchanges the tetrahedral marks of atoms with a hydrogen, as if it stood behind their three bonds.
+fn put_hydrogens_last(buffers: &mut Buffers, atoms: usize) {
     for cells in buffers.atoms.chunks_exact_mut(ATOM_CELLS).take(atoms) {
         if cells[3] == 1 && cells[6] != 0 {
             cells[6] = 3 - cells[6];
@@ -337,7 +337,7 @@ fn faults_are_seen() {
         "renumbering",
         "sides exchanged",
         "place of 23",
-        "marks as in the text",
+        "the hydrogen last",
     ];
     for fault in faults {
         let (differences, _) = seen(fault);
@@ -345,5 +345,5 @@ fn faults_are_seen() {
     }
     assert!(seen("row at the end").1 > 0);
     assert!(seen("renumbering").1 > 0);
-    assert!(seen("marks as in the text").1 > 0);
+    assert!(seen("the hydrogen last").1 > 0);
 }
