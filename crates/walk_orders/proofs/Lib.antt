@@ -1,0 +1,4 @@
+pub mod Numbers
+pub mod Carried
+pub mod Marks
+pub mod Examples
