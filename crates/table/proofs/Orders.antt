@@ -1,5 +1,5 @@
 -- Laws of the orders of bonds and of turned marks: the bonds at an atom, what a turned table keeps, and how a turn is told by two orders. Assumes nothing.
-use Prim.Native.Nat.{ℕ, zero, suc, _+_, _<_, _≤_}
+use Prim.Native.Nat.{ℕ, zero, suc, _+_, _*_, _<_, _≤_}
 use native.Mathlib.Omega.{arith}
 use native.Mathlib.Nat.{add-zero}
 use native.Mathlib.Numerals.{add-one}
@@ -122,6 +122,11 @@ pub turns-same : (f g : ℕ → ℕ) (atoms bonds : List ℤ) (m a : ℕ) → ((
 unfolding turns
 turns-same f g atoms bonds m a h = rw (ranks-same bonds a f g m h)
 
+-- of the atoms only the hydrogens of this one are looked at
+pub turns-atoms : (f : ℕ → ℕ) (t u bonds : List ℤ) (m a : ℕ) → hydrogens t a ≡ hydrogens u a → turns f t bonds m a ≡ turns f u bonds m a
+unfolding turns
+turns-atoms f t u bonds m a e = rw e
+
 map-same : (l : List ℕ) → map (λ (b : ℕ). b) l ≡ l
 map-same [] = refl
 map-same (b ∷ l) = ap (λ (r : List ℕ). b ∷ r) (map-same l)
@@ -235,9 +240,9 @@ module _ (rank : ℕ → ℕ → ℕ) (bonds : List ℤ) (m : ℕ) where
     unfolding turnMarks
     turned-field a f l h = run-other 0 n (atomPlace a f) t (λ j u v e. h (omega arith))
 
-    pub turned-rest : (a f : ℕ) → n ≤ a → f < atomCells → atomCell (turnMarks rank bonds m n t) a f ≡ atomCell t a f
+    pub turned-rest : (i : ℕ) → atomCells * n ≤ i → getD (turnMarks rank bonds m n t) i (pos 0) ≡ getD t i (pos 0)
     unfolding turnMarks
-    turned-rest a f l h = run-other 0 n (atomPlace a f) t (λ j u v e. omega arith)
+    turned-rest i h = run-other 0 n i t (λ j u v e. omega arith)
 
     pub turned-length : length (turnMarks rank bonds m n t) ≡ length t
     unfolding turnMarks
@@ -275,7 +280,7 @@ module _ (rank : ℕ → ℕ → ℕ) (bonds : List ℤ) (m k n : ℕ) (t : List
     where
       go : (a : ℕ) (x : Bool) → ltb a k ≡ x → ltb 0 (mark (turnMarks rank bonds m k t) a) ≡ ltb 0 (mark t a)
       go a true e = ap (λ (z : ℤ). ltb 0 (number z)) (turned-cell rank bonds m k t a (ltb-true a k e)) ∙ turned-marked rank bonds m t a
-      go a false e = ap (λ (z : ℤ). ltb 0 (number z)) (turned-rest rank bonds m k t a MARK (ltb-false a k e) (omega arith))
+      go a false e = ap (λ (z : ℤ). ltb 0 (number z)) (turned-rest rank bonds m k t (atomPlace a MARK) (omega (arith, ltb-false a k e)))
 
   -- a valid table stays valid, a sound one sound
   turned-mark-ok : (a : ℕ) → markOk t a ≡ true → markOk (turnMarks rank bonds m k t) a ≡ true
@@ -283,7 +288,7 @@ module _ (rank : ℕ → ℕ → ℕ) (bonds : List ℤ) (m k n : ℕ) (t : List
     where
       go : (x : Bool) → ltb a k ≡ x → markOk (turnMarks rank bonds m k t) a ≡ true
       go true e = rw (turned-cell rank bonds m k t a (ltb-true a k e)) (range-of (turnedMark rank t bonds m a) maxMark (turned-small rank bonds m t a (range-high (atomCell t a MARK) maxMark h)))
-      go false e = rw (turned-rest rank bonds m k t a MARK (ltb-false a k e) (omega arith)) h
+      go false e = rw (turned-rest rank bonds m k t (atomPlace a MARK) (omega (arith, ltb-false a k e))) h
 
   turned-atom : (a : ℕ) → atomOk t a ≡ true → atomOk (turnMarks rank bonds m k t) a ≡ true
   unfolding selectedOk
