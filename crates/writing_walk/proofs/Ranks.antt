@@ -192,3 +192,7 @@ offset-kept l p (suc d) h = ap suc (List·getD-append l (p ∷ []) 0 d (omega ar
 
 pub offset-last : (l : List ℕ) (p : ℕ) → offsetClock (l ++ (p ∷ [])) (suc (length l)) ≡ suc p
 offset-last l p = ap suc (getD-append-seam l p [] 0)
+
+pub offset-bound : (l : List ℕ) (big : ℕ) → All (λ p. p < big) l → (d : ℕ) → d ≤ length l → offsetClock l d ≤ big
+offset-bound l big a zero h = omega arith
+offset-bound l big a (suc d) h = let q = all-at (λ p. p < big) 0 l d a (omega arith) in omega arith
