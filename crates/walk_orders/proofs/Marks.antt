@@ -31,22 +31,22 @@ use Rattle.walk_orders.specs.Orders.{bondAt, numbersAt, withHydrogen, wr
 use Rattle.walk_orders.proofs.Numbers.{endsAt, map-same, numbers-map, numbers-ascend, ascending-unlike, unlike-map, absent-rank, map-map, index-found, at-counted, numberTo, joins, joined-once, first-only, number-back, numbers-back, ends-unlike, all-ends}
 use Rattle.walk_orders.proofs.Carried.{perm-back, walkEnds, touches-place, other-place, same-ends}
 
-at-map : {A : Type 0} (f : Bond → A) (a : A) (l : List Bond) (j : ℕ) → j < length l → getD (map f l) j a ≡ f (bondAt l j)
+pub at-map : {A : Type 0} (f : Bond → A) (a : A) (l : List Bond) (j : ℕ) → j < length l → getD (map f l) j a ≡ f (bondAt l j)
 at-map f a [] j h = absurd (omega arith)
 at-map f a (b ∷ l) zero h = refl
 at-map f a (b ∷ l) (suc j) h = at-map f a l j (omega arith)
 
-oddly-of : (t : ℕ → Bool) (f : ℕ → ℕ) (l : List ℕ) → oddly t (map f l) ≡ oddly (λ y. t (f y)) l
+pub oddly-of : (t : ℕ → Bool) (f : ℕ → ℕ) (l : List ℕ) → oddly t (map f l) ≡ oddly (λ y. t (f y)) l
 unfolding oddly
 oddly-of t f [] = refl
 oddly-of t f (y ∷ l) = ap (flipIf (t (f y))) (oddly-of t f l)
 
-oddly-same : (s t : ℕ → Bool) (l : List ℕ) → All (λ y. s y ≡ t y) l → oddly s l ≡ oddly t l
+pub oddly-same : (s t : ℕ → Bool) (l : List ℕ) → All (λ y. s y ≡ t y) l → oddly s l ≡ oddly t l
 unfolding oddly
 oddly-same s t [] none = refl
 oddly-same s t (y ∷ l) (more h a) = λ j. flipIf (h j) (oddly-same s t l a j)
 
-all-listed : (P : ℕ → Type 0) (l : List ℕ) → All P l → (y : ℕ) → Listed l y → P y
+pub all-listed : (P : ℕ → Type 0) (l : List ℕ) → All P l → (y : ℕ) → Listed l y → P y
 unfolding absent
 all-listed P [] none y e = absurd (never true refl e)
 all-listed P (z ∷ l) (more p a) y e = go (eqb y z) refl e (all-listed P l a y)
@@ -59,7 +59,7 @@ map-named : (f : ℕ → ℕ) (g : ℕ → ℕ) (l : List ℕ) → map f (map g 
 map-named f g [] = refl
 map-named f g (y ∷ l) = ap (λ (r : List ℕ). f (g y) ∷ r) (map-named f g l)
 
-odd-hydrogen : (h : Bool) (l : List ℕ) → odd (withHydrogen h l) ≡ flipIf (h && oddly (over 1) l) (odd l)
+pub odd-hydrogen : (h : Bool) (l : List ℕ) → odd (withHydrogen h l) ≡ flipIf (h && oddly (over 1) l) (odd l)
 unfolding odd oddPairs
 odd-hydrogen true l = refl
 odd-hydrogen false l = refl
