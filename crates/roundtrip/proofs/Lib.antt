@@ -2,10 +2,10 @@ pub mod Feed
 pub mod Decimal
 pub mod Bracketed
 pub mod Named
-pub mod Cells
 pub mod Letters
 pub mod Atoms
 pub mod Held
+pub mod Keying
 pub mod Simulation
 pub mod Signs
 pub mod Tokens
@@ -16,4 +16,3 @@ pub mod Back
 pub mod Again
 pub mod Rewritten
 pub mod Claims
-pub mod Kekulized

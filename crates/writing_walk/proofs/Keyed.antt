@@ -21,7 +21,7 @@ keyed-state [] x = refl
 keyed-state (t ∷ ts) (keyed s z ms ks) = keyed-state ts (stepKeyed t (keyed s z ms ks))
 
 -- as many keys as bonds
-abbrev bondsOf : St → List Bond
+abbrev pub bondsOf : St → List Bond
 bondsOf (st xs bs h n hs stk) = bs
 
 grown : {A B : Type 0} (l : List A) (m : List B) (a : A) (b : B) → length l ≡ length m → length (l ++ (a ∷ [])) ≡ length (m ++ (b ∷ []))
@@ -30,7 +30,7 @@ grown l m a b e = length-append l (a ∷ []) ∙ omega arith ∙ sym (length-app
 same-long : {A : Type 0} (l : List A) (m : List Bond) → length l ≡ length m → length (l ++ []) ≡ length m
 same-long l m e = ap length (append-nil l) ∙ e
 
-step-long : (t : Tok) (s : St) (z : ℕ) (ts : List ℕ) (ks : List Keys) → length ks ≡ length (bondsOf s) → length (ks ++ keysMade t s z ts) ≡ length (bondsOf (stepToken t s))
+pub step-long : (t : Tok) (s : St) (z : ℕ) (ts : List ℕ) (ks : List Keys) → length ks ≡ length (bondsOf s) → length (ks ++ keysMade t s z ts) ≡ length (bondsOf (stepToken t s))
 step-long (apart w) (st xs bs h n hs stk) z ts ks e = same-long ks bs e
 step-long (along k w) (st xs bs h n hs stk) z ts ks e = grown ks bs childKeys (bond h n k) e
 step-long (ring k m) (st xs bs h n hs stk) z ts ks e = go (closureAt hs m)

@@ -29,7 +29,7 @@ stamp-other (x ∷ l) (suc m) zero y h = refl
 stamp-other (x ∷ l) (suc m) (suc j) y h = stamp-other l m j y (λ e. h (omega arith))
 
 -- no stamp and no key is later than the time
-abbrev Past : ℕ → Keys → Type 0
+abbrev pub Past : ℕ → Keys → Type 0
 Past z k = (k .low ≤ z) × (k .high ≤ z)
 
 pub record InTime (x : Keyed) : Type 0 where
@@ -42,7 +42,7 @@ stamps-set z [] (suc m) y none h = more {b = 0} (omega arith) (stamps-set z [] m
 stamps-set z (x ∷ l) zero y (more g a) h = more h a
 stamps-set z (x ∷ l) (suc m) y (more g a) h = more g (stamps-set z l m y a h)
 
-stamp-past : (z : ℕ) (l : List ℕ) (m : ℕ) → All (λ t. t ≤ z) l → getD l m 0 ≤ z
+pub stamp-past : (z : ℕ) (l : List ℕ) (m : ℕ) → All (λ t. t ≤ z) l → getD l m 0 ≤ z
 stamp-past z [] m none = omega arith
 stamp-past z (x ∷ l) zero (more h a) = h
 stamp-past z (x ∷ l) (suc m) (more h a) = stamp-past z l m a
