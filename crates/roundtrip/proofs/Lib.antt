@@ -6,6 +6,7 @@ pub mod Letters
 pub mod Atoms
 pub mod Held
 pub mod Keying
+pub mod Turned
 pub mod Simulation
 pub mod Signs
 pub mod Tokens

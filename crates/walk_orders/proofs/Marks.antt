@@ -69,6 +69,15 @@ unfolding unlike
 unlike-hydrogen true f e l u = rw (absent-rank 1 f e l) u
 unlike-hydrogen false f e l u = u
 
+-- each bond is read, under the renumbering
+pub is-read : (n : ℕ) (bs : List Bond) → Inside n bs → (j : ℕ) → j < length bs → 0 < count (eqBond (renumber (pre (forestOf n bs)) (bondAt bs j))) (completed n bs)
+unfolding renumbered
+is-read n bs i j l =
+    let order = pre (forestOf n bs) in
+    let q : count (eqBond (renumber order (bondAt bs j))) (completed n bs) ≡ count (eqBond (renumber order (bondAt bs j))) (map (renumber order) bs) = round-trip n (λ v. v) bs i .bonds (eqBond (renumber order (bondAt bs j))) in
+    let r = in-map (renumber order) (bondAt bs j) bs (at-counted bs j l) in
+    omega arith
+
 -- ---- the atom v of n, with the walk number x, and the bonds read, with their keys, under a clock
 
 module _ (n : ℕ) (bs : List Bond) (i : Inside n bs) (d : Distinct bs) (v : ℕ) (h : v < n) (clock : ℕ → ℕ) (big : ℕ) (c : Clock clock (ringTokens n bs)) (large : clock (ringTokens n bs) ≤ big) where
@@ -169,20 +178,13 @@ module _ (n : ℕ) (bs : List Bond) (i : Inside n bs) (d : Distinct bs) (v : ℕ
       ∙ map-same (numbersAt v bs)
 
   -- the new number of a bond of bs
-  is-read : (j : ℕ) → j < length bs → 0 < count (eqBond (renumber order (bondAt bs j))) read
-  unfolding renumbered
-  is-read j l =
-      let q : count (eqBond (renumber order (bondAt bs j))) read ≡ count (eqBond (renumber order (bondAt bs j))) (map (renumber order) bs) = round-trip n (λ v. v) bs i .bonds (eqBond (renumber order (bondAt bs j))) in
-      let r = in-map (renumber order) (bondAt bs j) bs (at-counted bs j l) in
-      omega arith
-
   new-number : (j : ℕ) → j < length bs → touches v (bondAt bs j) ≡ true → newNumber n bs read j ≡ new (place order (otherEnd v (bondAt bs j)))
   unfolding newNumber
   new-number j l t =
       let b = renumber order (bondAt bs j) in
       let y = place order (otherEnd v (bondAt bs j)) in
       let g = bond-inside j l in
-      let f = index-found b read (is-read j l) in
+      let f = index-found b read (is-read n bs i j l) in
       let e : joins x y b ≡ true = rw (touches-place n bs i v h (bondAt bs j) g, t, other-place n bs i v h (bondAt bs j) g t) (eqb-same y) in
       sym (first-only (joins x y) read (joined-once n read in-read (distinct-completed n bs i d) x y) (indexOf b read) (f .0) (ap (joins x y) (f .1) ∙ e))
 
