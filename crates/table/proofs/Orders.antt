@@ -13,14 +13,15 @@ use lib.Dec.{eqb, ltb}
 use borrow.Author.Tests.{eqb-true, eqb-false, lt-ltb, ltb-true, ltb-false}
 use Rattle.loops.specs.Loop.{pick, run}
 use Rattle.loops.proofs.Loops.{each-at, each-all, each-same}
-use Rattle.parity.specs.Parity.{flipIf, oddly, oddPairs, over, odd, absent, below, ascending}
+use Rattle.parity.specs.Parity.{flipIf, oddly, oddPairs, over, odd, absent, unlike, Swaps, oddNumber, below, ascending}
 use Rattle.parity.specs.Mark.{markIf, turnBetween}
+use Rattle.parity.proofs.Swapped.{sorting-swaps}
 use Rattle.parity.proofs.Turns.{Listed, turned-listed}
 use Rattle.table.specs.Limits.{atomCells, ELEMENT, SELECTED, ISOTOPE, HYDROGENS, CHARGE, EXTENSION, MARK}
 use Rattle.table.specs.Cells.{number, atomPlace, atomCell, selected, hydrogens, mark, touches}
 use Rattle.table.specs.Valid.{maxMark, markOk, selectedOk, atomOk, Valid}
 use Rattle.table.specs.Sound.{countBond, bondDegree, loose, noneLoose, unfit, noneUnfit, lateCode, sound}
-use Rattle.table.specs.Orders.{bondsFrom, bondsAt, turns, turnedMark, turnMark, turnMarks}
+use Rattle.table.specs.Orders.{bondsFrom, bondsAt, ranksAt, turns, turnedMark, turnMark, turnMarks}
 use Rattle.table.proofs.Valid.{range-of, range-high, atom-fine, atom-fine-back}
 use Rattle.table.proofs.Sound.{run-last, sound-valid, sound-late, sound-back}
 
@@ -121,6 +122,11 @@ module _ (bonds : List ℤ) (a : ℕ) where
 pub turns-same : (f g : ℕ → ℕ) (atoms bonds : List ℤ) (m a : ℕ) → ((c : ℕ) → c < m → touches bonds a c ≡ true → f c ≡ g c) → turns f atoms bonds m a ≡ turns g atoms bonds m a
 unfolding turns
 turns-same f g atoms bonds m a h = rw (ranks-same bonds a f g m h)
+
+-- in words: the ranks being all different, a mark is turned exactly if the number of swaps that sorts them is odd
+pub turns-swaps : (rank : ℕ → ℕ) (atoms bonds : List ℤ) (m a : ℕ) {q : List ℕ} {k : ℕ} → Swaps (ranksAt rank atoms bonds m a) q k → unlike (ranksAt rank atoms bonds m a) ≡ true → ascending q ≡ true → turns rank atoms bonds m a ≡ oddNumber k
+unfolding turns
+turns-swaps rank atoms bonds m a s u w = sorting-swaps s u w
 
 -- of the atoms only the hydrogens of this one are looked at
 pub turns-atoms : (f : ℕ → ℕ) (t u bonds : List ℤ) (m a : ℕ) → hydrogens t a ≡ hydrogens u a → turns f t bonds m a ≡ turns f u bonds m a
