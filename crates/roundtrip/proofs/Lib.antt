@@ -17,3 +17,4 @@ pub mod Back
 pub mod Again
 pub mod Rewritten
 pub mod Claims
+pub mod Kekulized
