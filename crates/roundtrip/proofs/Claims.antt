@@ -24,7 +24,7 @@ use Rattle.table.specs.Sound.{lateCode, sound}
 use Rattle.table.proofs.Sound.{sound-valid, sound-late, sound-back}
 use Rattle.table.proofs.Valid.{bond-row, enough-facts}
 use Rattle.ids.specs.Limits.{maxText}
-use Rattle.reading.specs.Read.{ReadResult, refused, placed, checked, readOf}
+use Rattle.reading.specs.Read.{refused, placed, checked, readOf}
 use Rattle.writing_walk.specs.Token.{Bond, bond, bondBetween}
 use Rattle.writing_walk.specs.Emit.{pre}
 use Rattle.writing_walk.specs.Walk.{forestOf, place, renumber, renumbered}
@@ -132,9 +132,11 @@ module _ (atoms bonds : List ℤ) (n m : ℕ) (T U : List ℤ) (p q : ℕ) (vali
       let at : bondAt bs b ≡ walkBond bonds b = upTo-at (walkBond bonds) m b (bond 0 0 0) l in
       let f = index-found x (completed n bs) (is-read n bs (inside valid) b (let e = many valid in omega arith)) in
       let g : new b < m = (let e = as-many atoms bonds n m valid in let k = f .0 in omega arith) in
-      let r = bond-row valid b l in
-      (g, sym (upTo-at (walkBond U) m (new b) (bond 0 0 0) g) ∙ ap (λ (c : List Bond). bondAt c (new b)) (M .listed) ∙ f .1 ∙ ap (renumber (pre (forestOf n bs))) at
-      ∙ renamed-bond bonds n m (walkBond bonds b) (r .order) (r .second))
+      let r = bond-row valid b l in (
+        g,
+        sym (upTo-at (walkBond U) m (new b) (bond 0 0 0) g) ∙ ap (λ (c : List Bond). bondAt c (new b)) (M .listed) ∙ f .1 ∙ ap (renumber (pre (forestOf n bs))) at
+            ∙ renamed-bond bonds n m (walkBond bonds b) (r .order) (r .second),
+      )
 
   numbers-listed : (w : ℕ) → newNumbers new bonds m w ≡ map new (numbersAt w bs)
   numbers-listed w = ap (map new) (bonds-numbers bonds w m)

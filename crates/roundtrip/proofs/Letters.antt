@@ -3,10 +3,9 @@ use mathlib.Core.Path.{_≡_, refl, sym, ap, _∙_, subst}
 use mathlib.Core.Bool.{Bool, true, false, _&&_}
 use mathlib.Core.List.{List, [], _∷_}
 use mathlib.Core.Logic.{⊎-elim}
-use Prim.Native.Nat.{ℕ, suc, _+_, _*_, _≤_}
+use Prim.Native.Nat.{ℕ, suc}
 use native.Mathlib.Omega.{arith}
 use lib.Dec.{leb}
-use lib.ListN.{length}
 use Rattle.element.specs.declared.Letter.{Letter}
 use Rattle.element.specs.declared.Letter.the-variants.{Plain, Selected, Half, Bracket, Nothing}
 use Rattle.element.specs.Symbols.{among, sameBytes, symbols, letters}
@@ -24,7 +23,7 @@ use Rattle.reading_grammar.specs.declared.MachineState.the-variants.{Start as s
 use Rattle.reading_grammar.specs.Machine.{turn, step, next, atomOr, bridgeOr}
 use Rattle.reading_grammar.specs.Fold.{keeps}
 use Rattle.table.specs.declared.Atom.{Atom}
-use Rattle.table.specs.Limits.{maxAtoms, maxBonds, atomCells}
+use Rattle.table.specs.Limits.{maxAtoms, maxBonds}
 use Rattle.table.specs.Valid.{selectable}
 use Rattle.table.proofs.Rows.{with-atom-twice}
 use Rattle.reading_state.specs.declared.Fields.{Fields}

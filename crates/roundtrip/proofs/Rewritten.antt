@@ -6,14 +6,14 @@ use Prim.Native.Nat.{ℕ, zero, suc, _<_, _≤_}
 use native.Mathlib.Omega.{arith}
 use lib.Dec.{eqb, ltb}
 use lib.ListN.{length, getD}
-use lib.IntN.{ℤ, pos}
+use lib.IntN.{ℤ}
 use borrow.Author.Tests.{eqb-true, eq-eqb, le-leb}
 use Rattle.kinds.proofs.Kind.{turned-small}
 use Rattle.kinds.specs.Kind.{maxKind}
 use Rattle.loops.proofs.Loops.{and-left, and-right, each-all}
 use Rattle.parity.specs.Parity.{odd}
 use Rattle.parity.specs.Mark.{markIf}
-use Rattle.table.specs.Limits.{maxAtoms, maxBonds, atomCells, ELEMENT, SELECTED, ISOTOPE, HYDROGENS, CHARGE, EXTENSION, MARK, FIRST, SECOND, KIND}
+use Rattle.table.specs.Limits.{atomCells, ELEMENT, SELECTED, ISOTOPE, HYDROGENS, CHARGE, EXTENSION, MARK, FIRST, SECOND, KIND}
 use Rattle.table.specs.Cells.{number, atomCell, mark, end1, end2}
 use Rattle.table.specs.Valid.{maxMark, markOk, selectedOk, sameEnds, fresh, atomOk, bondOk, Valid}
 use Rattle.table.specs.Valid as spec

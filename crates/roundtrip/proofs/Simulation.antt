@@ -6,7 +6,7 @@ use Prim.Native.Nat.{ℕ, zero, suc, _+_, _-_, _*_, _<_, _≤_}
 use native.Mathlib.Omega.{arith}
 use lib.Dec.{eqb, ltb}
 use lib.ListN.{length, getD, set, length-append}
-use borrow.Author.Tests.{eqb-true, eqb-false, eq-eqb, ne-eqb, ltb-true, ltb-false, lt-leb}
+use borrow.Author.Tests.{eqb-true, eqb-false, ne-eqb, ltb-true, ltb-false, lt-leb}
 use Rattle.kinds.specs.Kind.{turned, meet, clash}
 use Rattle.loops.specs.Loop.{pick}
 use Rattle.loops.proofs.Loops.{each-all}
@@ -22,7 +22,7 @@ use Rattle.reading.specs.Memory.{Memory, nothing, kindOf, between, bonded, begu
 use Rattle.reading.specs.Memory as bytes
 use Rattle.reading.specs.Act.{bridgeBond, bridgeAct}
 use Rattle.writing_walk.specs.Token.{Bond, bond, bondBetween, ring}
-use Rattle.writing_walk.specs.Reading.{Closure, vacant, at, closureAt, setClosure, St, st, bridge}
+use Rattle.writing_walk.specs.Reading.{Closure, vacant, at, closureAt, St, st, bridge}
 use Rattle.writing_walk.specs.Reading as token
 use Rattle.writing_walk.specs.Check.{ends, some, refusedBridge}
 use Rattle.writing_walk.specs.Keyed.{Keys, Keyed, keyed, stateOf, timeOf, stampsOf, keysOf, setStamp, stampFor, bridgeKeys, stepKeyed}

@@ -7,7 +7,7 @@ use native.Mathlib.Omega.{arith}
 use lib.Dec.{eqb}
 use lib.ListN.{length, getD}
 use lib.IntN.{ℤ}
-use borrow.Author.Tests.{eqb-true, ne-eqb}
+use borrow.Author.Tests.{eqb-true}
 use Rattle.loops.specs.Loop.{pick}
 use Rattle.loops.proofs.Loops.{upTo-at}
 use Rattle.parity.specs.Parity.{odd}
@@ -27,7 +27,7 @@ use Rattle.writing_walk.proofs.Walk.{Inside}
 use Rattle.writing_walk.proofs.Trip.{completed}
 use Rattle.writing_walk.proofs.Twice.{Distinct}
 use Rattle.writing_walk.proofs.Seats.{ringTokens}
-use Rattle.walk_orders.specs.Orders.{bondAt, numbersAt, withHydrogen, writerRank, readerRank, newNumber}
+use Rattle.walk_orders.specs.Orders.{numbersAt, withHydrogen, writerRank, readerRank, newNumber}
 use Rattle.walk_orders.proofs.Marks.{mark-carried}
 use Rattle.walk_orders.proofs.Again.{mark-again}
 use Rattle.writing.specs.Write.{walkBond, bondList, writtenRank}
