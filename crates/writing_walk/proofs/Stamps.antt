@@ -8,7 +8,7 @@ use lib.Dec.{ltb}
 use lib.ListN.{getD}
 use Rattle.writing_walk.specs.Token.{Bond, Tok, apart, along, ring, branch, back}
 use Rattle.writing_walk.specs.Reading.{Closure, vacant, at, closureAt, St, st, stepToken}
-use Rattle.writing_walk.specs.Keyed.{Keys, keys, childKeys, keysBetween, setStamp, Keyed, keyed, timeOf, stampsOf, keysOf, stampFor, bridgeKeys, stepKeyed, runKeyed, startKeyed}
+use Rattle.writing_walk.specs.Keyed.{Keys, keys, childKeys, keysBetween, setStamp, Keyed, keyed, timeOf, stampsOf, keysOf, stampFor, bridgeKeys, stepKeyed, startKeyed}
 use Rattle.writing_walk.proofs.Count.{All, none, more, all-map, all-append}
 
 -- a stamp that was set, and the others
@@ -77,17 +77,13 @@ ring-step k m xs bs h n hs stk z ts ks i = record {
 same-time : (s s′ : St) (z : ℕ) (ts : List ℕ) (ks ls : List Keys) → All (Past z) ls → InTime (keyed s z ts ks) → InTime (keyed s′ z ts (ks ++ ls))
 same-time s s′ z ts ks ls a i = record { stamps = i .stamps; keys = all-append (Past z) ks ls (i .keys) a }
 
+-- THE STATEMENTS: no token makes one later, and at the start there is none
 pub step-in-time : (t : Tok) (x : Keyed) → InTime x → InTime (stepKeyed t x)
 step-in-time (apart w) (keyed s z ts ks) i = same-time s (stepToken (apart w) s) z ts ks [] none i
 step-in-time (along k w) (keyed s z ts ks) i = same-time s (stepToken (along k w) s) z ts ks (childKeys ∷ []) (more {b = childKeys} (omega arith, omega arith) none) i
 step-in-time (ring k m) (keyed (st xs bs h n hs stk) z ts ks) i = ring-step k m xs bs h n hs stk z ts ks i
 step-in-time branch (keyed s z ts ks) i = same-time s (stepToken branch s) z ts ks [] none i
 step-in-time back (keyed s z ts ks) i = same-time s (stepToken back s) z ts ks [] none i
-
--- THE STATEMENT: so it is at every moment of a reading
-pub run-in-time : (l : List Tok) (x : Keyed) → InTime x → InTime (runKeyed l x)
-run-in-time [] x i = i
-run-in-time (t ∷ l) x i = run-in-time l (stepKeyed t x) (step-in-time t x i)
 
 pub start-in-time : InTime startKeyed
 start-in-time = record { stamps = none; keys = none }
