@@ -53,7 +53,7 @@ pub record Same (atoms bonds : List ℤ) (n m : ℕ) (T U : List ℤ) : Type 0 w
   pub new-bond : (b : ℕ) → b < m → (new b < m) × (walkBond U (new b) ≡ renamed (renumbering bonds n m) (walkBond bonds b))
   -- 02, P8: the seventh cell, "turned exactly where the old and the new bond numbers put an atom's bonds in orders an odd number of swaps apart"
   pub marks : (v : ℕ) → v < n → atomCell T (numbered (renumbering bonds n m) v) MARK ≡ pos (markIf (odd (newNumbers new bonds m v)) (mark atoms v))
-  -- every number of swaps that brings them from the one order into the other tells the same
+  -- which is so of every number of swaps that brings the new numbers, standing in the order of the old ones, into their own order
   pub swaps : (v : ℕ) → v < n → {order : List ℕ} {k : ℕ} → Swaps (newNumbers new bonds m v) order k → ascending order ≡ true → odd (newNumbers new bonds m v) ≡ oddNumber k
   pub atoms-after : (j : ℕ) → atomCells * n ≤ j → getD T j (pos 0) ≡ pos 0
   pub bonds-after : (j : ℕ) → bondCells * m ≤ j → getD U j (pos 0) ≡ pos 0
