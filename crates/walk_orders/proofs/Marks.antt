@@ -31,22 +31,22 @@ use Rattle.walk_orders.specs.Orders.{bondAt, numbersAt, withHydrogen, wr
 use Rattle.walk_orders.proofs.Numbers.{endsAt, map-same, numbers-map, numbers-ascend, ascending-unlike, unlike-map, absent-rank, map-map, index-found, at-counted, numberTo, joins, joined-once, first-only, number-back, numbers-back, ends-unlike, all-ends}
 use Rattle.walk_orders.proofs.Carried.{perm-back, walkEnds, touches-place, other-place, same-ends}
 
-at-map : {A : Type 0} (f : Bond → A) (a : A) (l : List Bond) (j : ℕ) → j < length l → getD (map f l) j a ≡ f (bondAt l j)
+pub at-map : {A : Type 0} (f : Bond → A) (a : A) (l : List Bond) (j : ℕ) → j < length l → getD (map f l) j a ≡ f (bondAt l j)
 at-map f a [] j h = absurd (omega arith)
 at-map f a (b ∷ l) zero h = refl
 at-map f a (b ∷ l) (suc j) h = at-map f a l j (omega arith)
 
-oddly-of : (t : ℕ → Bool) (f : ℕ → ℕ) (l : List ℕ) → oddly t (map f l) ≡ oddly (λ y. t (f y)) l
+pub oddly-of : (t : ℕ → Bool) (f : ℕ → ℕ) (l : List ℕ) → oddly t (map f l) ≡ oddly (λ y. t (f y)) l
 unfolding oddly
 oddly-of t f [] = refl
 oddly-of t f (y ∷ l) = ap (flipIf (t (f y))) (oddly-of t f l)
 
-oddly-same : (s t : ℕ → Bool) (l : List ℕ) → All (λ y. s y ≡ t y) l → oddly s l ≡ oddly t l
+pub oddly-same : (s t : ℕ → Bool) (l : List ℕ) → All (λ y. s y ≡ t y) l → oddly s l ≡ oddly t l
 unfolding oddly
 oddly-same s t [] none = refl
 oddly-same s t (y ∷ l) (more h a) = λ j. flipIf (h j) (oddly-same s t l a j)
 
-all-listed : (P : ℕ → Type 0) (l : List ℕ) → All P l → (y : ℕ) → Listed l y → P y
+pub all-listed : (P : ℕ → Type 0) (l : List ℕ) → All P l → (y : ℕ) → Listed l y → P y
 unfolding absent
 all-listed P [] none y e = absurd (never true refl e)
 all-listed P (z ∷ l) (more p a) y e = go (eqb y z) refl e (all-listed P l a y)
@@ -59,7 +59,7 @@ map-named : (f : ℕ → ℕ) (g : ℕ → ℕ) (l : List ℕ) → map f (map g 
 map-named f g [] = refl
 map-named f g (y ∷ l) = ap (λ (r : List ℕ). f (g y) ∷ r) (map-named f g l)
 
-odd-hydrogen : (h : Bool) (l : List ℕ) → odd (withHydrogen h l) ≡ flipIf (h && oddly (over 1) l) (odd l)
+pub odd-hydrogen : (h : Bool) (l : List ℕ) → odd (withHydrogen h l) ≡ flipIf (h && oddly (over 1) l) (odd l)
 unfolding odd oddPairs
 odd-hydrogen true l = refl
 odd-hydrogen false l = refl
@@ -68,6 +68,15 @@ unlike-hydrogen : (h : Bool) (f : ℕ → ℕ) → ((y : ℕ) → f y ≡ 1 → 
 unfolding unlike
 unlike-hydrogen true f e l u = rw (absent-rank 1 f e l) u
 unlike-hydrogen false f e l u = u
+
+-- each bond is read, under the renumbering
+pub is-read : (n : ℕ) (bs : List Bond) → Inside n bs → (j : ℕ) → j < length bs → 0 < count (eqBond (renumber (pre (forestOf n bs)) (bondAt bs j))) (completed n bs)
+unfolding renumbered
+is-read n bs i j l =
+    let order = pre (forestOf n bs) in
+    let q : count (eqBond (renumber order (bondAt bs j))) (completed n bs) ≡ count (eqBond (renumber order (bondAt bs j))) (map (renumber order) bs) = round-trip n (λ v. v) bs i .bonds (eqBond (renumber order (bondAt bs j))) in
+    let r = in-map (renumber order) (bondAt bs j) bs (at-counted bs j l) in
+    omega arith
 
 -- ---- the atom v of n, with the walk number x, and the bonds read, with their keys, under a clock
 
@@ -169,20 +178,13 @@ module _ (n : ℕ) (bs : List Bond) (i : Inside n bs) (d : Distinct bs) (v : ℕ
       ∙ map-same (numbersAt v bs)
 
   -- the new number of a bond of bs
-  is-read : (j : ℕ) → j < length bs → 0 < count (eqBond (renumber order (bondAt bs j))) read
-  unfolding renumbered
-  is-read j l =
-      let q : count (eqBond (renumber order (bondAt bs j))) read ≡ count (eqBond (renumber order (bondAt bs j))) (map (renumber order) bs) = round-trip n (λ v. v) bs i .bonds (eqBond (renumber order (bondAt bs j))) in
-      let r = in-map (renumber order) (bondAt bs j) bs (at-counted bs j l) in
-      omega arith
-
   new-number : (j : ℕ) → j < length bs → touches v (bondAt bs j) ≡ true → newNumber n bs read j ≡ new (place order (otherEnd v (bondAt bs j)))
   unfolding newNumber
   new-number j l t =
       let b = renumber order (bondAt bs j) in
       let y = place order (otherEnd v (bondAt bs j)) in
       let g = bond-inside j l in
-      let f = index-found b read (is-read j l) in
+      let f = index-found b read (is-read n bs i j l) in
       let e : joins x y b ≡ true = rw (touches-place n bs i v h (bondAt bs j) g, t, other-place n bs i v h (bondAt bs j) g t) (eqb-same y) in
       sym (first-only (joins x y) read (joined-once n read in-read (distinct-completed n bs i d) x y) (indexOf b read) (f .0) (ap (joins x y) (f .1) ∙ e))
 

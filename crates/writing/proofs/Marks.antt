@@ -92,7 +92,7 @@ pub rank-is : (bonds : List ℤ) (n m a b : ℕ) → b < m → writtenRank bonds
 unfolding writtenRank writerRank
 rank-is bonds n m a b h = rw (upTo-at (walkBond bonds) m b (bond 0 0 0) h)
 
-with-hydrogen : (h : ℕ) (l : List ℕ) → hydrogenRank h ++ l ≡ withHydrogen (eqb h 1) l
+pub with-hydrogen : (h : ℕ) (l : List ℕ) → hydrogenRank h ++ l ≡ withHydrogen (eqb h 1) l
 with-hydrogen h l = go (eqb h 1)
   where
     go : (t : Bool) → pick t (1 ∷ []) [] ++ l ≡ withHydrogen t l

@@ -10,7 +10,7 @@ use Rattle.kinds.specs.Kind.{meet}
 use Rattle.writing_walk.specs.Token.{Bond, bond, bondBetween, eqBond, Tok, apart, along, ring, branch, back}
 use Rattle.writing_walk.specs.Reading.{Closure, vacant, at, closureAt, St, st, bridge, stepToken, runTokens}
 use Rattle.writing_walk.specs.Emit.{Forest, leaf, node, size, pre, Slot, free, held, lowest, insert, find, release, closeAll, closeToks, openAll, openToks, wrap, rings, ringToks, after, toks, text, done, doneAll, hubAfter, endHub, lastHub, tree, trees}
-use Rattle.writing_walk.specs.Keyed.{Keys, keys, childKeys, keysBetween, setStamp, Keyed, keyed, stateOf, keysOf, stampFor, bridgeKeys, keysMade, stepKeyed, runKeyed, ringsBefore}
+use Rattle.writing_walk.specs.Keyed.{Keys, keys, childKeys, keysBetween, setStamp, Keyed, keyed, stateOf, stampFor, bridgeKeys, keysMade, stepKeyed, runKeyed, ringsBefore}
 use Rattle.writing_walk.proofs.Count.{bit, count, All, none, more, bond-eq}
 use Rattle.writing_walk.proofs.Read.{Back, Inv, Within, ClosesAt, hooks, openOf, find-hook, step-close, hang-at, lowest-vacant, bridged, first-in, close-within, closes-at, opens-at, closes-within, inv-rings, inv-after}
 use Rattle.writing_walk.proofs.Bridges.{all-left, all-right}
@@ -21,7 +21,7 @@ keyed-state [] x = refl
 keyed-state (t ∷ ts) (keyed s z ms ks) = keyed-state ts (stepKeyed t (keyed s z ms ks))
 
 -- as many keys as bonds
-abbrev bondsOf : St → List Bond
+abbrev pub bondsOf : St → List Bond
 bondsOf (st xs bs h n hs stk) = bs
 
 grown : {A B : Type 0} (l : List A) (m : List B) (a : A) (b : B) → length l ≡ length m → length (l ++ (a ∷ [])) ≡ length (m ++ (b ∷ []))
@@ -30,7 +30,7 @@ grown l m a b e = length-append l (a ∷ []) ∙ omega arith ∙ sym (length-app
 same-long : {A : Type 0} (l : List A) (m : List Bond) → length l ≡ length m → length (l ++ []) ≡ length m
 same-long l m e = ap length (append-nil l) ∙ e
 
-step-long : (t : Tok) (s : St) (z : ℕ) (ts : List ℕ) (ks : List Keys) → length ks ≡ length (bondsOf s) → length (ks ++ keysMade t s z ts) ≡ length (bondsOf (stepToken t s))
+pub step-long : (t : Tok) (s : St) (z : ℕ) (ts : List ℕ) (ks : List Keys) → length ks ≡ length (bondsOf s) → length (ks ++ keysMade t s z ts) ≡ length (bondsOf (stepToken t s))
 step-long (apart w) (st xs bs h n hs stk) z ts ks e = same-long ks bs e
 step-long (along k w) (st xs bs h n hs stk) z ts ks e = grown ks bs childKeys (bond h n k) e
 step-long (ring k m) (st xs bs h n hs stk) z ts ks e = go (closureAt hs m)
@@ -41,10 +41,6 @@ step-long (ring k m) (st xs bs h n hs stk) z ts ks e = go (closureAt hs m)
 step-long branch (st xs bs h n hs stk) z ts ks e = same-long ks bs e
 step-long back (st xs bs h n hs []) z ts ks e = same-long ks bs e
 step-long back (st xs bs h n hs (g ∷ stk)) z ts ks e = same-long ks bs e
-
-pub keyed-long : (ts : List Tok) (x : Keyed) → length (keysOf x) ≡ length (bondsOf (stateOf x)) → length (keysOf (runKeyed ts x)) ≡ length (bondsOf (runTokens ts (stateOf x)))
-keyed-long [] x e = e
-keyed-long (t ∷ ts) (keyed s z ms ks) e = keyed-long ts (stepKeyed t (keyed s z ms ks)) (step-long t s z ms ks e)
 
 pub keyed-append : (a b : List Tok) (x : Keyed) → runKeyed (a ++ b) x ≡ runKeyed b (runKeyed a x)
 keyed-append [] b x = refl

@@ -184,3 +184,15 @@ ascending-more l p s a i j h g = go (tri j (length l))
     go (below k) = rw (List·getD-append l (p ∷ []) 0 i (omega arith), List·getD-append l (p ∷ []) 0 j k) (s i j h k)
     go (same k) = rw (List·getD-append l (p ∷ []) 0 i (omega arith), k, getD-append-seam l p [] 0) (all-at (λ y. y < p) 0 l i a (omega arith))
     go (above k) = absurd (let q = length-append l (p ∷ []) in omega arith)
+
+-- the times so far keep their offsets, and the next has the new one
+pub offset-kept : (l : List ℕ) (p d : ℕ) → d ≤ length l → offsetClock (l ++ (p ∷ [])) d ≡ offsetClock l d
+offset-kept l p zero h = refl
+offset-kept l p (suc d) h = ap suc (List·getD-append l (p ∷ []) 0 d (omega arith))
+
+pub offset-last : (l : List ℕ) (p : ℕ) → offsetClock (l ++ (p ∷ [])) (suc (length l)) ≡ suc p
+offset-last l p = ap suc (getD-append-seam l p [] 0)
+
+pub offset-bound : (l : List ℕ) (big : ℕ) → All (λ p. p < big) l → (d : ℕ) → d ≤ length l → offsetClock l d ≤ big
+offset-bound l big a zero h = omega arith
+offset-bound l big a (suc d) h = let q = all-at (λ p. p < big) 0 l d a (omega arith) in omega arith

@@ -271,7 +271,7 @@ back-of m N i = record {
 }
 
 -- the payloads
-pub pre-relabel : (pay : ℕ → ℕ) (F : Forest) → pre (relabel pay F) ≡ map pay (pre F)
+pre-relabel : (pay : ℕ → ℕ) (F : Forest) → pre (relabel pay F) ≡ map pay (pre F)
 pre-relabel pay leaf = refl
 pre-relabel pay (node w k f g) = ap (λ (l : List ℕ). pay w ∷ l) ((λ i. pre-relabel pay f i ++ pre-relabel pay g i) ∙ sym (map-append (pre f) (pre g)))
   where

@@ -42,6 +42,9 @@ stateOf (keyed s z ts ks) = s
 abbrev pub timeOf : Keyed → ℕ
 timeOf (keyed s z ts ks) = z
 
+abbrev pub stampsOf : Keyed → List ℕ
+stampsOf (keyed s z ts ks) = ts
+
 abbrev pub keysOf : Keyed → List Keys
 keysOf (keyed s z ts ks) = ks
 
