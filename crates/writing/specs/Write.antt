@@ -15,8 +15,7 @@ use Rattle.ids.specs.Limits.{maxDepth, bridges, maxText}
 use Rattle.writing_walk.specs.Token.{Bond, bond, Tok, apart, along, ring, branch, back}
 use Rattle.writing_walk.specs.Emit.{Forest, pre}
 use Rattle.writing_walk.specs.Walk.{forestOf, place, write}
-use Rattle.writing_walk.specs.Flat.{ups}
-use Rattle.writing_walk.specs.Ranks.{otherEnd, walkRank}
+use Rattle.writing_walk.specs.Parents.{ups, otherEnd, walkRank}
 use Rattle.writing_walk.specs.Depth.{nests}
 use Rattle.writing.specs.Spell.{atomBytes, tokensBytes}
 

@@ -7,7 +7,7 @@ use lib.ListN.{length, getD, set}
 use lib.IntN.{ℤ}
 use lib.Dec.{eqb}
 use Rattle.table.specs.Cells.{mark, end1, end2}
-use Rattle.writing_walk.specs.Ranks.{walkRank}
+use Rattle.writing_walk.specs.Parents.{walkRank}
 use Rattle.writing.specs.Write.{writtenRank, marksWritten}
 
 -- an atom without a mark

@@ -7,22 +7,17 @@ use lib.Dec.{eqb}
 use lib.ListN.{length, getD}
 use Rattle.writing_walk.specs.Token.{Bond}
 use Rattle.writing_walk.specs.Walk.{forestOf}
-use Rattle.writing_walk.specs.Flat.{ups}
+use Rattle.writing_walk.specs.Parents.{ups}
+pub use Rattle.writing_walk.specs.Parents.{otherEnd}
+unfoldable pub use Rattle.writing_walk.specs.Parents.{walkRank}
 use Rattle.writing_walk.specs.Keyed.{Keys, keyOf}
 
--- a bond at the atom x: its other end, and the time of its ring token at x
+-- a bond at the atom x, and the time of its ring token at x
 abbrev pub touches : ℕ → Bond → Bool
 touches x b = eqb (b .lo) x || eqb (b .hi) x
 
-abbrev pub otherEnd : ℕ → Bond → ℕ
-otherEnd x b = cond (eqb (b .lo) x) (b .hi) (b .lo)
-
 abbrev pub keyAt : ℕ → Bond → Keys → ℕ
 keyAt x b k = cond (eqb (b .lo) x) (k .low) (k .high)
-
--- as the writer knows it, of n atoms: the bond between the walk numbers x and y; us: the walk number of each atom's parent, plus 1
-unfoldable pub walkRank : ℕ → List ℕ → ℕ → ℕ → ℕ
-walkRank n us x y = cond (eqb (getD us x 0) (suc y)) 0 (cond (eqb (getD us y 0) (suc x)) (n + 2 + y) (y + 2))
 
 -- as the reader knows it: the bond at x whose key there is p and whose higher end is h; big is at least every key
 unfoldable pub textRank : ℕ → ℕ → ℕ → ℕ → ℕ
