@@ -290,10 +290,10 @@ fn second_rank(key: u16) -> u16
     requires { ⌜ key ≤ maxText ⌝ }
     ensures { λ r. ⌜ r ≡ secondRank key ⌝ }
 {
-    if key == 0 {
-        return 0;
+    if 0 < key {
+        return key + 1;
     }
-    key + 1
+    0
 }
 
 // The ranks of m bonds in the text, in place of their keys.
@@ -312,13 +312,7 @@ fn rank_bonds(bonds: &[i32], m: usize, keys: &mut [u16; KEYS])
 }
 
 // The marks of n atoms as they are stored, from the keys of m bonds, which are used up.
-fn store_marks(
-    n: usize,
-    m: usize,
-    keys: &mut [u16; KEYS],
-    atoms: &mut [i32],
-    bonds: &[i32],
-)
+fn store_marks(n: usize, m: usize, keys: &mut [u16; KEYS], atoms: &mut [i32], bonds: &[i32])
     requires { ⌜ Valid (now atoms) (now bonds) n m ⌝ }
     requires { ⌜ (noneUnfit (now atoms) (now bonds) n m ≡ true) × Rankable (now bonds) m (now keys) ⌝ }
     ensures { λ _. ⌜ now (atoms .exit) ≡ turnMarks (textRank (now (keys .entry)) (now (bonds .entry))) (now (bonds .entry)) m n (now (atoms .entry)) ⌝ }
