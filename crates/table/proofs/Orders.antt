@@ -154,14 +154,14 @@ turns-between rank atoms bonds m a =
 -- ---- a table with turned marks
 
 -- a turned mark is a mark exactly if it was one, and no larger
-mark-zero : (x : Bool) (k : ℕ) → ltb 0 (markIf x k) ≡ ltb 0 k
+pub mark-zero : (x : Bool) (k : ℕ) → ltb 0 (markIf x k) ≡ ltb 0 k
 mark-zero true zero = refl
 mark-zero true (suc zero) = refl
 mark-zero true (suc (suc zero)) = refl
 mark-zero true (suc (suc (suc k))) = refl
 mark-zero false k = refl
 
-mark-two : (x : Bool) (k : ℕ) → k ≤ maxMark → markIf x k ≤ maxMark
+pub mark-two : (x : Bool) (k : ℕ) → k ≤ maxMark → markIf x k ≤ maxMark
 mark-two true zero h = omega arith
 mark-two true (suc zero) h = omega arith
 mark-two true (suc (suc zero)) h = omega arith
