@@ -28,7 +28,7 @@ use Rattle.reading.specs.Bracket.{symbolled}
 use Rattle.reading.specs.Act.{atomAct, bridgeAct, branchAct, modeAct, act}
 use Rattle.reading.specs.Read.{hydrogenated, overfullAtoms, textRank, leftmost, ended, readFrom, readOf}
 use Rattle.writing_walk.specs.Walk.{forestOf, renumbered, unused, write}
-use Rattle.writing_walk.specs.Ranks.{walkRank}
+use Rattle.writing_walk.specs.Parents.{walkRank}
 use Rattle.writing.specs.Spell.{decimal, markBytes, hydrogenBytes, sizeBytes, bracketBytes, withoutBrackets, spelledAtom, kindBytes, bridgeBytes, restBytes, tokensBytes}
 use Rattle.writing.specs.Write.{tokens, writtenRank, marksWritten, textOf}
 use Rattle.examples.specs.Said.{Said, said, accepted, refused}

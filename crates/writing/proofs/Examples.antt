@@ -13,7 +13,7 @@ use Rattle.table.specs.Cells.{number, touches}
 use Rattle.table.specs.Orders.{bondsFrom, bondsAt, turns, turnedMark, turnMarks}
 use Rattle.table_graph.specs.Graph.{share, bondSum}
 use Rattle.writing_walk.specs.Walk.{forestOf, renumbered, unused, write}
-use Rattle.writing_walk.specs.Ranks.{walkRank}
+use Rattle.writing_walk.specs.Parents.{walkRank}
 use Rattle.writing.specs.Spell.{decimal, markBytes, hydrogenBytes, sizeBytes, bracketBytes, withoutBrackets, spelledAtom, kindBytes, bridgeBytes, restBytes, tokensBytes}
 use Rattle.writing.specs.Write.{tokens, writtenRank, marksWritten, textOf}
 

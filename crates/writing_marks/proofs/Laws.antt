@@ -17,7 +17,7 @@ use Rattle.table.proofs.Orders.{turns-same, turned-none}
 use Rattle.writing_walk.specs.Emit.{pre}
 use Rattle.writing_walk.specs.Walk.{forestOf, place}
 use Rattle.writing_walk.specs.Flat.{ups}
-use Rattle.writing_walk.specs.Ranks.{walkRank}
+use Rattle.writing_walk.specs.Parents.{walkRank}
 use Rattle.writing.specs.Write.{walkBond, bondList, writtenRank}
 use Rattle.writing.proofs.Marks.{written-mark}
 use Rattle.writing_visit.specs.Visit.{BondsFit}
