@@ -9,3 +9,5 @@ pub mod Orders
 pub mod Single
 pub mod Settling
 pub mod Redrawn
+pub mod Moved
+pub mod Claims

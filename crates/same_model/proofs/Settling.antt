@@ -43,7 +43,7 @@ small-growth false true k f = omega arith
 small-growth true false k f = omega arith
 small-growth false false k f = omega arith
 
-flag-back : (z : Bool) → eqb (flag z) 1 ≡ z
+pub flag-back : (z : Bool) → eqb (flag z) 1 ≡ z
 flag-back true = refl
 flag-back false = refl
 
@@ -60,7 +60,7 @@ module _ (x : Molecule) (r : Row) (p : Placement x r) (v : Valid (x .atoms) (x .
   abbrev flags : List ℕ
   flags = delocalizedFlags (x .atoms) (x .bonds) (x .n) (x .m)
 
-  pairs : Pairs flags (graphOf (x .bonds) (x .m)) (setOf r)
+  pub pairs : Pairs flags (graphOf (x .bonds) (x .m)) (setOf r)
   pairs = row-pairs flags (graphOf (x .bonds) (x .m)) r (rw (length-upTo (bondOf (x .bonds)) 0 (x .m)) (p .row)) (p .placed)
 
   bond-at : (k : ℕ) → k < x .m → nthBond (graphOf (x .bonds) (x .m)) k ≡ bondOf (x .bonds) k
@@ -80,7 +80,7 @@ module _ (x : Molecule) (r : Row) (p : Placement x r) (v : Valid (x .atoms) (x .
   second : (k : ℕ) → end2 bonds′ k ≡ end2 (x .bonds) k
   second k = ap number (doubled-field r (x .m) k SECOND (x .bonds) (omega arith) (λ q. omega arith))
 
-  kind-at : (k : ℕ) → k < x .m → kind bonds′ k ≡ number (pick (setOf r k) (pos 2) (bondCell (x .bonds) k KIND))
+  pub kind-at : (k : ℕ) → k < x .m → kind bonds′ k ≡ number (pick (setOf r k) (pos 2) (bondCell (x .bonds) k KIND))
   kind-at k l = ap number (doubled-kind r (x .m) k (x .bonds) l (omega (arith, v .few-bonds, e .bonds-room)))
 
   doubled-two : (k : ℕ) → k < x .m → setOf r k ≡ true → (kind bonds′ k ≡ 2) × (kind (x .bonds) k ≡ 0)
@@ -94,7 +94,7 @@ module _ (x : Molecule) (r : Row) (p : Placement x r) (v : Valid (x .atoms) (x .
   unfolding touches
   touches-same a k = rw (first k, second k)
 
-  joins-same : (a b k : ℕ) → joins (settled x r) a b k ≡ joins x a b k
+  pub joins-same : (a b k : ℕ) → joins (settled x r) a b k ≡ joins x a b k
   unfolding joins
   joins-same a b k = rw (first k, second k)
 
