@@ -8,11 +8,10 @@ use lib.IntN.{ℤ}
 use lib.Dec.{eqb}
 use borrow.Author.Tests.{eqb-true}
 use Rattle.loops.specs.Loop.{pick}
-use Rattle.table.specs.Cells.{end1, end2, kind}
+use Rattle.table.specs.Cells.{end1, end2, kind, touches}
 use Rattle.table.specs.Valid.{Valid}
 use Rattle.table.proofs.Valid.{bond-row}
 use Rattle.kinds.specs.Kind.{order}
-use Rattle.table.specs.Sound.{touches}
 use Rattle.table_graph.specs.Graph.{share, bondSum}
 use Rattle.same_model.specs.Same.{Molecule, joins, orderBetween}
 use Rattle.same_model.proofs.Totals.{total, run-total, total-same, total-none, total-one, total-exchange}

@@ -11,7 +11,7 @@ use borrow.Author.Tests.{eqb-true, eq-eqb, eqb-false}
 use Rattle.loops.specs.Loop.{pick, upTo}
 use Rattle.loops.proofs.Loops.{and-left, and-right, length-upTo, upTo-at}
 use Rattle.table.specs.Limits.{FIRST, SECOND, KIND}
-use Rattle.table.specs.Cells.{number, bondPlace, bondCell, end1, end2, kind}
+use Rattle.table.specs.Cells.{number, bondPlace, bondCell, end1, end2, kind, touches}
 use Rattle.table.specs.Valid.{Valid}
 use Rattle.table.specs.Edits.{doubledBonds}
 use Rattle.table.proofs.Valid.{Enough}
@@ -21,7 +21,6 @@ use Rattle.matching.specs.Enumeration.{Row}
 use Rattle.matching.specs.Graph.{Bond, flagged, induced, nthBond, ExactlyOne, Pairs, setOf}
 use Rattle.matching.proofs.Graph.{and-intro, same-bool, not-true, never, or-cases}
 use Rattle.matching.proofs.Sets.{row-pairs}
-use Rattle.table.specs.Sound.{touches}
 use Rattle.table_graph.specs.Graph.{share, bondSum, delocalizedAt, delocalizedFlag, delocalizedFlags, flag, bondOf, graphOf}
 use Rattle.same_model.specs.Same.{Molecule, settled, joins, orderBetween}
 use Rattle.same_model.specs.Redrawing.{Placement, settledSum, joined}

@@ -187,25 +187,25 @@ visit-returns t c =
 
 visit-add-add : (t : ℕ) → visit-lts.Need-add-add (visit-claims t) (visit-at t) visit.Post visit-Inv-loop visit-μ-loop
 visit-add-add t c =
-    let at = c .before .before .before .before .before .before .before .before .before .before .loop in
+    let at = c .before .before .before .before .before .before .before .before .before .loop in
     omega (arith, at .inv .0 .few)
 
 visit-add-requires : (t : ℕ) → visit-lts.Need-add-requires (visit-claims t) (visit-at t) visit.Post visit-Inv-loop visit-μ-loop
 visit-add-requires t c κs =
-    let s = c .before .before .before .before .before .before .before .before .before .before .before .before .before .before .before .before .before .before .before .before .before in
+    let s = c .before .before .before .before .before .before .before .before .before .before .before .before .before .before .before .before .before .before .before .before in
     let a = s .args in
     let fit = s .pre .1 .0 in
     let x = fit .few-atoms in
-    let at = c .before .before .before .before .before .before .before .before .before .before .loop in
-    let h = c .before .before .before .before .before .before .before .before .before .loop-test .taken in
-    let f = c .before .before .before .before .before .before .before .before .follow in
+    let at = c .before .before .before .before .before .before .before .before .before .loop in
+    let h = c .before .before .before .before .before .before .before .before .loop-test .taken in
+    let f = c .before .before .before .before .before .before .before .follow in
     let w : ℕ = f .result .other .0 in
     let q = other-below fit (at .here) (at .b) h in
     let places = s .pre .1 .1 .0 in
     let wq : w < a .n = omega (arith, q, f .ensures .0) in
     let wn : w < maxAtoms = omega (arith, wq, x) in
     let wh : w < length (a .head .now) = omega (arith, wq, places .heads) in
-    let k = c .before .before .before .before .before .if2 .left in
+    let k = c .before .before .before .before .if2 .left in
     let room = room-kept (s .pre .1 .1 .1 .1 .0) (at .inv .1) in (
       (omega arith, omega arith),
       ((omega (arith, k, room .order), omega (arith, wq, room .number)), ((omega (arith, k, room .up), omega (arith, k, room .kind)), omega (arith, at .inv .0 .few))),
@@ -213,6 +213,23 @@ visit-add-requires t c κs =
 
 visit-mul-start : (t : ℕ) → visit-lts.Need-mul-start (visit-claims t) (visit-at t) visit.Post visit-Inv-loop visit-μ-loop
 visit-mul-start t c =
+    let s = c .before .before .before .before .before .before .before .before .before .before .before .before .before .before .before .before .before .before .before .before .before .before .before .before .before .before .before .before .before in
+    let a = s .args in
+    let fit = s .pre .1 .0 in
+    let x = fit .few-atoms in
+    let at = c .before .before .before .before .before .before .before .before .before .before .before .before .before .before .before .before .before .before .loop in
+    let h = c .before .before .before .before .before .before .before .before .before .before .before .before .before .before .before .before .before .loop-test .taken in
+    let f = c .before .before .before .before .before .before .before .before .before .before .before .before .before .before .before .before .follow in
+    let w : ℕ = f .result .other .0 in
+    let q = other-below fit (at .here) (at .b) h in
+    let places = s .pre .1 .1 .0 in
+    let wq : w < a .n = omega (arith, q, f .ensures .0) in
+    let wn : w < maxAtoms = omega (arith, wq, x) in
+    let wh : w < length (a .head .now) = omega (arith, wq, places .heads) in
+    omega arith
+
+visit-shared-slice-read-start : (t : ℕ) → visit-lts.Need-shared-slice-read-start (visit-claims t) (visit-at t) visit.Post visit-Inv-loop visit-μ-loop
+visit-shared-slice-read-start t c =
     let s = c .before .before .before .before .before .before .before .before .before .before .before .before .before .before .before .before .before .before .before .before .before .before .before .before .before .before .before .before .before .before in
     let a = s .args in
     let fit = s .pre .1 .0 in
@@ -226,36 +243,19 @@ visit-mul-start t c =
     let wq : w < a .n = omega (arith, q, f .ensures .0) in
     let wn : w < maxAtoms = omega (arith, wq, x) in
     let wh : w < length (a .head .now) = omega (arith, wq, places .heads) in
-    omega arith
-
-visit-shared-slice-read-start : (t : ℕ) → visit-lts.Need-shared-slice-read-start (visit-claims t) (visit-at t) visit.Post visit-Inv-loop visit-μ-loop
-visit-shared-slice-read-start t c =
-    let s = c .before .before .before .before .before .before .before .before .before .before .before .before .before .before .before .before .before .before .before .before .before .before .before .before .before .before .before .before .before .before .before in
-    let a = s .args in
-    let fit = s .pre .1 .0 in
-    let x = fit .few-atoms in
-    let at = c .before .before .before .before .before .before .before .before .before .before .before .before .before .before .before .before .before .before .before .before .loop in
-    let h = c .before .before .before .before .before .before .before .before .before .before .before .before .before .before .before .before .before .before .before .loop-test .taken in
-    let f = c .before .before .before .before .before .before .before .before .before .before .before .before .before .before .before .before .before .before .follow in
-    let w : ℕ = f .result .other .0 in
-    let q = other-below fit (at .here) (at .b) h in
-    let places = s .pre .1 .1 .0 in
-    let wq : w < a .n = omega (arith, q, f .ensures .0) in
-    let wn : w < maxAtoms = omega (arith, wq, x) in
-    let wh : w < length (a .head .now) = omega (arith, wq, places .heads) in
     omega (arith, wh)
 
 visit-cast-start : (t : ℕ) → visit-lts.Need-cast-start (visit-claims t) (visit-at t) visit.Post visit-Inv-loop visit-μ-loop
 visit-cast-start t c =
-    let s = c .before .before .before .before .before .before .before .before .before .before .before .before .before .before .before .before .before .before .before .before .before .before .before .before .before .before .before .before .before .before .before in
+    let s = c .before .before .before .before .before .before .before .before .before .before .before .before .before .before .before .before .before .before .before .before .before .before .before .before .before .before .before .before .before .before in
     let a = s .args in
     let fit = s .pre .1 .0 in
     let x = fit .few-atoms in
     let y = fit .few-bonds in
     let lk = s .pre .1 .1 .1 .0 in
-    let at = c .before .before .before .before .before .before .before .before .before .before .before .before .before .before .before .before .before .before .before .before .loop in
-    let h = c .before .before .before .before .before .before .before .before .before .before .before .before .before .before .before .before .before .before .before .loop-test .taken in
-    let f = c .before .before .before .before .before .before .before .before .before .before .before .before .before .before .before .before .before .before .follow in
+    let at = c .before .before .before .before .before .before .before .before .before .before .before .before .before .before .before .before .before .before .before .loop in
+    let h = c .before .before .before .before .before .before .before .before .before .before .before .before .before .before .before .before .before .before .loop-test .taken in
+    let f = c .before .before .before .before .before .before .before .before .before .before .before .before .before .before .before .before .before .follow in
     let w : ℕ = f .result .other .0 in
     let q = other-below fit (at .here) (at .b) h in
     let places = s .pre .1 .1 .0 in
@@ -267,37 +267,37 @@ visit-cast-start t c =
 
 visit-add-next : (t : ℕ) → visit-lts.Need-add-next (visit-claims t) (visit-at t) visit.Post visit-Inv-loop visit-μ-loop
 visit-add-next t c =
-    let s = c .before .before .before .before .before .before .before .before .before .before .before .before .before .before .before .before .before .before .before .before .before .before .before .before .before .before .before .before .before .before .before .before in
+    let s = c .before .before .before .before .before .before .before .before .before .before .before .before .before .before .before .before .before .before .before .before .before .before .before .before .before .before .before .before .before .before .before in
     let fit = s .pre .1 .0 in
-    omega (arith, fit .few-atoms, c .before .before .before .before .before .before .before .before .before .before .before .before .before .before .before .before .if2 .left)
+    omega (arith, fit .few-atoms, c .before .before .before .before .before .before .before .before .before .before .before .before .before .before .before .if2 .left)
 
 visit-loop-less-2 : (t : ℕ) → visit-lts.Need-loop-less-2 (visit-claims t) (visit-at t) visit.Post visit-Inv-loop visit-μ-loop
 visit-loop-less-2 t c =
-    let s = c .before .before .before .before .before .before .before .before .before .before .before .before .before .before .before .before .before .before .before .before .before .before .before .before .before .before .before .before .before .before .before .before in
+    let s = c .before .before .before .before .before .before .before .before .before .before .before .before .before .before .before .before .before .before .before .before .before .before .before .before .before .before .before .before .before .before .before in
     let a = s .args in
     let fit = s .pre .1 .0 in
-    let at = c .before .before .before .before .before .before .before .before .before .before .before .before .before .before .before .before .before .before .before .before .before .loop in
+    let at = c .before .before .before .before .before .before .before .before .before .before .before .before .before .before .before .before .before .before .before .before .loop in
     let i = at .inv in
-    let h = c .before .before .before .before .before .before .before .before .before .before .before .before .before .before .before .before .before .before .before .before .loop-test .taken in
-    let f = c .before .before .before .before .before .before .before .before .before .before .before .before .before .before .before .before .before .before .before .follow in
+    let h = c .before .before .before .before .before .before .before .before .before .before .before .before .before .before .before .before .before .before .before .loop-test .taken in
+    let f = c .before .before .before .before .before .before .before .before .before .before .before .before .before .before .before .before .before .before .follow in
     let q = other-below fit (at .here) (at .b) h in
     let w : ℕ = f .result .other .0 in
     let wq : w < a .n = omega (arith, q, f .ensures .0) in
     let room = room-kept (s .pre .1 .1 .1 .1 .0) (i .1) in
     let d = c .before .before .before .before .before .before .before .before .before .before .add in
-    ahead-drop _ _ _ _ _ (seen-less (at .number) (d .last .1 .0) w (at .next) (omega (arith, wq, room .number)) (c .before .before .before .before .before .before .before .before .before .before .before .before .before .before .before .before .before .if1 .left) (d .ensures .1 .0))
+    ahead-drop _ _ _ _ _ (seen-less (at .number) (d .last .1 .0) w (at .next) (omega (arith, wq, room .number)) (c .before .before .before .before .before .before .before .before .before .before .before .before .before .before .before .before .if1 .left) (d .ensures .1 .0))
 
 visit-loop-again-2 : (t : ℕ) → visit-lts.Need-loop-again-2 (visit-claims t) (visit-at t) visit.Post visit-Inv-loop visit-μ-loop
 visit-loop-again-2 t c =
-    let s = c .before .before .before .before .before .before .before .before .before .before .before .before .before .before .before .before .before .before .before .before .before .before .before .before .before .before .before .before .before .before .before .before in
+    let s = c .before .before .before .before .before .before .before .before .before .before .before .before .before .before .before .before .before .before .before .before .before .before .before .before .before .before .before .before .before .before .before in
     let a = s .args in
     let fit = s .pre .1 .0 in
     let x = fit .few-atoms in
     let lk = s .pre .1 .1 .1 .0 in
-    let at = c .before .before .before .before .before .before .before .before .before .before .before .before .before .before .before .before .before .before .before .before .before .loop in
+    let at = c .before .before .before .before .before .before .before .before .before .before .before .before .before .before .before .before .before .before .before .before .loop in
     let i = at .inv in
-    let h = c .before .before .before .before .before .before .before .before .before .before .before .before .before .before .before .before .before .before .before .before .loop-test .taken in
-    let f = c .before .before .before .before .before .before .before .before .before .before .before .before .before .before .before .before .before .before .before .follow in
+    let h = c .before .before .before .before .before .before .before .before .before .before .before .before .before .before .before .before .before .before .before .loop-test .taken in
+    let f = c .before .before .before .before .before .before .before .before .before .before .before .before .before .before .before .before .before .before .follow in
     let w : ℕ = f .result .other .0 in
     let q = other-below fit (at .here) (at .b) h in
     let places = s .pre .1 .1 .0 in
@@ -309,27 +309,27 @@ visit-loop-again-2 t c =
     let l = room .number in
     let d = c .before .before .before .before .before .before .before .before .before .before .add in
     let kept = kept-set (i .1) (at .next) w (at .parent + 1) (f .result .kind) (d .ensures .0) (d .ensures .1 .0) (d .ensures .1 .1 .0) (d .ensures .1 .1 .1) in
-    (left-last fit (f .result .next .0) h r _ _ _ _ _ _ (i .0) w (f .result .kind) (getD (a .head .now) w 0) (f .ensures .0) (c .before .before .before .before .before .before .before .before .before .before .before .before .before .before .before .before .before .if1 .left) (f .ensures .1 .0) (lk .heads w wh) (omega arith) _ _ _ _ (d .ensures .0) (d .ensures .1 .0) (d .ensures .1 .1 .0) (d .ensures .1 .1 .1) (c .if3 .taken) (omega (arith, x, c .before .before .before .before .before .before .before .before .before .before .before .before .before .before .before .before .if2 .left)), kept)
+    (left-last fit (f .result .next .0) h r _ _ _ _ _ _ (i .0) w (f .result .kind) (getD (a .head .now) w 0) (f .ensures .0) (c .before .before .before .before .before .before .before .before .before .before .before .before .before .before .before .before .if1 .left) (f .ensures .1 .0) (lk .heads w wh) (omega arith) _ _ _ _ (d .ensures .0) (d .ensures .1 .0) (d .ensures .1 .1 .0) (d .ensures .1 .1 .1) (c .if3 .taken) (omega (arith, x, c .before .before .before .before .before .before .before .before .before .before .before .before .before .before .before .if2 .left)), kept)
 
 visit-add-visit : (t : ℕ) → visit-lts.Need-add-visit (visit-claims t) (visit-at t) visit.Post visit-Inv-loop visit-μ-loop
 visit-add-visit t c =
-    let s = c .before .before .before .before .before .before .before .before .before .before .before .before .before .before .before .before .before .before .before .before .before .before .before .before .before .before .before .before .before .before .before .before .before .before .before .before in
+    let s = c .before .before .before .before .before .before .before .before .before .before .before .before .before .before .before .before .before .before .before .before .before .before .before .before .before .before .before .before .before .before .before .before .before .before .before in
     let fit = s .pre .1 .0 in
     let x = fit .few-atoms in
-    let k = c .before .before .before .before .before .before .before .before .before .before .before .before .before .before .before .before .before .before .before .before .if2 .left in
+    let k = c .before .before .before .before .before .before .before .before .before .before .before .before .before .before .before .before .before .before .before .if2 .left in
     omega arith
 
 visit-visit-requires : (t : ℕ) → visit-lts.Need-visit-requires (visit-claims t) (visit-at t) visit.Post visit-Inv-loop visit-μ-loop
 visit-visit-requires t c κs =
-    let s = c .before .before .before .before .before .before .before .before .before .before .before .before .before .before .before .before .before .before .before .before .before .before .before .before .before .before .before .before .before .before .before .before .before .before .before .before in
+    let s = c .before .before .before .before .before .before .before .before .before .before .before .before .before .before .before .before .before .before .before .before .before .before .before .before .before .before .before .before .before .before .before .before .before .before .before in
     let a = s .args in
     let fit = s .pre .1 .0 in
     let x = fit .few-atoms in
     let lk = s .pre .1 .1 .1 .0 in
-    let at = c .before .before .before .before .before .before .before .before .before .before .before .before .before .before .before .before .before .before .before .before .before .before .before .before .before .loop in
+    let at = c .before .before .before .before .before .before .before .before .before .before .before .before .before .before .before .before .before .before .before .before .before .before .before .before .loop in
     let i = at .inv in
-    let h = c .before .before .before .before .before .before .before .before .before .before .before .before .before .before .before .before .before .before .before .before .before .before .before .before .loop-test .taken in
-    let f = c .before .before .before .before .before .before .before .before .before .before .before .before .before .before .before .before .before .before .before .before .before .before .before .follow in
+    let h = c .before .before .before .before .before .before .before .before .before .before .before .before .before .before .before .before .before .before .before .before .before .before .before .loop-test .taken in
+    let f = c .before .before .before .before .before .before .before .before .before .before .before .before .before .before .before .before .before .before .before .before .before .before .follow in
     let w : ℕ = f .result .other .0 in
     let q = other-below fit (at .here) (at .b) h in
     let places = s .pre .1 .1 .0 in
@@ -338,22 +338,22 @@ visit-visit-requires t c κs =
     let wh : w < length (a .head .now) = omega (arith, wq, places .heads) in
     let room = room-kept (s .pre .1 .1 .1 .1 .0) (i .1) in
     let l = room .number in
-    let k = c .before .before .before .before .before .before .before .before .before .before .before .before .before .before .before .before .before .before .before .before .if2 .left in
+    let k = c .before .before .before .before .before .before .before .before .before .before .before .before .before .before .before .before .before .before .before .if2 .left in
     let d = c .before .before .before .before .before .before .before .before .before .before .before .before .before .before .add in
-    let z = seen-less (at .number) (d .last .1 .0) w (at .next) (omega arith) (c .before .before .before .before .before .before .before .before .before .before .before .before .before .before .before .before .before .before .before .before .before .if1 .left) (d .ensures .1 .0) in
+    let z = seen-less (at .number) (d .last .1 .0) w (at .next) (omega arith) (c .before .before .before .before .before .before .before .before .before .before .before .before .before .before .before .before .before .before .before .before .if1 .left) (d .ensures .1 .0) in
     let kept = kept-set (i .1) (at .next) w (at .parent + 1) (f .result .kind) (d .ensures .0) (d .ensures .1 .0) (d .ensures .1 .1 .0) (d .ensures .1 .1 .1) in
     (omega (arith, z, i .0 .fewer, s .pre .0), (fit, (places, (lk, (room-kept (s .pre .1 .1 .1 .1 .0) kept, ((omega arith, head-within lk w wh), head-here lk w wh))))))
 
 visit-loop-less-3 : (t : ℕ) → visit-lts.Need-loop-less-3 (visit-claims t) (visit-at t) visit.Post visit-Inv-loop visit-μ-loop
 visit-loop-less-3 t c =
-    let s = c .before .before .before .before .before .before .before .before .before .before .before .before .before .before .before .before .before .before .before .before .before .before .before .before .before .before .before .before .before .before .before .before .before .before .before .before .before .before .before .before .before .before .before .before .before in
+    let s = c .before .before .before .before .before .before .before .before .before .before .before .before .before .before .before .before .before .before .before .before .before .before .before .before .before .before .before .before .before .before .before .before .before .before .before .before .before .before .before .before .before .before .before .before in
     let a = s .args in
     let fit = s .pre .1 .0 in
     let lk = s .pre .1 .1 .1 .0 in
-    let at = c .before .before .before .before .before .before .before .before .before .before .before .before .before .before .before .before .before .before .before .before .before .before .before .before .before .before .before .before .before .before .before .before .before .before .loop in
+    let at = c .before .before .before .before .before .before .before .before .before .before .before .before .before .before .before .before .before .before .before .before .before .before .before .before .before .before .before .before .before .before .before .before .before .loop in
     let i = at .inv in
-    let h = c .before .before .before .before .before .before .before .before .before .before .before .before .before .before .before .before .before .before .before .before .before .before .before .before .before .before .before .before .before .before .before .before .before .loop-test .taken in
-    let f = c .before .before .before .before .before .before .before .before .before .before .before .before .before .before .before .before .before .before .before .before .before .before .before .before .before .before .before .before .before .before .before .before .follow in
+    let h = c .before .before .before .before .before .before .before .before .before .before .before .before .before .before .before .before .before .before .before .before .before .before .before .before .before .before .before .before .before .before .before .before .loop-test .taken in
+    let f = c .before .before .before .before .before .before .before .before .before .before .before .before .before .before .before .before .before .before .before .before .before .before .before .before .before .before .before .before .before .before .before .follow in
     let r = next-after-is lk (at .b) (at .here) (f .result .next .0) h (i .0 .here h) (f .ensures .1 .1) in
     let z = next-after-later lk (at .b) (at .here) (f .result .next .0) h r in
     let q = other-below fit (at .here) (at .b) h in
@@ -361,21 +361,21 @@ visit-loop-less-3 t c =
     let wq : w < a .n = omega (arith, q, f .ensures .0) in
     let room = room-kept (s .pre .1 .1 .1 .1 .0) (i .1) in
     let d = c .before .before .before .before .before .before .before .before .before .before .before .before .before .before .before .before .before .before .before .before .before .before .before .add in
-    let y = seen-less (at .number) (d .last .1 .0) w (at .next) (omega (arith, wq, room .number)) (c .before .before .before .before .before .before .before .before .before .before .before .before .before .before .before .before .before .before .before .before .before .before .before .before .before .before .before .before .before .before .if1 .left) (d .ensures .1 .0) in
+    let y = seen-less (at .number) (d .last .1 .0) w (at .next) (omega (arith, wq, room .number)) (c .before .before .before .before .before .before .before .before .before .before .before .before .before .before .before .before .before .before .before .before .before .before .before .before .before .before .before .before .before .if1 .left) (d .ensures .1 .0) in
     let x = c .before .before .before .before .before .before .before .before .visit .ensures .0 .fewer in
     ahead-less _ _ _ _ _ (omega (arith, y, x)) z h
 
 visit-loop-again-3 : (t : ℕ) → visit-lts.Need-loop-again-3 (visit-claims t) (visit-at t) visit.Post visit-Inv-loop visit-μ-loop
 visit-loop-again-3 t c =
-    let s = c .before .before .before .before .before .before .before .before .before .before .before .before .before .before .before .before .before .before .before .before .before .before .before .before .before .before .before .before .before .before .before .before .before .before .before .before .before .before .before .before .before .before .before .before .before in
+    let s = c .before .before .before .before .before .before .before .before .before .before .before .before .before .before .before .before .before .before .before .before .before .before .before .before .before .before .before .before .before .before .before .before .before .before .before .before .before .before .before .before .before .before .before .before in
     let a = s .args in
     let fit = s .pre .1 .0 in
     let x = fit .few-atoms in
     let lk = s .pre .1 .1 .1 .0 in
-    let at = c .before .before .before .before .before .before .before .before .before .before .before .before .before .before .before .before .before .before .before .before .before .before .before .before .before .before .before .before .before .before .before .before .before .before .loop in
+    let at = c .before .before .before .before .before .before .before .before .before .before .before .before .before .before .before .before .before .before .before .before .before .before .before .before .before .before .before .before .before .before .before .before .before .loop in
     let i = at .inv in
-    let h = c .before .before .before .before .before .before .before .before .before .before .before .before .before .before .before .before .before .before .before .before .before .before .before .before .before .before .before .before .before .before .before .before .before .loop-test .taken in
-    let f = c .before .before .before .before .before .before .before .before .before .before .before .before .before .before .before .before .before .before .before .before .before .before .before .before .before .before .before .before .before .before .before .before .follow in
+    let h = c .before .before .before .before .before .before .before .before .before .before .before .before .before .before .before .before .before .before .before .before .before .before .before .before .before .before .before .before .before .before .before .before .loop-test .taken in
+    let f = c .before .before .before .before .before .before .before .before .before .before .before .before .before .before .before .before .before .before .before .before .before .before .before .before .before .before .before .before .before .before .before .follow in
     let w : ℕ = f .result .other .0 in
     let q = other-below fit (at .here) (at .b) h in
     let places = s .pre .1 .1 .0 in
@@ -388,7 +388,7 @@ visit-loop-again-3 t c =
     let d = c .before .before .before .before .before .before .before .before .before .before .before .before .before .before .before .before .before .before .before .before .before .before .before .add in
     let kept = kept-set (i .1) (at .next) w (at .parent + 1) (f .result .kind) (d .ensures .0) (d .ensures .1 .0) (d .ensures .1 .1 .0) (d .ensures .1 .1 .1) in
     let v = c .before .before .before .before .before .before .before .before .visit in
-    (left-new fit (f .result .next .0) h r _ _ _ _ _ _ (i .0) w (f .result .kind) (getD (a .head .now) w 0) (f .ensures .0) (c .before .before .before .before .before .before .before .before .before .before .before .before .before .before .before .before .before .before .before .before .before .before .before .before .before .before .before .before .before .before .if1 .left) (f .ensures .1 .0) (lk .heads w wh) (omega arith) _ _ _ _ (d .ensures .0) (d .ensures .1 .0) (d .ensures .1 .1 .0) (d .ensures .1 .1 .1) _ (v .ensures .0), kept-then kept (v .ensures .1))
+    (left-new fit (f .result .next .0) h r _ _ _ _ _ _ (i .0) w (f .result .kind) (getD (a .head .now) w 0) (f .ensures .0) (c .before .before .before .before .before .before .before .before .before .before .before .before .before .before .before .before .before .before .before .before .before .before .before .before .before .before .before .before .before .if1 .left) (f .ensures .1 .0) (lk .heads w wh) (omega arith) _ _ _ _ (d .ensures .0) (d .ensures .1 .0) (d .ensures .1 .1 .0) (d .ensures .1 .1 .1) _ (v .ensures .0), kept-then kept (v .ensures .1))
 
 visit-same-length-5 : (t : ℕ) → visit-lts.Need-same-length-5 (
   follow-reads.Asked,
