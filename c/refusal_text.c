@@ -23,6 +23,8 @@ static const char *const words[] = {
     [BALSA_LONG_WRITING] = "the written text would be over 16,384 bytes",
     [BALSA_INVALID_REGISTER] = "the layout of the register breaks a rule",
     [BALSA_FULL_REGISTER] = "the register has no room for the body",
+    [BALSA_CROWDED_END] = "two marked neighbours of one end lie on the same side",
+    [BALSA_STRAY_MARK] = "a mark touches no double bond",
     [BALSA_LOOSE_ATOM] = "a selected atom has fewer than two bonds",
 };
 

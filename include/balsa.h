@@ -6,7 +6,7 @@
  * are valid for their lengths and aligned, and no slice that is written overlaps another one.
  *
  * Tables: 6 cells for an atom (element, selected, isotope, hydrogens, charge, extension), 3 for a bond
- * (first end, second end, kind). Least lengths: atoms 6000, bonds 3300, row 1100, out 16384, ren 1000.
+ * (first end, second end, kind: 0 elided, 1, 2, 3, 4 for `/`, 5 for `\`). Least lengths: atoms 6000, bonds 3300, row 1100, out 16384, ren 1000.
  * n and m are the numbers of atoms and bonds in the tables.
  *
  * Codes: 0 accepted, 1 to 22 the refusals of docs/RULES.md, 255 "end" (balsa_next, balsa_register_walk). Refusal 1 changes
@@ -24,9 +24,9 @@
 #define BALSA_VERSION "0.1.0"
 
 /* Grows with each change of an answer: 1 the first rules, 2 charged ring atoms (P1), 3 over-full atoms
- * counted (P10), 4 no loose selected atoms (P6), 5 larger limits (P7). What is stored of answers, as in
- * an index of a database, is good for one edition. */
-#define BALSA_EDITION 5
+ * counted (P10), 4 no loose selected atoms (P6), 5 larger limits (P7), 6 up and down bonds (P5). What is
+ * stored of answers, as in an index of a database, is good for one edition. */
+#define BALSA_EDITION 6
 
 #ifdef __cplusplus
 extern "C" {
@@ -53,6 +53,8 @@ enum {
     BALSA_LONG_WRITING = 16,
     BALSA_INVALID_REGISTER = 17,
     BALSA_FULL_REGISTER = 18,
+    BALSA_CROWDED_END = 20,
+    BALSA_STRAY_MARK = 21,
     BALSA_LOOSE_ATOM = 22,
     BALSA_END = 255
 };

@@ -25,7 +25,7 @@ class Atom(NamedTuple):
 
 
 class Bond(NamedTuple):
-    """A bond: its ends, the lower atom number first, and its kind (0 elided, 1, 2, 3)."""
+    """A bond: its ends, the lower atom number first, and its kind (0 elided, 1, 2, 3, 4 for `/`, 5 for `\\`)."""
 
     first: int
     second: int
@@ -133,7 +133,8 @@ class Molecule:
 
     def kekulized(self, matching: Optional[Sequence[int]] = None) -> Molecule:
         """The molecule with the bonds of a matching double and no atom selected: the first one where
-        none is given. Refusal 12 where the row is not a matching.
+        none is given. Refusal 12 where the row is not a matching; 20 where marks place two neighbours of
+        an end of a new double bond on the same side.
 
         >>> from balsa import Molecule
         >>> benzene = Molecule("c1ccccc1")
@@ -152,6 +153,21 @@ class Molecule:
             made = object.__new__(type(self))
             made._keep(lent, len(self._atoms), len(self._bonds), self._overfull)
             return made
+        finally:
+            give(lent)
+
+    def sides(self) -> Tuple[int, ...]:
+        """The row of sides: 1 at each double bond whose two ends have their lowest marked neighbours on
+        the same side, 2 if on opposite sides, else 0.
+
+        >>> from balsa import Molecule
+        >>> Molecule("F/C=C/F").sides()
+        (0, 2, 0)
+        """
+        lent = take()
+        try:
+            _accept(lib.balsa_sides(*self._lend(lent), *lent.row_lent))
+            return tuple(lent.row[: self._counts()[1]])
         finally:
             give(lent)
 

@@ -73,6 +73,7 @@ def _declare(library):
         ("first", code, None),
         ("next", code, None),
         ("kekulize", code, None),
+        ("sides", code, None),
         ("report", LengthReply, [read_only, size, lent, size]),
         ("report_length", size, [read_only, size]),
         ("register_empty", code, [lent, size]),

@@ -5,6 +5,7 @@ use mathlib.Core.List.{List}
 use lib.IntN.{ℤ}
 use Rattle.kekule.specs.Kekule.{CallReply, callReply, KekulizeReply, kekulizeReply}
 use Rattle.kekule.specs.Calls.{Replayed, replayOut}
+use Rattle.conformation.specs.Sides.{SidesReply, sidesReply}
 use Rattle.kekule_forced.specs.Forced.{ForcedCallReply, forcedCallReply}
 use Rattle.reader.specs.declared.ending.ReadAnswer.{ReadAnswer}
 use Rattle.reader.specs.declared.ending.ReadAnswer.the-variants.{Molecule, Refused}
@@ -31,6 +32,9 @@ write-law (writeRefused c) {out = out} {ren} e g = ap (λ (x : WriteReply). writ
 
 pub row-law : {c d : ℕ} {row : List ℕ} {o : CallReply} → c ≡ d → callReply d row ≡ o → callReply c row ≡ o
 row-law {row = row} e g = ap (λ (k : ℕ). callReply k row) e ∙ g
+
+pub sides-law : {c d : ℕ} {row : List ℕ} {o : SidesReply} → c ≡ d → sidesReply d row ≡ o → sidesReply c row ≡ o
+sides-law {row = row} e g = ap (λ (k : ℕ). sidesReply k row) e ∙ g
 
 pub tables-law : {c d : ℕ} {atoms bonds : List ℤ} {t : KekulizeReply} → c ≡ d → kekulizeReply d atoms bonds ≡ t → kekulizeReply c atoms bonds ≡ t
 tables-law {atoms = atoms} {bonds} e g = ap (λ (k : ℕ). kekulizeReply k atoms bonds) e ∙ g

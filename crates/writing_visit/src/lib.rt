@@ -226,7 +226,16 @@ fn visit(
         if n <= next {
             return next;
         }
-        add(order, number, up, kind, AtomId(a), parent + 1, seen.kind, next);
+        add(
+            order,
+            number,
+            up,
+            kind,
+            AtomId(a),
+            parent + 1,
+            seen.kind,
+            next,
+        );
         let start = head[a] as usize;
         if m <= b {
             here = a;

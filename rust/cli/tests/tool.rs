@@ -115,6 +115,8 @@ fn refused_texts() -> Vec<String> {
         "c1cccc1".into(),
         fan(101),
         spine(65),
+        "C/C(/C)=C".into(),
+        "C/C".into(),
         "cc".into(),
     ]
 }
@@ -190,6 +192,12 @@ fn answers_in_lines() {
         &["matchings", "c1ccccc1", "C", ""],
         0,
         &format!("{benzene}2: - C\n3: - -\n"),
+        "",
+    );
+    assert_run(
+        &["sides", "F/C=C/F", r"F/C=C\F", "C"],
+        0,
+        "1: 020\n2: 010\n3: -\n",
         "",
     );
     assert_run(
@@ -342,7 +350,7 @@ fn the_output_cannot_be_written() {
 
 #[test]
 fn a_broken_pipe_is_quiet() {
-    for command in ["check", "kekulize", "matchings", "report"] {
+    for command in ["check", "kekulize", "matchings", "sides", "report"] {
         let mut child = Command::new(TOOL)
             .args([command, "-f", &format!("{ROOT}/corpus/real.smi")])
             .stdout(Stdio::piped())

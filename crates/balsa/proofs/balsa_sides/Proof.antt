@@ -1,5 +1,4 @@
-use mathlib.Core.Path.{ap, _∙_}
-use Rattle.conformation.specs.Sides.{sidesReply}
+use Rattle.balsa.proofs.Laws.{sides-law}
 use borrow.Author.Needs.{needs}
 use Rattle.balsa.proofs.balsa_sides.Statement.{statement}
 use Rattle.balsa.proofs.balsa_sides.Tie as tie
@@ -14,7 +13,7 @@ same-length : tie.Need-same-length
 same-length c = search needs
 
 returns : tie.Need-returns
-returns c = ap (λ k. sidesReply k _) (c .check-code .ensures) ∙ c .before .before .sides .ensures
+returns c = sides-law (c .check-code .ensures) (c .before .before .before .sides .ensures)
 
 pub balsa-sides-spec : {M : Type 1} → statement M
 balsa-sides-spec = tie.close (tie.spec sides-requires check-code-requires same-length returns)

@@ -5,14 +5,16 @@ mod kekulize;
 mod matchings;
 mod register;
 mod report;
+mod sides;
 
 use crate::arguments::{Arguments, Opt, HELP};
 use crate::failure::{Failure, Verdict};
 
-pub static COMMANDS: [&Command; 5] = [
+pub static COMMANDS: [&Command; 6] = [
     &check::COMMAND,
     &kekulize::COMMAND,
     &matchings::COMMAND,
+    &sides::COMMAND,
     &report::COMMAND,
     &register::COMMAND,
 ];
