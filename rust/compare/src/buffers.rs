@@ -82,6 +82,16 @@ impl Buffers {
         buffers
     }
 
+    /// Buffers of random content that hold a molecule, which is sometimes damaged.
+    pub fn holding(random: &mut Random, molecule: &Molecule) -> Self {
+        let mut buffers = Buffers::dirty(random);
+        buffers.store(molecule);
+        if random.percent(3) {
+            buffers.damage(random);
+        }
+        buffers
+    }
+
     /// Stores a molecule; the cells after the used rows stay as they are.
     fn store(&mut self, molecule: &Molecule) {
         self.counts = tables::counts(molecule);

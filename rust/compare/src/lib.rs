@@ -5,6 +5,7 @@
 //! program `compare`.
 
 pub mod buffers;
+pub mod drawings;
 pub mod implementation;
 pub mod laws;
 pub mod limits;

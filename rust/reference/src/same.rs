@@ -37,15 +37,13 @@ pub fn same(one: &Molecule, other: &Molecule) -> Result<Option<Sameness>, Code> 
 
 /// As [`same`], by trying all rows of both molecules and all renumberings, in their order.
 pub fn same_by_trying(one: &Molecule, other: &Molecule) -> Option<Sameness> {
-    let atoms = one.atoms.len();
-    if atoms != other.atoms.len() {
-        return None;
-    }
-    let renumberings = renumberings(atoms);
+    let renumberings = renumberings(one.atoms.len());
     let rows2 = matchings(other);
     for row1 in matchings(one) {
+        let first = Kekulized::new(one, &row1);
         for row2 in &rows2 {
-            let fits = |renumbering: &&Vec<u16>| carries(one, &row1, other, row2, renumbering);
+            let second = Kekulized::new(other, row2);
+            let fits = |renumbering: &&Vec<u16>| first.goes_to(&second, renumbering);
             if let Some(renumbering) = renumberings.iter().find(fits) {
                 return Some(Sameness {
                     row1,
@@ -75,29 +73,40 @@ pub fn shows(one: &Molecule, other: &Molecule, sameness: &Sameness) -> bool {
     } = sameness;
     is_matching(one, row1)
         && is_matching(other, row2)
-        && is_renumbering(renumbering, other.atoms.len())
-        && one.atoms.len() == other.atoms.len()
-        && carries(one, row1, other, row2, renumbering)
+        && is_renumbering(renumbering, one.atoms.len())
+        && Kekulized::new(one, row1).goes_to(&Kekulized::new(other, row2), renumbering)
 }
 
-/// Whether the first molecule, kekulized by its row and renumbered, is the second, kekulized by its
-/// row.
-fn carries(
-    one: &Molecule,
-    row1: &[u8],
-    other: &Molecule,
-    row2: &[u8],
-    renumbering: &[u16],
-) -> bool {
-    let image = |atom: usize| usize::from(renumbering[atom]);
-    let mut atoms = one.atoms.iter().enumerate();
-    let same_cells = atoms.all(|(number, atom)| cells(atom) == cells(&other.atoms[image(number)]));
-    same_cells && {
-        let orders1 = orders(one, row1);
-        let orders2 = orders(other, row2);
-        let all = 0..one.atoms.len();
-        let same_order = |a: usize, b: usize| orders1[a][b] == orders2[image(a)][image(b)];
-        all.clone().all(|a| all.clone().all(|b| same_order(a, b)))
+/// What is compared of a molecule kekulized by a row.
+struct Kekulized {
+    atoms: Vec<Cells>,
+    /// The order between any two atoms, 0 where there is no bond.
+    orders: Vec<Vec<u32>>,
+}
+
+impl Kekulized {
+    fn new(molecule: &Molecule, row: &[u8]) -> Self {
+        let atoms = molecule.atoms.len();
+        let mut orders = vec![vec![0; atoms]; atoms];
+        for (bond, &cell) in molecule.bonds.iter().zip(row) {
+            let order = if cell == 1 { 2 } else { bond.kind.order() };
+            orders[bond.first][bond.second] = order;
+            orders[bond.second][bond.first] = order;
+        }
+        Kekulized {
+            atoms: molecule.atoms.iter().map(cells).collect(),
+            orders,
+        }
+    }
+
+    /// Whether this molecule under a renumbering is another one.
+    fn goes_to(&self, other: &Kekulized, renumbering: &[u16]) -> bool {
+        let image = |atom: usize| usize::from(renumbering[atom]);
+        let all = 0..self.atoms.len();
+        let same_order = |a: usize, b: usize| self.orders[a][b] == other.orders[image(a)][image(b)];
+        self.atoms.len() == other.atoms.len()
+            && all.clone().all(|a| self.atoms[a] == other.atoms[image(a)])
+            && all.clone().all(|a| all.clone().all(|b| same_order(a, b)))
     }
 }
 
@@ -115,18 +124,6 @@ pub(crate) fn cells(atom: &Atom) -> Cells {
         extension,
     } = *atom;
     (element, isotope, hydrogens, charge, extension)
-}
-
-/// The order between any two atoms of a molecule kekulized by a row, 0 where there is no bond.
-fn orders(molecule: &Molecule, row: &[u8]) -> Vec<Vec<u32>> {
-    let atoms = molecule.atoms.len();
-    let mut orders = vec![vec![0; atoms]; atoms];
-    for (bond, &cell) in molecule.bonds.iter().zip(row) {
-        let order = if cell == 1 { 2 } else { bond.kind.order() };
-        orders[bond.first][bond.second] = order;
-        orders[bond.second][bond.first] = order;
-    }
-    orders
 }
 
 fn is_renumbering(renumbering: &[u16], atoms: usize) -> bool {
