@@ -99,21 +99,35 @@ pub fn renumbered(random: &mut Random, molecule: &Molecule) -> Molecule {
 
 /// The molecule as it is, or with some or all double bonds placed by one of its matchings.
 pub fn redrawn(random: &mut Random, molecule: &Molecule) -> Molecule {
+    let chance = *random.pick(&[0, 0, 50, 100, 100]);
+    drawn(random, molecule, chance)
+}
+
+/// The molecule with all double bonds placed by one of its matchings, renumbered.
+pub fn other_drawing(random: &mut Random, molecule: &Molecule) -> Molecule {
+    let drawn = drawn(random, molecule, 100);
+    renumbered(random, &drawn)
+}
+
+/// The molecule with its double bonds placed in so many of a hundred parts, and some single bonds
+/// written. Where it has no matching, or marks stand against it, it is as it was.
+fn drawn(random: &mut Random, molecule: &Molecule, chance: usize) -> Molecule {
     let Some(row) = matching(random, molecule) else {
         return molecule.clone();
     };
     let mut drawn = molecule.clone();
-    let chance = *random.pick(&[0, 0, 50, 100, 100]);
     let parts = parts(molecule);
     let is_drawn: Vec<bool> = parts.iter().map(|_| random.percent(chance)).collect();
     for (atom, &part) in drawn.atoms.iter_mut().zip(&parts) {
         atom.selected = atom.selected && !is_drawn[part];
     }
     for (bond, &cell) in drawn.bonds.iter_mut().zip(&row) {
-        if cell == 1 && is_drawn[parts[bond.first]] {
-            bond.kind = Kind::Double;
-        } else if bond.kind == Kind::Elided && is_drawn[parts[bond.first]] && random.percent(30) {
-            bond.kind = Kind::Single;
+        if is_drawn[parts[bond.first]] && bond.kind == Kind::Elided {
+            bond.kind = match cell {
+                1 => Kind::Double,
+                _ if random.percent(30) => Kind::Single,
+                _ => Kind::Elided,
+            };
         }
     }
     match drawn.late_refusal() {

@@ -5,6 +5,7 @@
 //! program `compare`.
 
 pub mod buffers;
+pub mod corpus;
 pub mod drawings;
 pub mod implementation;
 pub mod laws;
