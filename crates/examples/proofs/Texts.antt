@@ -1,4 +1,4 @@
--- The texts that 01 marks with †, and those of 02's P1, as one table under one theorem, by computation. Assumes nothing.
+-- The texts that 01 marks with †, and those of 02's P1 and P5, as one table under one theorem, by computation. Assumes nothing.
 use mathlib.Core.Path.{_≡_, refl}
 use mathlib.Core.Bool.{Bool, true, false, _&&_, _||_, not}
 use mathlib.Core.List.{List, [], _∷_, map}
@@ -50,6 +50,23 @@ texts =
     (99 ∷ 49 ∷ 99 ∷ 99 ∷ 91 ∷ 110 ∷ 43 ∷ 93 ∷ 40 ∷ 91 ∷ 79 ∷ 45 ∷ 93 ∷ 41 ∷ 99 ∷ 99 ∷ 49 ∷ []) ∷  -- c1cc[n+]([O-])cc1
     (91 ∷ 99 ∷ 72 ∷ 45 ∷ 93 ∷ 49 ∷ 99 ∷ 99 ∷ 99 ∷ 99 ∷ 49 ∷ []) ∷  -- [cH-]1cccc1
     (91 ∷ 99 ∷ 45 ∷ 53 ∷ 93 ∷ 49 ∷ 99 ∷ 99 ∷ 99 ∷ 99 ∷ 49 ∷ []) ∷  -- [c-5]1cccc1
+    (70 ∷ 47 ∷ 67 ∷ 61 ∷ 67 ∷ 47 ∷ 70 ∷ []) ∷  -- F/C=C/F
+    (70 ∷ 47 ∷ 67 ∷ 61 ∷ 67 ∷ 92 ∷ 70 ∷ []) ∷  -- F/C=C\F
+    (67 ∷ 47 ∷ 67 ∷ []) ∷  -- C/C
+    (70 ∷ 47 ∷ 99 ∷ 49 ∷ 99 ∷ 99 ∷ 99 ∷ 99 ∷ 99 ∷ 49 ∷ []) ∷  -- F/c1ccccc1
+    (79 ∷ 61 ∷ 67 ∷ 40 ∷ 47 ∷ 67 ∷ 61 ∷ 67 ∷ 47 ∷ 70 ∷ 41 ∷ 47 ∷ 67 ∷ 61 ∷ 67 ∷ 47 ∷ 70 ∷ []) ∷  -- O=C(/C=C/F)/C=C/F
+    (70 ∷ 47 ∷ 83 ∷ 40 ∷ 61 ∷ 79 ∷ 41 ∷ 40 ∷ 61 ∷ 79 ∷ 41 ∷ 47 ∷ 70 ∷ []) ∷  -- F/S(=O)(=O)/F
+    (70 ∷ 47 ∷ 83 ∷ 40 ∷ 61 ∷ 79 ∷ 41 ∷ 40 ∷ 61 ∷ 79 ∷ 41 ∷ 92 ∷ 70 ∷ []) ∷  -- F/S(=O)(=O)\F
+    (70 ∷ 47 ∷ 49 ∷ 46 ∷ 67 ∷ 49 ∷ 61 ∷ 67 ∷ []) ∷  -- F/1.C1=C
+    (70 ∷ 49 ∷ 46 ∷ 67 ∷ 92 ∷ 49 ∷ 61 ∷ 67 ∷ []) ∷  -- F1.C\1=C
+    (70 ∷ 47 ∷ 49 ∷ 46 ∷ 67 ∷ 92 ∷ 49 ∷ 61 ∷ 67 ∷ []) ∷  -- F/1.C\1=C
+    (67 ∷ 40 ∷ 61 ∷ 67 ∷ 67 ∷ 47 ∷ 49 ∷ 41 ∷ 49 ∷ []) ∷  -- C(=CC/1)1
+    (67 ∷ 40 ∷ 61 ∷ 67 ∷ 67 ∷ 49 ∷ 41 ∷ 47 ∷ 49 ∷ []) ∷  -- C(=CC1)/1
+    (70 ∷ 47 ∷ 49 ∷ 46 ∷ 67 ∷ 47 ∷ 49 ∷ 61 ∷ 67 ∷ []) ∷  -- F/1.C/1=C
+    (70 ∷ 47 ∷ 49 ∷ 46 ∷ 67 ∷ 45 ∷ 49 ∷ 61 ∷ 67 ∷ []) ∷  -- F/1.C-1=C
+    (70 ∷ 47 ∷ 46 ∷ 67 ∷ []) ∷  -- F/.C
+    (70 ∷ 47 ∷ 67 ∷ 40 ∷ 92 ∷ 70 ∷ 41 ∷ 61 ∷ 67 ∷ 49 ∷ []) ∷  -- F/C(\F)=C1
+    (67 ∷ 61 ∷ 67 ∷ 47 ∷ 99 ∷ 40 ∷ 92 ∷ 67 ∷ 61 ∷ 67 ∷ 41 ∷ 99 ∷ 67 ∷ []) ∷  -- C=C/c(\C=C)cC
     []
 
 pub expected : List Said
@@ -70,6 +87,23 @@ expected =
     accepted 6 (pos 6 ∷ pos 1 ∷ pos 0 ∷ pos 1 ∷ pos 0 ∷ pos 0 ∷ pos 6 ∷ pos 1 ∷ pos 0 ∷ pos 1 ∷ pos 0 ∷ pos 0 ∷ pos 6 ∷ pos 1 ∷ pos 0 ∷ pos 1 ∷ pos 0 ∷ pos 0 ∷ pos 7 ∷ pos 1 ∷ pos 0 ∷ pos 0 ∷ pos 1 ∷ pos 0 ∷ pos 8 ∷ pos 0 ∷ pos 0 ∷ pos 0 ∷ negsuc 0 ∷ pos 0 ∷ pos 6 ∷ pos 1 ∷ pos 0 ∷ pos 1 ∷ pos 0 ∷ pos 0 ∷ pos 6 ∷ pos 1 ∷ pos 0 ∷ pos 1 ∷ pos 0 ∷ pos 0 ∷ []) (pos 0 ∷ pos 1 ∷ pos 0 ∷ pos 1 ∷ pos 2 ∷ pos 0 ∷ pos 2 ∷ pos 3 ∷ pos 0 ∷ pos 3 ∷ pos 4 ∷ pos 0 ∷ pos 3 ∷ pos 5 ∷ pos 0 ∷ pos 5 ∷ pos 6 ∷ pos 0 ∷ pos 0 ∷ pos 6 ∷ pos 0 ∷ []) ((1 ∷ 0 ∷ 1 ∷ 0 ∷ 0 ∷ 1 ∷ 0 ∷ []) ∷ (0 ∷ 1 ∷ 0 ∷ 0 ∷ 1 ∷ 0 ∷ 1 ∷ []) ∷ []) (99 ∷ 49 ∷ 99 ∷ 99 ∷ 91 ∷ 110 ∷ 43 ∷ 93 ∷ 40 ∷ 91 ∷ 79 ∷ 45 ∷ 93 ∷ 41 ∷ 99 ∷ 99 ∷ 49 ∷ []) ∷  -- c1cc[n+]([O-])cc1
     accepted 4 (pos 6 ∷ pos 1 ∷ pos 0 ∷ pos 1 ∷ negsuc 0 ∷ pos 0 ∷ pos 6 ∷ pos 1 ∷ pos 0 ∷ pos 1 ∷ pos 0 ∷ pos 0 ∷ pos 6 ∷ pos 1 ∷ pos 0 ∷ pos 1 ∷ pos 0 ∷ pos 0 ∷ pos 6 ∷ pos 1 ∷ pos 0 ∷ pos 1 ∷ pos 0 ∷ pos 0 ∷ pos 6 ∷ pos 1 ∷ pos 0 ∷ pos 1 ∷ pos 0 ∷ pos 0 ∷ []) (pos 0 ∷ pos 1 ∷ pos 0 ∷ pos 1 ∷ pos 2 ∷ pos 0 ∷ pos 2 ∷ pos 3 ∷ pos 0 ∷ pos 3 ∷ pos 4 ∷ pos 0 ∷ pos 0 ∷ pos 4 ∷ pos 0 ∷ []) ((0 ∷ 1 ∷ 0 ∷ 1 ∷ 0 ∷ []) ∷ []) (91 ∷ 99 ∷ 72 ∷ 45 ∷ 93 ∷ 49 ∷ 99 ∷ 99 ∷ 99 ∷ 99 ∷ 49 ∷ []) ∷  -- [cH-]1cccc1
     accepted 4 (pos 6 ∷ pos 1 ∷ pos 0 ∷ pos 0 ∷ negsuc 4 ∷ pos 0 ∷ pos 6 ∷ pos 1 ∷ pos 0 ∷ pos 1 ∷ pos 0 ∷ pos 0 ∷ pos 6 ∷ pos 1 ∷ pos 0 ∷ pos 1 ∷ pos 0 ∷ pos 0 ∷ pos 6 ∷ pos 1 ∷ pos 0 ∷ pos 1 ∷ pos 0 ∷ pos 0 ∷ pos 6 ∷ pos 1 ∷ pos 0 ∷ pos 1 ∷ pos 0 ∷ pos 0 ∷ []) (pos 0 ∷ pos 1 ∷ pos 0 ∷ pos 1 ∷ pos 2 ∷ pos 0 ∷ pos 2 ∷ pos 3 ∷ pos 0 ∷ pos 3 ∷ pos 4 ∷ pos 0 ∷ pos 0 ∷ pos 4 ∷ pos 0 ∷ []) ((0 ∷ 1 ∷ 0 ∷ 1 ∷ 0 ∷ []) ∷ []) (91 ∷ 99 ∷ 45 ∷ 53 ∷ 93 ∷ 49 ∷ 99 ∷ 99 ∷ 99 ∷ 99 ∷ 49 ∷ []) ∷  -- [c-5]1cccc1
+    accepted 0 (pos 9 ∷ pos 0 ∷ pos 0 ∷ pos 0 ∷ pos 0 ∷ pos 0 ∷ pos 6 ∷ pos 0 ∷ pos 0 ∷ pos 1 ∷ pos 0 ∷ pos 0 ∷ pos 6 ∷ pos 0 ∷ pos 0 ∷ pos 1 ∷ pos 0 ∷ pos 0 ∷ pos 9 ∷ pos 0 ∷ pos 0 ∷ pos 0 ∷ pos 0 ∷ pos 0 ∷ []) (pos 0 ∷ pos 1 ∷ pos 4 ∷ pos 1 ∷ pos 2 ∷ pos 2 ∷ pos 2 ∷ pos 3 ∷ pos 4 ∷ []) ((0 ∷ 0 ∷ 0 ∷ []) ∷ []) (70 ∷ 47 ∷ 67 ∷ 61 ∷ 67 ∷ 47 ∷ 70 ∷ []) ∷  -- F/C=C/F
+    accepted 0 (pos 9 ∷ pos 0 ∷ pos 0 ∷ pos 0 ∷ pos 0 ∷ pos 0 ∷ pos 6 ∷ pos 0 ∷ pos 0 ∷ pos 1 ∷ pos 0 ∷ pos 0 ∷ pos 6 ∷ pos 0 ∷ pos 0 ∷ pos 1 ∷ pos 0 ∷ pos 0 ∷ pos 9 ∷ pos 0 ∷ pos 0 ∷ pos 0 ∷ pos 0 ∷ pos 0 ∷ []) (pos 0 ∷ pos 1 ∷ pos 4 ∷ pos 1 ∷ pos 2 ∷ pos 2 ∷ pos 2 ∷ pos 3 ∷ pos 5 ∷ []) ((0 ∷ 0 ∷ 0 ∷ []) ∷ []) (70 ∷ 47 ∷ 67 ∷ 61 ∷ 67 ∷ 92 ∷ 70 ∷ []) ∷  -- F/C=C\F
+    refused 21 0 0 ∷  -- C/C
+    refused 21 0 6 ∷  -- F/c1ccccc1
+    refused 20 0 0 ∷  -- O=C(/C=C/F)/C=C/F
+    accepted 0 (pos 9 ∷ pos 0 ∷ pos 0 ∷ pos 0 ∷ pos 0 ∷ pos 0 ∷ pos 16 ∷ pos 0 ∷ pos 0 ∷ pos 0 ∷ pos 0 ∷ pos 0 ∷ pos 8 ∷ pos 0 ∷ pos 0 ∷ pos 0 ∷ pos 0 ∷ pos 0 ∷ pos 8 ∷ pos 0 ∷ pos 0 ∷ pos 0 ∷ pos 0 ∷ pos 0 ∷ pos 9 ∷ pos 0 ∷ pos 0 ∷ pos 0 ∷ pos 0 ∷ pos 0 ∷ []) (pos 0 ∷ pos 1 ∷ pos 4 ∷ pos 1 ∷ pos 2 ∷ pos 2 ∷ pos 1 ∷ pos 3 ∷ pos 2 ∷ pos 1 ∷ pos 4 ∷ pos 4 ∷ []) ((0 ∷ 0 ∷ 0 ∷ 0 ∷ []) ∷ []) (70 ∷ 47 ∷ 83 ∷ 40 ∷ 61 ∷ 79 ∷ 41 ∷ 40 ∷ 61 ∷ 79 ∷ 41 ∷ 47 ∷ 70 ∷ []) ∷  -- F/S(=O)(=O)/F
+    refused 20 0 0 ∷  -- F/S(=O)(=O)\F
+    accepted 0 (pos 9 ∷ pos 0 ∷ pos 0 ∷ pos 0 ∷ pos 0 ∷ pos 0 ∷ pos 6 ∷ pos 0 ∷ pos 0 ∷ pos 1 ∷ pos 0 ∷ pos 0 ∷ pos 6 ∷ pos 0 ∷ pos 0 ∷ pos 2 ∷ pos 0 ∷ pos 0 ∷ []) (pos 0 ∷ pos 1 ∷ pos 4 ∷ pos 1 ∷ pos 2 ∷ pos 2 ∷ []) ((0 ∷ 0 ∷ []) ∷ []) (70 ∷ 47 ∷ 67 ∷ 61 ∷ 67 ∷ []) ∷  -- F/1.C1=C
+    accepted 0 (pos 9 ∷ pos 0 ∷ pos 0 ∷ pos 0 ∷ pos 0 ∷ pos 0 ∷ pos 6 ∷ pos 0 ∷ pos 0 ∷ pos 1 ∷ pos 0 ∷ pos 0 ∷ pos 6 ∷ pos 0 ∷ pos 0 ∷ pos 2 ∷ pos 0 ∷ pos 0 ∷ []) (pos 0 ∷ pos 1 ∷ pos 4 ∷ pos 1 ∷ pos 2 ∷ pos 2 ∷ []) ((0 ∷ 0 ∷ []) ∷ []) (70 ∷ 47 ∷ 67 ∷ 61 ∷ 67 ∷ []) ∷  -- F1.C\1=C
+    accepted 0 (pos 9 ∷ pos 0 ∷ pos 0 ∷ pos 0 ∷ pos 0 ∷ pos 0 ∷ pos 6 ∷ pos 0 ∷ pos 0 ∷ pos 1 ∷ pos 0 ∷ pos 0 ∷ pos 6 ∷ pos 0 ∷ pos 0 ∷ pos 2 ∷ pos 0 ∷ pos 0 ∷ []) (pos 0 ∷ pos 1 ∷ pos 4 ∷ pos 1 ∷ pos 2 ∷ pos 2 ∷ []) ((0 ∷ 0 ∷ []) ∷ []) (70 ∷ 47 ∷ 67 ∷ 61 ∷ 67 ∷ []) ∷  -- F/1.C\1=C
+    accepted 0 (pos 6 ∷ pos 0 ∷ pos 0 ∷ pos 1 ∷ pos 0 ∷ pos 0 ∷ pos 6 ∷ pos 0 ∷ pos 0 ∷ pos 1 ∷ pos 0 ∷ pos 0 ∷ pos 6 ∷ pos 0 ∷ pos 0 ∷ pos 2 ∷ pos 0 ∷ pos 0 ∷ []) (pos 0 ∷ pos 1 ∷ pos 2 ∷ pos 1 ∷ pos 2 ∷ pos 0 ∷ pos 0 ∷ pos 2 ∷ pos 5 ∷ []) ((0 ∷ 0 ∷ 0 ∷ []) ∷ []) (67 ∷ 92 ∷ 49 ∷ 61 ∷ 67 ∷ 67 ∷ 49 ∷ []) ∷  -- C(=CC/1)1
+    accepted 0 (pos 6 ∷ pos 0 ∷ pos 0 ∷ pos 1 ∷ pos 0 ∷ pos 0 ∷ pos 6 ∷ pos 0 ∷ pos 0 ∷ pos 1 ∷ pos 0 ∷ pos 0 ∷ pos 6 ∷ pos 0 ∷ pos 0 ∷ pos 2 ∷ pos 0 ∷ pos 0 ∷ []) (pos 0 ∷ pos 1 ∷ pos 2 ∷ pos 1 ∷ pos 2 ∷ pos 0 ∷ pos 0 ∷ pos 2 ∷ pos 4 ∷ []) ((0 ∷ 0 ∷ 0 ∷ []) ∷ []) (67 ∷ 47 ∷ 49 ∷ 61 ∷ 67 ∷ 67 ∷ 49 ∷ []) ∷  -- C(=CC1)/1
+    refused 9 6 0 ∷  -- F/1.C/1=C
+    refused 9 6 0 ∷  -- F/1.C-1=C
+    refused 3 2 0 ∷  -- F/.C
+    refused 10 9 0 ∷  -- F/C(\F)=C1
+    accepted 2 (pos 6 ∷ pos 0 ∷ pos 0 ∷ pos 2 ∷ pos 0 ∷ pos 0 ∷ pos 6 ∷ pos 0 ∷ pos 0 ∷ pos 1 ∷ pos 0 ∷ pos 0 ∷ pos 6 ∷ pos 1 ∷ pos 0 ∷ pos 0 ∷ pos 0 ∷ pos 0 ∷ pos 6 ∷ pos 0 ∷ pos 0 ∷ pos 1 ∷ pos 0 ∷ pos 0 ∷ pos 6 ∷ pos 0 ∷ pos 0 ∷ pos 2 ∷ pos 0 ∷ pos 0 ∷ pos 6 ∷ pos 1 ∷ pos 0 ∷ pos 1 ∷ pos 0 ∷ pos 0 ∷ pos 6 ∷ pos 0 ∷ pos 0 ∷ pos 3 ∷ pos 0 ∷ pos 0 ∷ []) (pos 0 ∷ pos 1 ∷ pos 2 ∷ pos 1 ∷ pos 2 ∷ pos 4 ∷ pos 2 ∷ pos 3 ∷ pos 5 ∷ pos 3 ∷ pos 4 ∷ pos 2 ∷ pos 2 ∷ pos 5 ∷ pos 0 ∷ pos 5 ∷ pos 6 ∷ pos 0 ∷ []) ((0 ∷ 0 ∷ 0 ∷ 0 ∷ 1 ∷ 0 ∷ []) ∷ []) (67 ∷ 61 ∷ 67 ∷ 47 ∷ 99 ∷ 40 ∷ 92 ∷ 67 ∷ 61 ∷ 67 ∷ 41 ∷ 99 ∷ 67 ∷ []) ∷  -- C=C/c(\C=C)cC
     []
 
 pub marked-texts : map said texts ≡ expected

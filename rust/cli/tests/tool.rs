@@ -115,7 +115,7 @@ fn refused_texts() -> Vec<String> {
         "c1cccc1".into(),
         fan(101),
         spine(65),
-        "C/C(/C)=C".into(),
+        r"F/C(\F)=C".into(),
         "C/C".into(),
         "cc".into(),
     ]

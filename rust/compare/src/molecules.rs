@@ -252,7 +252,38 @@ pub fn molecule(random: &mut Random, effort: Effort) -> Molecule {
     }
     charge_selected(random, &mut molecule);
     mark(random, &mut molecule);
+    if random.percent(5) {
+        add_marked_pair(random, &mut molecule);
+    }
     molecule
+}
+
+/// Adds `C=C/c(\C=C)cC` with any two marks: a pair of selected atoms, one of which has two marked
+/// neighbours and becomes an end of a double bond only when it is kekulized.
+fn add_marked_pair(random: &mut Random, molecule: &mut Molecule) {
+    let base = molecule.atoms.len();
+    if base + 7 > MAX_ATOMS || molecule.bonds.len() + 6 > MAX_BONDS {
+        return;
+    }
+    for (selected, hydrogens) in [(0, 2), (0, 1), (1, 0), (0, 1), (0, 2), (1, 0), (0, 3)] {
+        molecule.atoms.push(Atom {
+            element: 6,
+            selected: selected == 1,
+            hydrogens,
+            ..Atom::default()
+        });
+    }
+    let mut mark = || *random.pick(&[Kind::Up, Kind::Down]);
+    let ends = [
+        (0, 1, Kind::Double),
+        (1, 2, mark()),
+        (2, 3, mark()),
+        (3, 4, Kind::Double),
+        (2, 5, Kind::Elided),
+        (5, 6, Kind::Elided),
+    ];
+    let bonds = ends.map(|(one, other, kind)| Bond::between(base + one, base + other, kind));
+    molecule.bonds.extend(bonds);
 }
 
 /// Marks bonds beside double bonds, mostly so that the two of one end lie on opposite sides, and in
