@@ -1,0 +1,7 @@
+pub mod Product
+pub mod Parts
+pub mod Graph
+pub mod Bonds
+pub mod Late
+pub mod Tables
+pub mod Claims
