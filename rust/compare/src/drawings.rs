@@ -23,7 +23,7 @@ pub fn pair(random: &mut Random, effort: Effort) -> [Molecule; 2] {
     [redrawn(random, &molecule), other]
 }
 
-/// A molecule of few atoms, or of as many as are compared, rarely of more.
+/// A molecule of few atoms, or of as many as are compared, rarely of one more.
 fn compared(random: &mut Random, effort: Effort) -> Molecule {
     if random.percent(50) {
         return small(random);
@@ -33,9 +33,21 @@ fn compared(random: &mut Random, effort: Effort) -> Molecule {
         let mut molecule = molecules::molecule(random, effort);
         if molecule.atoms.len() <= most {
             if random.percent(3) {
-                molecule.atoms.resize(most, Atom::default());
+                add_chain(&mut molecule, most);
             }
             return molecule;
+        }
+    }
+}
+
+/// Adds a chain behind the last atom, up to so many atoms.
+fn add_chain(molecule: &mut Molecule, most: usize) {
+    for atom in molecule.atoms.len()..most {
+        molecule.atoms.push(Atom::default());
+        if atom > 0 {
+            molecule
+                .bonds
+                .push(Bond::between(atom - 1, atom, Kind::Single));
         }
     }
 }
