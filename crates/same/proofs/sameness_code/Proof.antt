@@ -1,4 +1,3 @@
--- `same::sameness_code` meets its contract. Assumes nothing.
 use mathlib.Core.Path.{sym, ap, _∙_}
 use Rattle.same.specs.Answer.{samenessCode}
 use borrow.Author.Needs.{needs}
@@ -35,13 +34,4 @@ returns-4 c = c .code .ensures ∙ ap samenessCode (sym (c .before .before .a .g
 pub sameness-code-spec : {M : Type 1} → statement M
 sameness-code-spec =
     tie.close
-    (tie.spec
-    enum-told
-    enum-told-2
-    enum-told-3
-    enum-known-a
-    code-requires
-    returns
-    returns-2
-    returns-3
-    returns-4)
+    (tie.spec enum-told enum-told-2 enum-told-3 enum-known-a code-requires returns returns-2 returns-3 returns-4)
