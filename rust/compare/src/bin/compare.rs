@@ -63,13 +63,6 @@ fn run(seed: u64, case: u64, effort: Effort) -> bool {
         if let Err(message) = laws::check(implementation, &buffers) {
             tell("tables", implementation.name(), message);
         }
-        if let Err(message) = laws::check_same(implementation, &pair) {
-            tell(
-                "pair",
-                implementation.name(),
-                format!("{message}\n{pair:?}"),
-            );
-        }
     }
     for other in OTHERS {
         if let Err(difference) = compare_text(&Reference, other, &text, &dirty) {
@@ -82,6 +75,9 @@ fn run(seed: u64, case: u64, effort: Effort) -> bool {
                 other.name(),
                 format!("{difference:?}\n{buffers:?}"),
             );
+        }
+        if let Err(message) = laws::check_same(other, &pair) {
+            tell("pair", other.name(), format!("{message}\n{pair:?}"));
         }
         if let Err(difference) = compare_same(&Reference, other, &pair) {
             tell("pair", other.name(), format!("{difference:?}\n{pair:?}"));
