@@ -42,7 +42,7 @@ passing-both p q (r ∷ l) = go (q r) (passing-both p q l)
     go false e = e
 
 -- tests that agree on what stands in the list
-passing-agree : {P : Row → Type 0} (p q : Row → Bool) {l : List Row} → ((t : Row) → P t → p t ≡ q t) → All P l → passing p l ≡ passing q l
+pub passing-agree : {P : Row → Type 0} (p q : Row → Bool) {l : List Row} → ((t : Row) → P t → p t ≡ q t) → All P l → passing p l ≡ passing q l
 unfolding passing
 passing-agree p q h none = refl
 passing-agree p q h (more {b = t} {l = l} w a) = ap (λ (z : Bool). consIf z t (passing p l)) (h t w) ∙ ap (consIf (q t) t) (passing-agree p q h a)

@@ -83,6 +83,11 @@ module _ (n : ℕ) (few : n ≤ maxSame) (G : ℕ → ℕ → ℕ) where
   abbrev fillRow : ℕ → List ℕ → List ℕ
   fillRow a s = rowFilled n (G a) a s
 
+  rows-length : (k j : ℕ) (p : List ℕ) → length (run fillRow k j p) ≡ length p
+  unfolding run rowFilled
+  rows-length k zero p = refl
+  rows-length k (suc j) p = rows-length (suc k) j (fillRow k p) ∙ row-length (G k) k 0 n p
+
   rows-out : (k j c d : ℕ) (p : List ℕ) → d < maxSame → c < k → entry (run fillRow k j p) c d ≡ entry p c d
   unfolding run rowFilled
   rows-out k zero c d p l u = refl
@@ -130,6 +135,12 @@ module _ (x : Molecule) (keys : List ℕ) where
   pairs-at true few a b la lb =
       rows-in (x .n) few (λ a. pairCell (toldApart (end1 (x .bonds)) (end2 (x .bonds)) (x .m) (x .n) keys a)) 0 (x .n) a b (replicate (maxSame * maxSame) 0) (length-replicate {A = ℕ} (maxSame * maxSame) 0) (omega arith) (omega arith) (omega arith) lb
   pairs-at false few a b la lb = let l = zeros-low (maxSame * maxSame) 0 .at (maxSame * a + b) in omega arith
+
+  pub pairs-length : (on : Bool) → x .n ≤ maxSame → length (pairsOf on x keys) ≡ maxSame * maxSame
+  unfolding pairsOf pairsFilled
+  pairs-length true few =
+      rows-length (x .n) few (λ a. pairCell (toldApart (end1 (x .bonds)) (end2 (x .bonds)) (x .m) (x .n) keys a)) 0 (x .n) (replicate (maxSame * maxSame) 0) ∙ length-replicate {A = ℕ} (maxSame * maxSame) 0
+  pairs-length false few = length-replicate {A = ℕ} (maxSame * maxSame) 0
 
   pub pairs-low : (on : Bool) → x .n ≤ maxSame → Low (pairsOf on x keys) 40000
   unfolding pairsOf pairsFilled
