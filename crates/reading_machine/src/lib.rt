@@ -203,7 +203,7 @@ fn extension(k: u8, b: u8) -> Move
     to_or(is_digit(b), Mode::Extension(k - 1), closing(b))
 }
 
-// What follows a byte in a mode.
+// internal: what follows a byte in a mode.
 pub fn next(m: Mode, b: u8) -> Move
     ensures { λ r. ⌜ r ≡ next m b ⌝ }
 {
