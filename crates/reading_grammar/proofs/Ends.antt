@@ -2,11 +2,11 @@
 use mathlib.Core.Path.{_≡_, refl, sym, ap, subst, _∙_}
 use mathlib.Core.Bool.{Bool, true, false}
 use mathlib.Core.List.{List, [], _∷_, _++_}
-use Prim.Native.Nat.{ℕ, zero, suc}
+use Prim.Native.Nat.{ℕ}
 use native.Mathlib.Omega.{arith}
 use lib.Dec.{eqb}
-use borrow.Author.Tests.{eqb-true, eq-eqb}
-use Rattle.reading_grammar.specs.Grammar.{pick, among, listed, sameBytes, symbols, Digits, Number, Isotope, Symbol, Tetrahedral, Hydrogens, Charge, Extension}
+use borrow.Author.Tests.{eqb-true}
+use Rattle.reading_grammar.specs.Grammar.{pick, among, listed, sameBytes, Isotope, Symbol, Tetrahedral, Hydrogens, Charge, Extension}
 use Rattle.reading_grammar.specs.Machine.{MachineState, dead, run, step}
 
 pub data EndExtension : List ℕ → Type 0 where

@@ -1,10 +1,8 @@
 -- Texts of 01, and of 02's P8, by computation.
 use mathlib.Core.Path.{_≡_, refl}
-use mathlib.Core.Bool.{Bool, true, false}
-use mathlib.Core.List.{List, [], _∷_, map}
-use Prim.Native.Nat.{ℕ}
-use Rattle.reading_grammar.specs.Grammar.{starts, pick, among, listed, sameBytes, nonzero, digits, several, bondSymbols, signs, letters, marks, symbols}
-use Rattle.reading_grammar.specs.Machine.{verdict, Verdict, fine, refused, run, reach, step, next, accepting, resting, atomOr, bridgeOr, closing, extending, charging, hydrating, marking, symbolOr}
+use mathlib.Core.List.{[], _∷_, map}
+use Rattle.reading_grammar.specs.Grammar.{starts, among, listed, sameBytes, nonzero, digits, several, bondSymbols, signs, letters, marks, symbols}
+use Rattle.reading_grammar.specs.Machine.{verdict, fine, refused, run, reach, step, next, accepting, resting, atomOr, bridgeOr, closing, extending, charging, hydrating, marking, symbolOr}
 
 examples : map verdict (
     ([]) ∷  -- empty

@@ -1,20 +1,20 @@
 -- A live state can be completed and a dead one cannot; the place of the machine's refusal is that of the grammar.
 use mathlib.Core.Path.{_≡_, refl, sym, ap, subst, _∙_}
-use mathlib.Core.Bool.{Bool, true, false, not}
+use mathlib.Core.Bool.{Bool, true, false}
 use mathlib.Core.Logic.{_↔_}
-use mathlib.Core.List.{List, [], _∷_, _++_, append-assoc}
+use mathlib.Core.List.{List, [], _∷_, _++_}
 use Prim.Native.Nat.{ℕ, zero, suc, _≤_, _<_}
 use native.Mathlib.Omega.{arith}
 use native.Mathlib.Decide.{decLt, ℕ-discrete}
-use lib.Dec.{eqb, leb}
+use lib.Dec.{eqb}
 use lib.ListN.{length, take, drop, replicate, take-append-drop}
-use borrow.Author.Tests.{eqb-true, eq-eqb}
+use borrow.Author.Tests.{eq-eqb}
 use Rattle.reading_grammar.specs.Grammar.{starts, pick, among, listed, sameBytes, nonzero, digits, several, bondSymbols, signs, letters, marks, symbols, Tetrahedral, Hydrogens, Charge, Extension, Text}
-use Rattle.reading_grammar.specs.Machine.{Last, plain, afterC, afterB, Mode, seq, bond, atomNext, inside, percent, percent1, letterA, letterT, bracket, isotope, symbol1, symbolled, at1, at2, hydrogen, hydrogens, sign, charged, colon, extension, Move, stop, to, up, down, MachineState, dead, start, at, lastOf, goesOn, atomOr, bridgeOr, closing, extending, charging, hydrating, marking, symbolOr, next, turn, step, run, resting, accepting, alive, reach, Verdict, fine, refused, verdict}
+use Rattle.reading_grammar.specs.Machine.{Last, plain, afterC, afterB, Mode, seq, bond, atomNext, inside, percent, percent1, letterA, letterT, bracket, isotope, symbol1, symbolled, at1, at2, hydrogen, hydrogens, sign, charged, colon, extension, Move, stop, to, up, down, MachineState, dead, start, at, goesOn, atomOr, bridgeOr, closing, extending, charging, hydrating, marking, symbolOr, next, turn, step, run, resting, accepting, alive, reach, fine, refused, verdict}
 use Rattle.reading_grammar.specs.Place.{Viable, Place}
 use Rattle.reading_grammar.specs.Completion.{restOf, fill, completion}
 use Rattle.reading_grammar.proofs.Ends.{EndExtension, EndCharge, EndHydrogens, EndMark, never, run-append, run-dead}
-use Rattle.reading_grammar.proofs.Complete.{Runs, Goes, Reaches, via, stay, along, onward, one-down, takes-element, takes-bracket, on-element, complete}
+use Rattle.reading_grammar.proofs.Complete.{Runs, Reaches, via, stay, onward, one-down, takes-element, on-element, complete}
 use Rattle.reading_grammar.proofs.Sound.{sound}
 
 -- ---- every state that is reached is sane: the letter that begins a symbol does begin one

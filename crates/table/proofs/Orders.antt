@@ -1,5 +1,5 @@
 -- Laws of the orders of bonds and of turned marks: the bonds at an atom, what a turned table keeps, and how a turn is told by two orders. Assumes nothing.
-use Prim.Native.Nat.{ℕ, zero, suc, _+_, _<_, _≤_}
+use Prim.Native.Nat.{ℕ, zero, suc, _+_, _*_, _<_, _≤_}
 use native.Mathlib.Omega.{arith}
 use native.Mathlib.Nat.{add-zero}
 use native.Mathlib.Numerals.{add-one}
@@ -13,14 +13,15 @@ use lib.Dec.{eqb, ltb}
 use borrow.Author.Tests.{eqb-true, eqb-false, lt-ltb, ltb-true, ltb-false}
 use Rattle.loops.specs.Loop.{pick, run}
 use Rattle.loops.proofs.Loops.{each-at, each-all, each-same}
-use Rattle.parity.specs.Parity.{flipIf, oddly, oddPairs, over, odd, absent, below, ascending}
+use Rattle.parity.specs.Parity.{flipIf, oddly, oddPairs, over, odd, absent, unlike, Swaps, oddNumber, below, ascending}
 use Rattle.parity.specs.Mark.{markIf, turnBetween}
+use Rattle.parity.proofs.Swapped.{sorting-swaps}
 use Rattle.parity.proofs.Turns.{Listed, turned-listed}
 use Rattle.table.specs.Limits.{atomCells, ELEMENT, SELECTED, ISOTOPE, HYDROGENS, CHARGE, EXTENSION, MARK}
 use Rattle.table.specs.Cells.{number, atomPlace, atomCell, selected, hydrogens, mark, touches}
 use Rattle.table.specs.Valid.{maxMark, markOk, selectedOk, atomOk, Valid}
 use Rattle.table.specs.Sound.{countBond, bondDegree, loose, noneLoose, unfit, noneUnfit, lateCode, sound}
-use Rattle.table.specs.Orders.{bondsFrom, bondsAt, turns, turnedMark, turnMark, turnMarks}
+use Rattle.table.specs.Orders.{bondsFrom, bondsAt, ranksAt, turns, turnedMark, turnMark, turnMarks}
 use Rattle.table.proofs.Valid.{range-of, range-high, atom-fine, atom-fine-back}
 use Rattle.table.proofs.Sound.{run-last, sound-valid, sound-late, sound-back}
 
@@ -121,6 +122,16 @@ module _ (bonds : List ℤ) (a : ℕ) where
 pub turns-same : (f g : ℕ → ℕ) (atoms bonds : List ℤ) (m a : ℕ) → ((c : ℕ) → c < m → touches bonds a c ≡ true → f c ≡ g c) → turns f atoms bonds m a ≡ turns g atoms bonds m a
 unfolding turns
 turns-same f g atoms bonds m a h = rw (ranks-same bonds a f g m h)
+
+-- in words: the ranks being all different, a mark is turned exactly if the number of swaps that sorts them is odd
+pub turns-swaps : (rank : ℕ → ℕ) (atoms bonds : List ℤ) (m a : ℕ) {q : List ℕ} {k : ℕ} → Swaps (ranksAt rank atoms bonds m a) q k → unlike (ranksAt rank atoms bonds m a) ≡ true → ascending q ≡ true → turns rank atoms bonds m a ≡ oddNumber k
+unfolding turns
+turns-swaps rank atoms bonds m a s u w = sorting-swaps s u w
+
+-- of the atoms only the hydrogens of this one are looked at
+pub turns-atoms : (f : ℕ → ℕ) (t u bonds : List ℤ) (m a : ℕ) → hydrogens t a ≡ hydrogens u a → turns f t bonds m a ≡ turns f u bonds m a
+unfolding turns
+turns-atoms f t u bonds m a e = rw e
 
 map-same : (l : List ℕ) → map (λ (b : ℕ). b) l ≡ l
 map-same [] = refl
@@ -235,9 +246,9 @@ module _ (rank : ℕ → ℕ → ℕ) (bonds : List ℤ) (m : ℕ) where
     unfolding turnMarks
     turned-field a f l h = run-other 0 n (atomPlace a f) t (λ j u v e. h (omega arith))
 
-    pub turned-rest : (a f : ℕ) → n ≤ a → f < atomCells → atomCell (turnMarks rank bonds m n t) a f ≡ atomCell t a f
+    pub turned-rest : (i : ℕ) → atomCells * n ≤ i → getD (turnMarks rank bonds m n t) i (pos 0) ≡ getD t i (pos 0)
     unfolding turnMarks
-    turned-rest a f l h = run-other 0 n (atomPlace a f) t (λ j u v e. omega arith)
+    turned-rest i h = run-other 0 n i t (λ j u v e. omega arith)
 
     pub turned-length : length (turnMarks rank bonds m n t) ≡ length t
     unfolding turnMarks
@@ -275,7 +286,7 @@ module _ (rank : ℕ → ℕ → ℕ) (bonds : List ℤ) (m k n : ℕ) (t : List
     where
       go : (a : ℕ) (x : Bool) → ltb a k ≡ x → ltb 0 (mark (turnMarks rank bonds m k t) a) ≡ ltb 0 (mark t a)
       go a true e = ap (λ (z : ℤ). ltb 0 (number z)) (turned-cell rank bonds m k t a (ltb-true a k e)) ∙ turned-marked rank bonds m t a
-      go a false e = ap (λ (z : ℤ). ltb 0 (number z)) (turned-rest rank bonds m k t a MARK (ltb-false a k e) (omega arith))
+      go a false e = ap (λ (z : ℤ). ltb 0 (number z)) (turned-rest rank bonds m k t (atomPlace a MARK) (omega (arith, ltb-false a k e)))
 
   -- a valid table stays valid, a sound one sound
   turned-mark-ok : (a : ℕ) → markOk t a ≡ true → markOk (turnMarks rank bonds m k t) a ≡ true
@@ -283,7 +294,7 @@ module _ (rank : ℕ → ℕ → ℕ) (bonds : List ℤ) (m k n : ℕ) (t : List
     where
       go : (x : Bool) → ltb a k ≡ x → markOk (turnMarks rank bonds m k t) a ≡ true
       go true e = rw (turned-cell rank bonds m k t a (ltb-true a k e)) (range-of (turnedMark rank t bonds m a) maxMark (turned-small rank bonds m t a (range-high (atomCell t a MARK) maxMark h)))
-      go false e = rw (turned-rest rank bonds m k t a MARK (ltb-false a k e) (omega arith)) h
+      go false e = rw (turned-rest rank bonds m k t (atomPlace a MARK) (omega (arith, ltb-false a k e))) h
 
   turned-atom : (a : ℕ) → atomOk t a ≡ true → atomOk (turnMarks rank bonds m k t) a ≡ true
   unfolding selectedOk

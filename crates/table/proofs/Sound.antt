@@ -3,7 +3,7 @@ use Prim.Native.Nat.{ℕ, zero, suc, _+_, _<_, _≤_}
 use native.Mathlib.Omega.{arith}
 use native.Mathlib.Numerals.{add-one}
 use native.Mathlib.Nat.{add-zero}
-use mathlib.Core.Path.{_≡_, refl, sym, _∙_}
+use mathlib.Core.Path.{_≡_, refl, sym, ap, _∙_}
 use mathlib.Core.Bool.{Bool, true, false, _&&_, not, true≢false}
 use mathlib.Core.Logic.{_↔_, _⊎_, inl, inr, ⊎-elim}
 use mathlib.Core.List.{List}
@@ -253,6 +253,15 @@ degree-more bonds b a = rw (add-one b) (degree-suc bonds b a)
 pub degree-none : (bonds : List ℤ) (a : ℕ) → bondDegree bonds 0 a ≡ 0
 unfolding bondDegree run
 degree-none bonds a = refl
+
+-- bonds that touch the atom alike are as many
+pub degree-same : (bonds others : List ℤ) (b a : ℕ) → ((j : ℕ) → j < b → touches bonds a j ≡ touches others a j) → bondDegree bonds b a ≡ bondDegree others b a
+degree-same bonds others zero a h = degree-none bonds a ∙ sym (degree-none others a)
+degree-same bonds others (suc b) a h =
+    degree-suc bonds b a
+    ∙ ap (λ (k : ℕ). k + pick (touches bonds a b) 1 0) (degree-same bonds others b a (λ j l. h j (omega arith)))
+    ∙ ap (λ (x : Bool). bondDegree others b a + pick x 1 0) (h b (omega arith))
+    ∙ sym (degree-suc others b a)
 
 pub degree-small : (bonds : List ℤ) (b a : ℕ) → bondDegree bonds b a ≤ b
 degree-small bonds zero a = omega (arith, degree-none bonds a)
