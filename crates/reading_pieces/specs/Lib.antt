@@ -1,0 +1,5 @@
+pub mod Bounded
+pub mod State
+pub mod Broken
+pub mod Calls
+pub mod Whole
