@@ -1,2 +1,4 @@
 pub mod Bounded
 pub mod Shown
+pub mod Unbroken
+pub mod Calls
