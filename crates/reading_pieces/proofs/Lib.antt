@@ -2,3 +2,5 @@ pub mod Bounded
 pub mod Shown
 pub mod Unbroken
 pub mod Calls
+pub mod Cleared
+pub mod Whole
