@@ -4,3 +4,4 @@ pub mod Unbroken
 pub mod Calls
 pub mod Cleared
 pub mod Whole
+pub mod Broken

@@ -35,3 +35,12 @@ unfoldable pub wholeOf : List ℕ → List ℤ → List ℤ → ReadResult
 wholeOf s atoms bonds =
     pick (leb (length s) maxText) (readOf s atoms bonds)
     (pick (enough atoms bonds) (overlong atoms bonds (bytesRead (take maxText s) atoms bonds)) (short atoms bonds))
+
+-- what a feed answers, the bytes so far being read: 0, or their refusal with its place
+abbrev pub toldBy : Reading Memory → ℕ
+toldBy (going σ μ) = 0
+toldBy (halted c p) = c
+
+abbrev pub placeBy : Reading Memory → ℕ
+placeBy (going σ μ) = 0
+placeBy (halted c p) = p
