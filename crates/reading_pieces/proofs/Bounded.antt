@@ -1,19 +1,19 @@
 -- Reading on in pieces: the pieces of a text are its bytes, within the limit it is reading, and past it 2. Assumes nothing.
-use Prim.Native.Nat.{ℕ, zero, suc, _+_, _-_, _≤_, _<_}
+use Prim.Native.Nat.{ℕ, suc, _+_, _≤_, _<_}
 use native.Mathlib.Omega.{arith}
 use native.Mathlib.Nat.{add-zero}
 use native.Mathlib.Decide.{decLt}
-use mathlib.Core.Path.{_≡_, refl, sym, ap, _∙_, subst}
+use mathlib.Core.Path.{_≡_, refl, sym, ap, _∙_}
 use mathlib.Core.Bool.{Bool, true, false}
 use mathlib.Core.List.{List, [], _∷_, _++_}
 use lib.ListN.{length, take, drop, take-append-drop, length-drop, length-take}
 use lib.Dec.{ltb}
-use borrow.Author.Tests.{lt-ltb, le-ltb, ltb-true}
+use borrow.Author.Tests.{lt-ltb, le-ltb}
 use Rattle.loops.specs.Loop.{pick}
 use Rattle.ids.specs.Limits.{maxText}
 use Rattle.reading_grammar.specs.declared.MachineState.{MachineState}
 use Rattle.reading_grammar.specs.Machine.{step, alive}
-use Rattle.reading_grammar.specs.Fold.{Act, keeps, refuses, Reading, going, halted, after, feed, read}
+use Rattle.reading_grammar.specs.Fold.{keeps, refuses, Reading, going, halted, after, feed, read}
 use Rattle.reading.specs.Memory.{Memory}
 use Rattle.reading.specs.Act.{Acts, act}
 use Rattle.reading.proofs.Refusals.{act-code}

@@ -1,7 +1,7 @@
 -- 25 exactly where P11's list says so. Assumes nothing.
-use Prim.Native.Nat.{ℕ, zero, suc, _+_, _≤_, _<_}
+use Prim.Native.Nat.{ℕ, zero, suc, _≤_, _<_}
 use native.Mathlib.Omega.{arith}
-use mathlib.Core.Path.{_≡_, refl, sym, ap, _∙_, subst}
+use mathlib.Core.Path.{_≡_, refl, sym, _∙_}
 use mathlib.Core.Bool.{Bool, true, false, _&&_, _||_, not}
 use mathlib.Core.Logic.{_⊎_, inl, inr, ⊎-elim}
 use mathlib.Core.List.{List}
@@ -16,8 +16,7 @@ use Rattle.table.specs.Cells.{inRange}
 use Rattle.table.specs.Valid.{valid, Valid, maxMark}
 use Rattle.table.proofs.Valid.{facts, facts-back}
 use Rattle.reading_pieces.specs.declared.Paused.{Paused}
-use Rattle.reading_pieces.specs.State.{goesOn}
-use Rattle.reading_pieces.specs.Broken.{unsound, hubAstray, branchAstray, bridgeAstray, deep, overread, inBracket, inNumber, fieldAbove, halfReadAbove, astray, brokenOf, FieldAbove, Broken}
+use Rattle.reading_pieces.specs.Broken.{unsound, hubAstray, branchAstray, bridgeAstray, fieldAbove, brokenOf, FieldAbove, Broken}
 
 -- a test holds exactly where a fact does
 pub record Says (t : Bool) (A : Type 0) : Type 0 where

@@ -1,31 +1,28 @@
 -- What each call does with a state and tables that were handed back. Assumes nothing.
-use Prim.Native.Nat.{ℕ, zero, suc, _+_, _≤_, _<_}
+use Prim.Native.Nat.{ℕ, _+_, _≤_}
 use native.Mathlib.Omega.{arith}
-use mathlib.Core.Path.{_≡_, refl, sym, ap, _∙_, subst}
-use mathlib.Core.Bool.{Bool, true, false, _&&_, not}
-use mathlib.Core.List.{List, [], _∷_}
+use mathlib.Core.Path.{_≡_, refl, ap, _∙_}
+use mathlib.Core.Bool.{true, false}
+use mathlib.Core.List.{List}
 use lib.ListN.{length, replicate, length-replicate}
 use lib.IntN.{ℤ, pos}
-use lib.Dec.{eqb, leb, ltb}
 use borrow.Author.Tests.{ne-eqb}
-use Rattle.loops.specs.Loop.{pick, each}
+use Rattle.loops.specs.Loop.{each}
 use Rattle.ids.specs.Limits.{maxText}
-use Rattle.table.specs.Limits.{atomCells, bondCells, maxAtoms, maxBonds}
 use Rattle.table.specs.Valid.{enough, valid, distinct}
 use Rattle.reading_grammar.specs.declared.MachineState.{MachineState}
 use Rattle.reading_grammar.specs.declared.MachineState.the-variants.{Dead as dead, Start as start, At as at}
-use Rattle.reading_grammar.specs.Fold.{Reading, going, halted}
+use Rattle.reading_grammar.specs.Fold.{going}
 use Rattle.reading_state.specs.State.{started}
 use Rattle.reading.specs.Memory.{Memory}
-use Rattle.reading.specs.Read.{ReadResult, zeros, refused, beginning, finished}
+use Rattle.reading.specs.Read.{zeros, beginning, finished}
 use Rattle.reading.proofs.Sane.{Sane}
 use Rattle.reading_pieces.specs.declared.Paused.{Paused}
 use Rattle.reading_pieces.specs.Bounded.{readOn}
-use Rattle.reading_pieces.specs.State.{modeNumber, modeLetter, machineOf, memoryOf, pausedAt, blankState, endedCode, goesOn, hasEnded}
+use Rattle.reading_pieces.specs.State.{modeNumber, modeLetter, pausedAt, blankState, endedCode, hasEnded}
 use Rattle.reading_pieces.specs.Broken.{brokenOf}
-use Rattle.reading_pieces.specs.Calls.{Fed, answers, unchanged, refusedIn, guarded, startOf, fedTo, fedOf, restCleared, endOf}
-use Rattle.reading_pieces.proofs.Bounded.{Coded}
-use Rattle.reading_pieces.proofs.Shown.{Shown, Kept}
+use Rattle.reading_pieces.specs.Calls.{unchanged, refusedIn, startOf, fedTo, fedOf, restCleared, endOf}
+use Rattle.reading_pieces.proofs.Shown.{Shown}
 use Rattle.reading_pieces.proofs.Unbroken.{memory-again, machine-again, unbroken}
 
 -- ---- before anything else: 1, 25, 24

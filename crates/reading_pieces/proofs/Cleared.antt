@@ -1,18 +1,16 @@
 -- What reading whole hands back has nothing after its rows: clearing the rest changes nothing. Assumes nothing.
-use Prim.Native.Nat.{ℕ, zero, suc, _+_, _*_, _≤_, _<_}
+use Prim.Native.Nat.{ℕ, zero, suc, _*_, _≤_}
 use native.Mathlib.Omega.{arith}
-use mathlib.Core.Path.{_≡_, refl, sym, ap, _∙_, subst}
+use mathlib.Core.Path.{_≡_, refl, sym, ap, _∙_}
 use mathlib.Core.Bool.{Bool, true, false}
-use mathlib.Core.List.{List, [], _∷_, _++_}
-use lib.ListN.{length, getD, take, drop, replicate, length-replicate}
+use mathlib.Core.List.{List, [], _∷_}
+use lib.ListN.{length, getD, replicate, length-replicate}
 use lib.IntN.{ℤ, pos}
 use lib.Dec.{eqb}
 use borrow.Author.Tests.{eqb-true, eqb-false}
-use Rattle.loops.specs.Loop.{pick}
 use Rattle.table.specs.Limits.{atomCells, bondCells}
 use Rattle.table.specs.Valid.{enough}
 use Rattle.reading.specs.Read.{ReadResult, zeros, refused, readOf}
-use Rattle.reading.specs.Claims.{Accepted}
 use Rattle.reading.proofs.Accepted.{read-accepted}
 use Rattle.reading.proofs.Refused.{short-iff, refusal-zeroes}
 use Rattle.reading_pieces.specs.Calls.{clearedFrom, restCleared}

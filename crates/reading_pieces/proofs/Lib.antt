@@ -5,3 +5,4 @@ pub mod Calls
 pub mod Cleared
 pub mod Whole
 pub mod Broken
+pub mod Told

@@ -1,14 +1,14 @@
 -- The mode of a reading that goes on is the one that its numbers stand for: how many digits of a half-read isotope or extension may follow is told by its value. Assumes nothing.
-use Prim.Native.Nat.{ℕ, zero, suc, _+_, _*_, _-_, _≤_, _<_}
+use Prim.Native.Nat.{ℕ, zero, suc, _+_, _*_, _≤_, _<_}
 use native.Mathlib.Omega.{arith}
 use native.Mathlib.Nat.{add-zero}
-use mathlib.Core.Path.{_≡_, refl, sym, ap, _∙_, subst}
+use mathlib.Core.Path.{_≡_, refl, sym, _∙_}
 use mathlib.Core.Bool.{Bool, true, false, _&&_}
 use mathlib.Core.List.{List, [], _∷_}
 use lib.ListN.{length}
 use lib.IntN.{ℤ}
 use lib.Dec.{eqb, leb, ltb}
-use borrow.Author.Tests.{eq-eqb, ne-eqb, eqb-true, eqb-false, le-leb, lt-leb, leb-true, leb-false}
+use borrow.Author.Tests.{eq-eqb, ne-eqb, eqb-false, le-leb, lt-leb, leb-true, leb-false}
 use Rattle.loops.specs.Loop.{pick}
 use Rattle.element.specs.Symbols.{among, starts, listed, marks, symbols}
 use Rattle.element.specs.declared.Letter.{Letter}
@@ -37,7 +37,7 @@ use Rattle.reading.specs.Act.{Acts, act, atomAct, bridgeAct, branchAct, closeAc
 use Rattle.element.specs.Lookup.{letterOf}
 use Rattle.reading_grammar.proofs.Ends.{never}
 use Rattle.reading.proofs.Cases.{by-test}
-use Rattle.reading.proofs.Letters.{Begins, digit-no-symbol, digit-closes-not, nonzero-is-digit}
+use Rattle.reading.proofs.Letters.{Begins, nonzero-is-digit}
 use Rattle.reading.proofs.Draft.{nonzero-digit, any-digit}
 use Rattle.reading.proofs.Dispatch.{Outside, only-atom, second-letter, in-sequence, in-bond, in-branch, in-percent, in-percent1}
 use Rattle.reading.proofs.Sane.{InRange, Sane, SaneAct}

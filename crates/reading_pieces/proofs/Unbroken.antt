@@ -1,34 +1,31 @@
 -- The state that a reading hands back stands for that reading, and is not refused as 25 with the tables as they were left. Assumes nothing.
-use Prim.Native.Nat.{ℕ, zero, suc, _+_, _≤_, _<_}
+use Prim.Native.Nat.{ℕ, _≤_, _<_}
 use native.Mathlib.Omega.{arith}
-use mathlib.Core.Path.{_≡_, refl, sym, ap, _∙_, subst}
-use mathlib.Core.Bool.{Bool, true, false, _&&_, _||_, not}
+use mathlib.Core.Path.{_≡_, refl, ap}
+use mathlib.Core.Bool.{Bool, true, false, _&&_}
 use mathlib.Core.List.{List}
-use lib.ListN.{length, getD}
-use lib.IntN.{ℤ, pos, negsuc}
+use lib.ListN.{getD}
+use lib.IntN.{ℤ}
 use lib.Dec.{eqb, leb, ltb}
-use borrow.Author.Tests.{eq-eqb, ne-eqb, le-leb, lt-leb, lt-ltb, le-ltb}
-use Rattle.loops.specs.Loop.{pick, each}
+use borrow.Author.Tests.{ne-eqb, le-leb, lt-leb, lt-ltb, le-ltb}
+use Rattle.loops.specs.Loop.{each}
 use Rattle.kinds.specs.Kind.{maxKind}
 use Rattle.ids.specs.Limits.{maxText, maxDepth, bridges}
-use Rattle.reading_grammar.specs.declared.Last.{Last}
 use Rattle.reading_grammar.specs.declared.Last.the-variants.{Plain as plain, AfterC as afterC, AfterB as afterB}
 use Rattle.reading_grammar.specs.declared.Mode.{Mode}
 use Rattle.reading_grammar.specs.declared.Mode.the-variants.{Seq as seq, Bond as bond, AtomNext as atomNext, Inside as inside, Percent as percent, Percent1 as percent1, LetterA as letterA, LetterT as letterT, Bracket as bracket, Isotope as isotope, Symbol1 as symbol1, Symbolled as symbolled, At1 as at1, At2 as at2, Hydrogen as hydrogen, Hydrogens as hydrogens, Sign as sign, Charged as charged, Colon as colon, Extension as extension}
 use Rattle.reading_grammar.specs.declared.MachineState.{MachineState}
 use Rattle.reading_grammar.specs.declared.MachineState.the-variants.{Dead as dead, Start as start, At as at}
-use Rattle.table.specs.Cells.{inRange}
 use Rattle.table.specs.Valid.{valid, maxMark}
 use Rattle.reading_state.specs.State.{Steering}
-use Rattle.reading_state.specs.declared.Fields.{Fields}
 use Rattle.reading.specs.Memory.{Memory, Pending, nothing, dotted, symbol, kindOf}
 use Rattle.reading.proofs.Draft.{isotope-most, extension-most}
 use Rattle.reading.proofs.Sane.{InRange, HalfRead, Sane, Steers}
 use Rattle.reading.proofs.Valid.{each-all, sane-between, valid-true}
 use Rattle.reading_pieces.specs.declared.Paused.{Paused}
-use Rattle.reading_pieces.specs.State.{modeOf, modeNumber, modeLetter, machineOf, memoryOf, pendingOf, pendingNumber, pausedIn, pausedAt, goesOn}
-use Rattle.reading_pieces.specs.Broken.{unsound, hubAstray, branchAstray, bridgeAstray, deep, overread, fieldAbove, halfReadAbove, astray, brokenOf}
-use Rattle.reading_pieces.proofs.Shown.{Spelt, Shown}
+use Rattle.reading_pieces.specs.State.{modeNumber, machineOf, memoryOf, pendingOf, pendingNumber, pausedIn, pausedAt, goesOn}
+use Rattle.reading_pieces.specs.Broken.{hubAstray, branchAstray, bridgeAstray, deep, fieldAbove, halfReadAbove, brokenOf}
+use Rattle.reading_pieces.proofs.Shown.{Shown}
 
 -- ---- the state stands for the reading
 

@@ -1,11 +1,11 @@
 -- 02, P11: reading in pieces is reading whole. Assumes nothing.
-use Prim.Native.Nat.{ℕ, zero, suc, _+_, _≤_, _<_}
+use Prim.Native.Nat.{ℕ, _+_, _≤_}
 use native.Mathlib.Omega.{arith}
 use native.Mathlib.Decide.{decLe}
 use mathlib.Core.Path.{_≡_, refl, sym, ap, _∙_, subst}
 use mathlib.Core.Bool.{Bool, true, false}
 use mathlib.Core.List.{List, [], _∷_, _++_, append-assoc, append-nil, flatten}
-use lib.ListN.{length, take, replicate, length-append, length-replicate}
+use lib.ListN.{length, take, length-append, length-replicate}
 use lib.IntN.{ℤ, pos}
 use lib.Dec.{leb}
 use borrow.Author.Tests.{le-leb, lt-leb}
@@ -14,20 +14,18 @@ use Rattle.ids.specs.Limits.{maxText}
 use Rattle.table.specs.Valid.{enough}
 use Rattle.reading_grammar.specs.declared.MachineState.{MachineState}
 use Rattle.reading_grammar.specs.declared.MachineState.the-variants.{Start as start}
-use Rattle.reading_grammar.specs.Machine.{accepting}
 use Rattle.reading_grammar.specs.Fold.{Reading, going, halted}
 use Rattle.reading.specs.Memory.{Memory}
-use Rattle.reading.specs.Read.{ReadResult, zeros, refused, short, beginning, ended, finished, readFrom, readOf}
+use Rattle.reading.specs.Read.{ReadResult, zeros, refused, short, beginning, finished, readFrom, readOf}
 use Rattle.reading.specs.Conditions.{bytesRead}
 use Rattle.reading_pieces.specs.Bounded.{readOn}
-use Rattle.reading_pieces.specs.State.{blankState, endedCode}
-use Rattle.reading_pieces.specs.Broken.{brokenOf}
-use Rattle.reading_pieces.specs.Calls.{Fed, answers, unchanged, refusedIn, startOf, fedTo, fedOf, restCleared, endOf}
+use Rattle.reading_pieces.specs.State.{blankState}
+use Rattle.reading_pieces.specs.Calls.{Fed, unchanged, startOf, fedTo, fedOf, restCleared}
 use Rattle.reading_pieces.specs.Whole.{fedAll, endAfter, inPieces, overlong, wholeOf}
 use Rattle.reading_pieces.proofs.Bounded.{readOn-halted, readOn-append, readOn-within, readOn-beyond, readOn-coded, going-within, pastLimit, Coded}
-use Rattle.reading_pieces.proofs.Shown.{Kept, kept-piece, kept-beginning}
-use Rattle.reading_pieces.proofs.Unbroken.{unbroken}
-use Rattle.reading_pieces.proofs.Calls.{short-feed, short-end, ended-feed, ended-end, going-feed, going-end, told-unbroken, enough-same, halted-feed, halted-end, start-fresh, start-short}
+use Rattle.reading.proofs.Sane.{Sane}
+use Rattle.reading_pieces.proofs.Shown.{Shown, Kept, kept-piece, kept-beginning}
+use Rattle.reading_pieces.proofs.Calls.{short-feed, short-end, going-feed, going-end, enough-same, halted-feed, halted-end, start-fresh, start-short}
 use Rattle.reading_pieces.proofs.Cleared.{refused-cleared, read-cleared, read-lengths}
 
 -- the reading of bytes that came in any pieces
@@ -48,20 +46,34 @@ module _ (a b : List ℤ) (room : enough a b ≡ true) where
   kept : (t : List ℕ) → Kept (length a) (length b) (0 + length t) (reading t a b)
   kept t = kept-piece (length a) (length b) t 0 (going start (beginning (zeros a) (zeros b))) (kept-beginning a b room)
 
-  coded : (t : List ℕ) → Coded (reading t a b)
+  pub coded : (t : List ℕ) → Coded (reading t a b)
   coded t = readOn-coded t 0 (going start (beginning (zeros a) (zeros b))) tt
+
+  -- while it goes on: its state and its tables are in order
+  pub record Live (t : List ℕ) (σ : MachineState) (μ : Memory) : Type 0 where
+    pub sane : Sane (length a) (length b) σ (length t) μ
+    pub shown : Shown σ μ
+    pub within : length t ≤ maxText
+    pub large : enough (μ .atoms) (μ .bonds) ≡ true
+
+  pub live : (t : List ℕ) {σ : MachineState} {μ : Memory} → reading t a b ≡ going σ μ → Live t σ μ
+  live t {σ} {μ} e =
+      let n : 0 + length t ≡ length t = omega arith in
+      let k : Kept (length a) (length b) (length t) (going σ μ) = subst (λ (r : Reading Memory). Kept (length a) (length b) (length t) r) e (rw n at (kept t)) in
+      record {
+        sane = k .0;
+        shown = k .1;
+        within = omega (arith, going-within t 0 (going start (beginning (zeros a) (zeros b))) (omega arith) e);
+        large = enough-same a b (μ .atoms) (μ .bonds) (k .0 .tables .atom-length) (k .0 .tables .bond-length) ∙ room;
+      }
 
   -- what it left is fed the piece s
   module _ (t s : List ℕ) where
     one-more : (r : Reading Memory) → reading t a b ≡ r → let f : Fed = fedTo (length t) a b r in fedOf (f .state) s (f .result .atoms) (f .result .bonds) ≡ fedTo (length t + length s) a b (readOn (length t) r s)
     one-more (going σ μ) e =
-        let n : 0 + length t ≡ length t = omega arith in
-        let k : Kept (length a) (length b) (length t) (going σ μ) = subst (λ (r : Reading Memory). Kept (length a) (length b) (length t) r) e (rw n at (kept t)) in
-        let l : length t ≤ maxText = omega (arith, going-within t 0 (going start (beginning (zeros a) (zeros b))) (omega arith) e) in
-        let ea = k .0 .tables .atom-length in
-        let eb = k .0 .tables .bond-length in
-        going-feed (length t) σ μ (k .0) (k .1) l (enough-same a b (μ .atoms) (μ .bonds) ea eb ∙ room) s
-        ∙ fed-same (length t + length s) (readOn (length t) (going σ μ) s) a b (μ .atoms) (μ .bonds) ea eb
+        let w = live t e in
+        going-feed (length t) σ μ (w .sane) (w .shown) (w .within) (w .large) s
+        ∙ fed-same (length t + length s) (readOn (length t) (going σ μ) s) a b (μ .atoms) (μ .bonds) (w .sane .tables .atom-length) (w .sane .tables .bond-length)
     one-more (halted c q) e =
         let w : (2 ≤ c) × (c ≤ 9) = subst Coded e (coded t) in
         halted-feed c q a b room (w .0) (w .1) s ∙ ap (fedTo (length t + length s) a b) (sym (readOn-halted s (length t) c q))
@@ -89,13 +101,9 @@ module _ (a b : List ℤ) (room : enough a b ≡ true) where
   -- ---- the end
   end-from : (t : List ℕ) (r : Reading Memory) → reading t a b ≡ r → endAfter (fedTo (length t) a b r) .result ≡ restCleared (finished (length t) a b r)
   end-from t (going σ μ) e =
-      let n : 0 + length t ≡ length t = omega arith in
-      let k : Kept (length a) (length b) (length t) (going σ μ) = subst (λ (r : Reading Memory). Kept (length a) (length b) (length t) r) e (rw n at (kept t)) in
-      let l : length t ≤ maxText = omega (arith, going-within t 0 (going start (beginning (zeros a) (zeros b))) (omega arith) e) in
-      let ea = k .0 .tables .atom-length in
-      let eb = k .0 .tables .bond-length in
-      ap (λ (f : Fed). f .result) (going-end (length t) σ μ (k .0) (k .1) l (enough-same a b (μ .atoms) (μ .bonds) ea eb ∙ room))
-      ∙ ap restCleared (finished-same (length t) (going σ μ) a b (μ .atoms) (μ .bonds) ea eb)
+      let w = live t e in
+      ap (λ (f : Fed). f .result) (going-end (length t) σ μ (w .sane) (w .shown) (w .within) (w .large))
+      ∙ ap restCleared (finished-same (length t) (going σ μ) a b (μ .atoms) (μ .bonds) (w .sane .tables .atom-length) (w .sane .tables .bond-length))
   end-from t (halted c q) e =
       let w : (2 ≤ c) × (c ≤ 9) = subst Coded e (coded t) in
       ap (λ (f : Fed). f .result) (halted-end c q a b room (w .0) (w .1)) ∙ sym (refused-cleared c q a b)
@@ -124,6 +132,18 @@ module _ (a b : List ℤ) (room : enough a b ≡ true) where
           (ap (λ (r : Reading Memory). restCleared (finished (length t) a b r)) (readOn-beyond t (going start (beginning (zeros a) (zeros b))) (omega arith))
           ∙ ap restCleared (past-overlong (length t) (bytesRead (take maxText t) a b))
           ∙ overlong-cleared (bytesRead (take maxText t) a b))
+
+  overlong-lengths : (r : Reading Memory) → (length (overlong a b r .atoms) ≡ length a) × (length (overlong a b r .bonds) ≡ length b)
+  overlong-lengths (going σ μ) = (length-replicate (length a) (pos 0), length-replicate (length b) (pos 0))
+  overlong-lengths (halted c p) = (length-replicate (length a) (pos 0), length-replicate (length b) (pos 0))
+
+  pub whole-lengths : (t : List ℕ) → (length (wholeOf t a b .atoms) ≡ length a) × (length (wholeOf t a b .bonds) ≡ length b)
+  unfolding wholeOf
+  whole-lengths t = split (leb (length t) maxText)
+    where
+      split : (x : Bool) → let w : ReadResult = pick x (readOf t a b) (pick (enough a b) (overlong a b (bytesRead (take maxText t) a b)) (short a b)) in (length (w .atoms) ≡ length a) × (length (w .bonds) ≡ length b)
+      split true = read-lengths t a b room
+      split false = rw room (overlong-lengths (bytesRead (take maxText t) a b))
 
 -- ---- tables that are too short: 1 throughout
 short-pieces : (a b : List ℤ) → enough a b ≡ false → (ps : List (List ℕ)) → fedAll ps (unchanged 1 (blankState 0 0) a b) ≡ unchanged 1 (blankState 0 0) a b

@@ -1,6 +1,5 @@
 -- 02, P11: the three calls: what each answers and leaves, for any state and any tables
 use Prim.Native.Nat.{ℕ, _+_, _*_}
-use mathlib.Core.Bool.{not}
 use mathlib.Core.List.{List, _++_}
 use lib.ListN.{length, take, drop}
 use lib.IntN.{ℤ}
