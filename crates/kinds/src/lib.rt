@@ -87,7 +87,8 @@ pub fn meet(j: u8, k: u8) -> u8
     if k == 0 {
         return j;
     }
-    turned(k)
+    let back = turned(k);
+    back
 }
 
 // internal: whether the kinds at the ends of a bridge clash: j at its opening, k at its closing.

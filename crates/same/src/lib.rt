@@ -6,6 +6,7 @@ ghost use lib.ListN.{length, take, replicate, getD};
 ghost use Rattle.loops.specs.Loop.{pick};
 ghost use Rattle.matching.specs.Enumeration.{fill};
 ghost use Rattle.same_model.specs.Same.{maxSame, molecule, sameOf, roomyBoth};
+ghost use Rattle.same_keys.specs.Keys.{keysOf};
 ghost use Rattle.same.specs.Answer.{samenessCode, sameOut};
 ghost use Rattle.same.specs.Ready.{Ready, Decided};
 use ids::BondId;
@@ -84,7 +85,57 @@ fn hand_out(found: &[u8; SIDE], n: usize, ren: &mut [u16])
     }
 }
 
-// Whether two molecules of equally many atoms are the same.
+// Whether two molecules of equally many atoms, with the keys of their atoms, are the same.
+fn decide_keyed(
+    keys1: &[u64; SIDE],
+    atoms1: &[i32],
+    bonds1: &[i32],
+    m1: usize,
+    keys2: &[u64; SIDE],
+    atoms2: &[i32],
+    bonds2: &[i32],
+    m2: usize,
+    n: usize,
+    row1: &mut [u8],
+    row2: &mut [u8],
+    ren: &mut [u16],
+) -> bool
+    requires { ⌜ Ready (molecule (now atoms1) (now bonds1) n m1) (now row1) ⌝ }
+    requires { ⌜ Ready (molecule (now atoms2) (now bonds2) n m2) (now row2) ⌝ }
+    requires { ⌜ (now keys1 ≡ keysOf (molecule (now atoms1) (now bonds1) n m1)) × (now keys2 ≡ keysOf (molecule (now atoms2) (now bonds2) n m2)) ⌝ }
+    requires { ⌜ n ≤ length (now ren) ⌝ }
+    ensures { λ r. ⌜ Decided (molecule (now (atoms1 .entry)) (now (bonds1 .entry)) n m1) (molecule (now (atoms2 .entry)) (now (bonds2 .entry)) n m2) (now (row1 .entry)) (now (row2 .entry)) (now (ren .entry)) r (now (row1 .exit)) (now (row2 .exit)) (now (ren .exit)) ⌝ }
+{
+    let on = same_keys::scattered(bonds1, n, m1);
+    let mut base1 = [0u16; CELLS];
+    same_keys::fill_pairs(on, atoms1, bonds1, n, m1, keys1, &mut base1);
+    let mut base2 = [0u16; CELLS];
+    same_keys::fill_pairs(on, atoms2, bonds2, n, m2, keys2, &mut base2);
+    let mut ok = [0u8; CELLS];
+    same_drawing::fill_matches(atoms1, keys1, atoms2, keys2, n, &mut ok);
+    let mut found = [0u8; SIDE];
+    let yes = same_decide::first_row(
+        &ok,
+        &base1,
+        keys1,
+        atoms1,
+        bonds1,
+        m1,
+        &base2,
+        keys2,
+        atoms2,
+        bonds2,
+        n,
+        m2,
+        row1,
+        row2,
+        &mut found,
+    );
+    hand_out(&found, n, ren);
+    yes
+}
+
+// Whether two molecules of equally many atoms are the same: not where the keys of their atoms have unequal sums.
 fn decide_equal(
     atoms1: &[i32],
     bonds1: &[i32],
@@ -102,24 +153,29 @@ fn decide_equal(
     requires { ⌜ n ≤ length (now ren) ⌝ }
     ensures { λ r. ⌜ Decided (molecule (now (atoms1 .entry)) (now (bonds1 .entry)) n m1) (molecule (now (atoms2 .entry)) (now (bonds2 .entry)) n m2) (now (row1 .entry)) (now (row2 .entry)) (now (ren .entry)) r (now (row1 .exit)) (now (row2 .exit)) (now (ren .exit)) ⌝ }
 {
-    let mut ok = [0u8; CELLS];
-    same_drawing::fill_matches(atoms1, atoms2, n, &mut ok);
-    let mut found = [0u8; SIDE];
-    let yes = same_decide::first_row(
-        &ok,
+    let mut keys1 = [0u64; SIDE];
+    same_keys::fill_keys(atoms1, bonds1, n, m1, &mut keys1);
+    let mut keys2 = [0u64; SIDE];
+    same_keys::fill_keys(atoms2, bonds2, n, m2, &mut keys2);
+    let sum1 = same_keys::key_sum(&keys1, n);
+    let sum2 = same_keys::key_sum(&keys2, n);
+    if sum1 != sum2 {
+        return false;
+    }
+    decide_keyed(
+        &keys1,
         atoms1,
         bonds1,
         m1,
+        &keys2,
         atoms2,
         bonds2,
-        n,
         m2,
+        n,
         row1,
         row2,
-        &mut found,
-    );
-    hand_out(&found, n, ren);
-    yes
+        ren,
+    )
 }
 
 // Zeros in both rows and in the renumbering.

@@ -5,9 +5,10 @@ use mathlib.Core.List.{List, [], _∷_}
 use Prim.Native.Nat.{ℕ, _-_, _<_, _≤_}
 use native.Mathlib.Omega.{arith}
 use lib.Dec.{eqb}
-use lib.ListN.{length, take, replicate}
+use lib.ListN.{length, take}
 use lib.IntN.{ℤ}
 use lib.Seq.{length-take-le}
+use borrow.Author.Tests.{eq-eqb, ne-eqb}
 use Rattle.loops.specs.Loop.{run}
 use Rattle.matching.specs.Enumeration.{Row, passing, matchings, before, fill, Reply}
 use Rattle.matching.specs.Model.{some?, headOr}
@@ -15,15 +16,14 @@ use Rattle.matching.specs.declared.MatchingAnswer.{MatchingAnswer}
 use Rattle.matching.specs.declared.MatchingAnswer.the-variants.{Given, Absent, Refused, Ended}
 use Rattle.matching.proofs.Graph.{never}
 use Rattle.table.specs.Valid.{Valid}
-use Rattle.table_graph.specs.Graph.{matchingOf}
 use Rattle.kekule_answers.specs.Answers.{foundOf, foundCode}
 use Rattle.kekule_answers.specs.declared.Found.{Found}
 use Rattle.kekule.specs.Kekule.{CallReply, out, callReplyOf}
 use Rattle.same_place.specs.Place.{goods, Prefix, Solved}
-use Rattle.same_drawing.specs.Drawing.{cells, withBond, Drawable}
+use Rattle.same_drawing.specs.Drawing.{withBond, Drawable}
 use Rattle.same_drawing.proofs.Drawn.{drawable}
 use Rattle.same_model.specs.Same.{maxSame}
-use Rattle.same_decide.specs.Decide.{drawnMatrix, ways, goesWith, seconds, hasSecond, firsts, handedOut, HandsOut, Fewer, SecondFound, FirstFound}
+use Rattle.same_decide.specs.Decide.{Sketch, drawnMatrix, sumOf, ways, goesWith, matches, seconds, secondsFor, hasSecond, firsts, handedOut, HandsOut, Fewer, SecondFound, FirstFound}
 use Rattle.same_decide.proofs.Walk.{Walking, walking-hit, walking-end}
 
 -- the code of an answer says whether a matching was handed out
@@ -47,84 +47,89 @@ ready {atoms} {bonds} {n} {m} row v few fit =
     drawable (record { atoms = atoms; bonds = bonds; n = n; m = m }) (take m row) v few (omega arith)
 
 -- nothing is placed before the first atom
-pub no-prefix : {n : ℕ} {ren : List ℕ} → Fewer n ren → Prefix n ren 0
+pub no-prefix : {n : ℕ} {base keys ren : List ℕ} → Fewer n base keys ren → Prefix n ren 0
 no-prefix w = record { few = w .few; upto = omega arith; room = w .room; below = λ b l. absurd (omega arith) }
 
--- the search with a matrix that was drawn
-pub as-ways : (o ok : List ℕ) (bonds2 : List ℤ) (n m2 : ℕ) (s : Row) {o2 ren : List ℕ} {r : Bool} {ren′ : List ℕ} → o2 ≡ run (withBond bonds2 s) 0 m2 (replicate cells 0)
-    → Solved (goods o o2 ok n (take 0 ren) (n - 0)) n 0 ren r ren′ → Solved (ways o ok bonds2 n m2 s) n 0 ren r ren′
-unfolding ways drawnMatrix
-as-ways o ok bonds2 n m2 s e w = let d : n - 0 ≡ n = omega arith in rw (d, e) at w
+-- the search with a matrix that was drawn; none where the sums differ
+module _ (o : List ℕ) (z : ℕ) (ok : List ℕ) (y : Sketch) (s : Row) {u : ℕ} (e : u ≡ sumOf y s) where
+  pub as-ways : u ≡ z → {o2 ren : List ℕ} {r : Bool} {ren′ : List ℕ} → o2 ≡ run (withBond (y .bonds) s) 0 (y .m) (y .base) → Solved (goods o o2 ok (y .n) (take 0 ren) (y .n - 0)) (y .n) 0 ren r ren′ → Solved (ways o z ok y s) (y .n) 0 ren r ren′
+  unfolding ways drawnMatrix
+  as-ways h q w = let d : y .n - 0 ≡ y .n = omega arith in rw (eq-eqb z (sumOf y s) (sym h ∙ e)) (rw (d, q) at w)
 
-module _ (o ok : List ℕ) (atoms2 bonds2 : List ℤ) (n m2 : ℕ) (row₀ ren₀ : List ℕ) (fit : m2 ≤ length row₀) where
+  pub no-ways : (u ≡ z → ⊥) → (ren : List ℕ) → Solved (ways o z ok y s) (y .n) 0 ren false ren
+  unfolding ways
+  no-ways h ren = rw (ne-eqb z (sumOf y s) (λ q. h (e ∙ sym q))) record { long = refl; kept = refl; told = refl; found = λ k. absurd (never false k refl) }
+
+module _ (o : List ℕ) (z : ℕ) (ok : List ℕ) (atoms2 : List ℤ) (y : Sketch) (row₀ ren₀ : List ℕ) (fit : y .m ≤ length row₀) where
   abbrev p : Row → Bool
-  p = matchingOf atoms2 bonds2 n m2
+  p = matches atoms2 y
 
   abbrev T : Row → Bool
-  T = goesWith o ok bonds2 n m2
+  T = goesWith o z ok y
 
-  pub second-hit : {len : ℕ} → len ≡ length row₀ → {more : Bool} {row ren : List ℕ} → Walking p m2 T len more row → more ≡ true → length ren ≡ length ren₀
-      → {r : Bool} {ren′ : List ℕ} → Solved (ways o ok bonds2 n m2 (take m2 row)) n 0 ren r ren′ → r ≡ true → SecondFound o ok atoms2 bonds2 n m2 row₀ ren₀ true row ren′
+  pub second-hit : {len : ℕ} → len ≡ length row₀ → {more : Bool} {row ren : List ℕ} → Walking p (y .m) T len more row → more ≡ true → length ren ≡ length ren₀
+      → {r : Bool} {ren′ : List ℕ} → Solved (ways o z ok y (take (y .m) row)) (y .n) 0 ren r ren′ → r ≡ true → SecondFound o z ok atoms2 y row₀ ren₀ true row ren′
   unfolding seconds
   second-hit el {more} {row} {ren} v₀ h l {r} {ren′} s t =
-      let v : Walking p m2 T (length row₀) more row = subst (λ (k : ℕ). Walking p m2 T k more row) el v₀ in
-      let q : seconds o ok atoms2 bonds2 n m2 ≡ take m2 row ∷ passing T (rest-of row) = walking-hit p m2 T (length row₀) fit v h (sym (s .told) ∙ t) in
+      let v : Walking p (y .m) T (length row₀) more row = subst (λ (k : ℕ). Walking p (y .m) T k more row) el v₀ in
+      let q : seconds o z ok atoms2 y ≡ take (y .m) row ∷ passing T (rest-of row) = walking-hit p (y .m) T (length row₀) fit v h (sym (s .told) ∙ t) in
       record {
         long = v .long;
         size = s .long ∙ l;
         told = sym (ap some? q);
         wrote = λ _. v .filled h ∙ ap (λ (fs : List Row). fill (length row₀) (headOr [] fs)) (sym q);
-        placed = λ _. s .found t ∙ ap (λ (fs : List Row). headOr [] (ways o ok bonds2 n m2 (headOr [] fs))) (sym q);
+        placed = λ _. s .found t ∙ ap (λ (fs : List Row). headOr [] (ways o z ok y (headOr [] fs))) (sym q);
       }
     where
       rest-of : Row → List Row
-      rest-of row = matchings (λ s. p s && before (take m2 row) s) m2
+      rest-of row = matchings (λ s. p s && before (take (y .m) row) s) (y .m)
 
-  pub second-none : {len : ℕ} → len ≡ length row₀ → {more : Bool} {row ren : List ℕ} → Walking p m2 T len more row → more ≡ false → length ren ≡ length ren₀ → SecondFound o ok atoms2 bonds2 n m2 row₀ ren₀ false row ren
+  pub second-none : {len : ℕ} → len ≡ length row₀ → {more : Bool} {row ren : List ℕ} → Walking p (y .m) T len more row → more ≡ false → length ren ≡ length ren₀ → SecondFound o z ok atoms2 y row₀ ren₀ false row ren
   unfolding seconds
   second-none el {more} {row} {ren} v₀ h l =
-      let v : Walking p m2 T (length row₀) more row = subst (λ (k : ℕ). Walking p m2 T k more row) el v₀ in
-      let q : seconds o ok atoms2 bonds2 n m2 ≡ [] = walking-end p m2 T (length row₀) fit v h in
+      let v : Walking p (y .m) T (length row₀) more row = subst (λ (k : ℕ). Walking p (y .m) T k more row) el v₀ in
+      let q : seconds o z ok atoms2 y ≡ [] = walking-end p (y .m) T (length row₀) fit v h in
       record { long = v .long; size = l; told = sym (ap some? q); wrote = λ k. absurd (never false k refl); placed = λ k. absurd (never false k refl) }
 
--- the walk with a matrix that was drawn
-pub as-drawn : (bonds1 : List ℤ) (m1 : ℕ) (r1 : Row) {o ok : List ℕ} {atoms2 bonds2 : List ℤ} {n m2 : ℕ} {row ren : List ℕ} {r : Bool} {row′ ren′ : List ℕ} → o ≡ run (withBond bonds1 r1) 0 m1 (replicate cells 0)
-    → SecondFound o ok atoms2 bonds2 n m2 row ren r row′ ren′ → SecondFound (drawnMatrix bonds1 m1 r1) ok atoms2 bonds2 n m2 row ren r row′ ren′
+-- the walk with a matrix that was drawn, and a sum
+pub as-drawn : (x : Sketch) (r1 : Row) {o ok : List ℕ} {z : ℕ} {atoms2 : List ℤ} {y : Sketch} {row ren : List ℕ} {r : Bool} {row′ ren′ : List ℕ} → z ≡ sumOf x r1 → o ≡ run (withBond (x .bonds) r1) 0 (x .m) (x .base)
+    → SecondFound o z ok atoms2 y row ren r row′ ren′ → SecondFound (drawnMatrix x r1) (sumOf x r1) ok atoms2 y row ren r row′ ren′
 unfolding drawnMatrix
-as-drawn bonds1 m1 r1 e w = rw e at w
+as-drawn x r1 {o} {ok} {z} {atoms2} {y} {row} {ren} {r} {row′} {ren′} q e w =
+    subst (λ (k : ℕ). SecondFound (run (withBond (x .bonds) r1) 0 (x .m) (x .base)) k ok atoms2 y row ren r row′ ren′) q (subst (λ (l : List ℕ). SecondFound l z ok atoms2 y row ren r row′ ren′) e w)
 
-module _ (ok : List ℕ) (atoms1 bonds1 : List ℤ) (m1 : ℕ) (atoms2 bonds2 : List ℤ) (n m2 : ℕ) (row₀ row2₀ ren₀ : List ℕ) (fit : m1 ≤ length row₀) where
+module _ (ok : List ℕ) (atoms1 : List ℤ) (x : Sketch) (atoms2 : List ℤ) (y : Sketch) (row₀ row2₀ ren₀ : List ℕ) (fit : x .m ≤ length row₀) where
   abbrev p1 : Row → Bool
-  p1 = matchingOf atoms1 bonds1 n m1
+  p1 = matches atoms1 x
 
   abbrev T1 : Row → Bool
-  T1 = hasSecond ok bonds1 m1 atoms2 bonds2 n m2
+  T1 = hasSecond ok x atoms2 y
 
-  pub first-hit : {len : ℕ} → len ≡ length row₀ → {more : Bool} {row row2 ren : List ℕ} → Walking p1 m1 T1 len more row → more ≡ true → length row2 ≡ length row2₀ → length ren ≡ length ren₀
-      → {r : Bool} {row2′ ren′ : List ℕ} → SecondFound (drawnMatrix bonds1 m1 (take m1 row)) ok atoms2 bonds2 n m2 row2 ren r row2′ ren′ → r ≡ true
-      → FirstFound ok atoms1 bonds1 m1 atoms2 bonds2 n m2 row₀ row2₀ ren₀ true row row2′ ren′
+  pub first-hit : {len : ℕ} → len ≡ length row₀ → {more : Bool} {row row2 ren : List ℕ} → Walking p1 (x .m) T1 len more row → more ≡ true → length row2 ≡ length row2₀ → length ren ≡ length ren₀
+      → {r : Bool} {row2′ ren′ : List ℕ} → SecondFound (drawnMatrix x (take (x .m) row)) (sumOf x (take (x .m) row)) ok atoms2 y row2 ren r row2′ ren′ → r ≡ true
+      → FirstFound ok atoms1 x atoms2 y row₀ row2₀ ren₀ true row row2′ ren′
   unfolding firsts
   first-hit el {more} {row} {row2} {ren} v₀ h l2 l {r} {row2′} {ren′} s t =
-      let v : Walking p1 m1 T1 (length row₀) more row = subst (λ (k : ℕ). Walking p1 m1 T1 k more row) el v₀ in
-      let q : firsts ok atoms1 bonds1 m1 atoms2 bonds2 n m2 ≡ take m1 row ∷ passing T1 (rest-of row) = walking-hit p1 m1 T1 (length row₀) fit v h (sym (s .told) ∙ t) in
+      let v : Walking p1 (x .m) T1 (length row₀) more row = subst (λ (k : ℕ). Walking p1 (x .m) T1 k more row) el v₀ in
+      let q : firsts ok atoms1 x atoms2 y ≡ take (x .m) row ∷ passing T1 (rest-of row) = walking-hit p1 (x .m) T1 (length row₀) fit v h (sym (s .told) ∙ t) in
       record {
         long1 = v .long;
         long2 = s .long ∙ l2;
         size = s .size ∙ l;
         told = sym (ap some? q);
         wrote1 = λ _. v .filled h ∙ ap (λ (fs : List Row). fill (length row₀) (headOr [] fs)) (sym q);
-        wrote2 = λ _. s .wrote t ∙ ap (λ (k : ℕ). fill k (headOr [] (seconds (drawnMatrix bonds1 m1 (take m1 row)) ok atoms2 bonds2 n m2))) l2
-            ∙ ap (λ (fs : List Row). fill (length row2₀) (headOr [] (seconds (drawnMatrix bonds1 m1 (headOr [] fs)) ok atoms2 bonds2 n m2))) (sym q);
+        wrote2 = λ _. s .wrote t ∙ ap (λ (k : ℕ). fill k (headOr [] (secondsFor ok x atoms2 y (take (x .m) row)))) l2
+            ∙ ap (λ (fs : List Row). fill (length row2₀) (headOr [] (secondsFor ok x atoms2 y (headOr [] fs)))) (sym q);
         placed = λ _. s .placed t
-            ∙ ap (λ (fs : List Row). let o = drawnMatrix bonds1 m1 (headOr [] fs) in headOr [] (ways o ok bonds2 n m2 (headOr [] (seconds o ok atoms2 bonds2 n m2)))) (sym q);
+            ∙ ap (λ (fs : List Row). let r1 = headOr [] fs in headOr [] (ways (drawnMatrix x r1) (sumOf x r1) ok y (headOr [] (secondsFor ok x atoms2 y r1)))) (sym q);
       }
     where
       rest-of : Row → List Row
-      rest-of row = matchings (λ s. p1 s && before (take m1 row) s) m1
+      rest-of row = matchings (λ s. p1 s && before (take (x .m) row) s) (x .m)
 
-  pub first-none : {len : ℕ} → len ≡ length row₀ → {more : Bool} {row row2 ren : List ℕ} → Walking p1 m1 T1 len more row → more ≡ false → length row2 ≡ length row2₀ → length ren ≡ length ren₀ → FirstFound ok atoms1 bonds1 m1 atoms2 bonds2 n m2 row₀ row2₀ ren₀ false row row2 ren
+  pub first-none : {len : ℕ} → len ≡ length row₀ → {more : Bool} {row row2 ren : List ℕ} → Walking p1 (x .m) T1 len more row → more ≡ false → length row2 ≡ length row2₀ → length ren ≡ length ren₀ → FirstFound ok atoms1 x atoms2 y row₀ row2₀ ren₀ false row row2 ren
   unfolding firsts
   first-none el {more} {row} {row2} {ren} v₀ h l2 l =
-      let v : Walking p1 m1 T1 (length row₀) more row = subst (λ (k : ℕ). Walking p1 m1 T1 k more row) el v₀ in
-      let q : firsts ok atoms1 bonds1 m1 atoms2 bonds2 n m2 ≡ [] = walking-end p1 m1 T1 (length row₀) fit v h in
+      let v : Walking p1 (x .m) T1 (length row₀) more row = subst (λ (k : ℕ). Walking p1 (x .m) T1 k more row) el v₀ in
+      let q : firsts ok atoms1 x atoms2 y ≡ [] = walking-end p1 (x .m) T1 (length row₀) fit v h in
       record { long1 = v .long; long2 = l2; size = l; told = sym (ap some? q); wrote1 = λ k. absurd (never false k refl); wrote2 = λ k. absurd (never false k refl); placed = λ k. absurd (never false k refl) }

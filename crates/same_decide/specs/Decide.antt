@@ -3,10 +3,10 @@ use Prim.Native.Nat.{ℕ, _≤_}
 use mathlib.Core.Path.{_≡_}
 use mathlib.Core.Bool.{Bool, true, false}
 use mathlib.Core.List.{List, []}
-use lib.ListN.{length, take, replicate}
+use lib.ListN.{length, take}
 use lib.IntN.{ℤ}
-use Rattle.loops.specs.Loop.{run}
-use Rattle.table.specs.Valid.{Valid}
+use lib.Dec.{eqb}
+use Rattle.loops.specs.Loop.{pick, run}
 use Rattle.matching.specs.Enumeration.{Row, passing, matchings, fill, Reply, rowCall}
 use Rattle.matching.specs.Model.{some?, headOr}
 use Rattle.matching.specs.declared.Call.{Call}
@@ -15,29 +15,50 @@ use Rattle.matching.specs.declared.MatchingAnswer.the-variants.{Given, Absent, 
 use Rattle.table_graph.specs.Graph.{matchingOf}
 use Rattle.same_model.specs.Same.{maxSame}
 use Rattle.same_place.specs.Place.{goods}
-use Rattle.same_drawing.specs.Drawing.{cells, withBond}
+use Rattle.same_keys.specs.Keys.{Low, highest}
+use Rattle.same_drawing.specs.Drawing.{withBond, rowSum}
 
--- the matrix of the molecule settled by the row
-unfoldable pub drawnMatrix : List ℤ → ℕ → Row → List ℕ
-drawnMatrix bonds m r = run (withBond bonds r) 0 m (replicate cells 0)
+-- what is drawn of a molecule: its bonds, the keys of its atoms, and the matrix of their pairs to which orders are added
+pub record Sketch : Type 0 where
+  pub base : List ℕ
+  pub keys : List ℕ
+  pub bonds : List ℤ
+  pub n : ℕ
+  pub m : ℕ
 
--- the renumberings that carry the first's matrix onto the second molecule settled by the row s
-unfoldable pub ways : List ℕ → List ℕ → List ℤ → ℕ → ℕ → Row → List (List ℕ)
-ways o ok bonds2 n m2 s = goods o (drawnMatrix bonds2 m2 s) ok n [] n
+abbrev pub sketch : List ℕ → List ℕ → List ℤ → ℕ → ℕ → Sketch
+sketch base keys bonds n m = record { base = base; keys = keys; bonds = bonds; n = n; m = m }
+
+-- the matrix of the molecule settled by the row, and the sum of the row
+unfoldable pub drawnMatrix : Sketch → Row → List ℕ
+drawnMatrix y s = run (withBond (y .bonds) s) 0 (y .m) (y .base)
+
+abbrev pub sumOf : Sketch → Row → ℕ
+sumOf y s = rowSum (y .bonds) (y .m) (y .keys) s
+
+-- the renumberings that carry the first's matrix o onto the second molecule settled by the row s; none where its sum is not the first's, z
+unfoldable pub ways : List ℕ → ℕ → List ℕ → Sketch → Row → List (List ℕ)
+ways o z ok y s = pick (eqb z (sumOf y s)) (goods o (drawnMatrix y s) ok (y .n) [] (y .n)) []
 
 -- the rows of the second molecule with which there is one
-abbrev pub goesWith : List ℕ → List ℕ → List ℤ → ℕ → ℕ → Row → Bool
-goesWith o ok bonds2 n m2 s = some? (ways o ok bonds2 n m2 s)
+abbrev pub goesWith : List ℕ → ℕ → List ℕ → Sketch → Row → Bool
+goesWith o z ok y s = some? (ways o z ok y s)
 
-unfoldable pub seconds : List ℕ → List ℕ → List ℤ → List ℤ → ℕ → ℕ → List Row
-seconds o ok atoms2 bonds2 n m2 = passing (goesWith o ok bonds2 n m2) (matchings (matchingOf atoms2 bonds2 n m2) m2)
+abbrev pub matches : List ℤ → Sketch → Row → Bool
+matches atoms y = matchingOf atoms (y .bonds) (y .n) (y .m)
+
+unfoldable pub seconds : List ℕ → ℕ → List ℕ → List ℤ → Sketch → List Row
+seconds o z ok atoms2 y = passing (goesWith o z ok y) (matchings (matches atoms2 y) (y .m))
 
 -- the rows of the first molecule with which there is such a row
-abbrev pub hasSecond : List ℕ → List ℤ → ℕ → List ℤ → List ℤ → ℕ → ℕ → Row → Bool
-hasSecond ok bonds1 m1 atoms2 bonds2 n m2 r = some? (seconds (drawnMatrix bonds1 m1 r) ok atoms2 bonds2 n m2)
+abbrev pub secondsFor : List ℕ → Sketch → List ℤ → Sketch → Row → List Row
+secondsFor ok x atoms2 y r = seconds (drawnMatrix x r) (sumOf x r) ok atoms2 y
 
-unfoldable pub firsts : List ℕ → List ℤ → List ℤ → ℕ → List ℤ → List ℤ → ℕ → ℕ → List Row
-firsts ok atoms1 bonds1 m1 atoms2 bonds2 n m2 = passing (hasSecond ok bonds1 m1 atoms2 bonds2 n m2) (matchings (matchingOf atoms1 bonds1 n m1) m1)
+abbrev pub hasSecond : List ℕ → Sketch → List ℤ → Sketch → Row → Bool
+hasSecond ok x atoms2 y r = some? (secondsFor ok x atoms2 y r)
+
+unfoldable pub firsts : List ℕ → List ℤ → Sketch → List ℤ → Sketch → List Row
+firsts ok atoms1 x atoms2 y = passing (hasSecond ok x atoms2 y) (matchings (matches atoms1 x) (x .m))
 
 -- the answer is a matching
 abbrev pub handedOut : MatchingAnswer → Bool
@@ -51,27 +72,31 @@ pub record HandsOut (g : Reply) (r : Bool) (row : Row) : Type 0 where
   pub told : r ≡ handedOut (g .answer)
   pub wrote : row ≡ g .row
 
+-- numbers that are low enough for all sums
+pub record Bounded (base keys : List ℕ) : Type 0 where
+  pub low-base : Low base 40000
+  pub low-keys : Low keys (highest 33)
+
 -- n atoms, and a renumbering with a cell for each
-pub record Fewer (n : ℕ) (ren : List ℕ) : Type 0 where
+pub record Fewer (n : ℕ) (base keys ren : List ℕ) : Type 0 where
   pub few : n ≤ maxSame
   pub room : n ≤ length ren
+  pub bounded : Bounded base keys
 
 -- the walk over the second molecule's rows: whether one goes with the first's matrix; the first such, and its smallest renumbering
-pub record SecondFound (o ok : List ℕ) (atoms2 bonds2 : List ℤ) (n m2 : ℕ) (row ren : List ℕ) (r : Bool) (row′ ren′ : List ℕ) : Type 0 where
+pub record SecondFound (o : List ℕ) (z : ℕ) (ok : List ℕ) (atoms2 : List ℤ) (y : Sketch) (row ren : List ℕ) (r : Bool) (row′ ren′ : List ℕ) : Type 0 where
   pub long : length row′ ≡ length row
   pub size : length ren′ ≡ length ren
-  pub told : r ≡ some? (seconds o ok atoms2 bonds2 n m2)
-  pub wrote : r ≡ true → row′ ≡ fill (length row) (headOr [] (seconds o ok atoms2 bonds2 n m2))
-  pub placed : r ≡ true → take n ren′ ≡ headOr [] (ways o ok bonds2 n m2 (headOr [] (seconds o ok atoms2 bonds2 n m2)))
+  pub told : r ≡ some? (seconds o z ok atoms2 y)
+  pub wrote : r ≡ true → row′ ≡ fill (length row) (headOr [] (seconds o z ok atoms2 y))
+  pub placed : r ≡ true → take (y .n) ren′ ≡ headOr [] (ways o z ok y (headOr [] (seconds o z ok atoms2 y)))
 
 -- the walk over the first molecule's rows
-pub record FirstFound (ok : List ℕ) (atoms1 bonds1 : List ℤ) (m1 : ℕ) (atoms2 bonds2 : List ℤ) (n m2 : ℕ) (row1 row2 ren : List ℕ) (r : Bool) (row1′ row2′ ren′ : List ℕ) : Type 0 where
+pub record FirstFound (ok : List ℕ) (atoms1 : List ℤ) (x : Sketch) (atoms2 : List ℤ) (y : Sketch) (row1 row2 ren : List ℕ) (r : Bool) (row1′ row2′ ren′ : List ℕ) : Type 0 where
   pub long1 : length row1′ ≡ length row1
   pub long2 : length row2′ ≡ length row2
   pub size : length ren′ ≡ length ren
-  pub told : r ≡ some? (firsts ok atoms1 bonds1 m1 atoms2 bonds2 n m2)
-  pub wrote1 : r ≡ true → row1′ ≡ fill (length row1) (headOr [] (firsts ok atoms1 bonds1 m1 atoms2 bonds2 n m2))
-  pub wrote2 : r ≡ true → row2′ ≡ fill (length row2) (headOr [] (seconds (drawnMatrix bonds1 m1 (headOr [] (firsts ok atoms1 bonds1 m1 atoms2 bonds2 n m2))) ok atoms2 bonds2 n m2))
-  pub placed : r ≡ true → (let r1 = headOr [] (firsts ok atoms1 bonds1 m1 atoms2 bonds2 n m2) in
-      let o = drawnMatrix bonds1 m1 r1 in
-      take n ren′ ≡ headOr [] (ways o ok bonds2 n m2 (headOr [] (seconds o ok atoms2 bonds2 n m2))))
+  pub told : r ≡ some? (firsts ok atoms1 x atoms2 y)
+  pub wrote1 : r ≡ true → row1′ ≡ fill (length row1) (headOr [] (firsts ok atoms1 x atoms2 y))
+  pub wrote2 : r ≡ true → row2′ ≡ fill (length row2) (headOr [] (secondsFor ok x atoms2 y (headOr [] (firsts ok atoms1 x atoms2 y))))
+  pub placed : r ≡ true → (let r1 = headOr [] (firsts ok atoms1 x atoms2 y) in take (y .n) ren′ ≡ headOr [] (ways (drawnMatrix x r1) (sumOf x r1) ok y (headOr [] (secondsFor ok x atoms2 y r1))))

@@ -8,7 +8,7 @@ ghost use Rattle.table_graph.specs.Graph.{matchingOf};
 ghost use Rattle.same_model.specs.Same.{maxSame};
 ghost use Rattle.same_place.specs.Place.{Solved};
 ghost use Rattle.same_drawing.specs.Drawing.{Drawable};
-ghost use Rattle.same_decide.specs.Decide.{drawnMatrix, ways, HandsOut, Fewer, SecondFound, FirstFound};
+ghost use Rattle.same_decide.specs.Decide.{sketch, drawnMatrix, sumOf, ways, HandsOut, Bounded, Fewer, SecondFound, FirstFound};
 use kekule_answers::found_code;
 use matching::Call;
 use same_place::CELLS;
@@ -23,10 +23,13 @@ fn ask(c: Call, atoms: &[i32], bonds: &[i32], n: usize, m: usize, row: &mut [u8]
     found_code(kekule::call_valid(c, atoms, bonds, n, m, row)) == 0
 }
 
-// The smallest renumbering that carries the first's matrix onto the second molecule settled by the row.
+// The smallest renumbering that carries the first's matrix onto the second molecule settled by the row; none where the sums of the two rows differ.
 fn place(
     o1: &[u16; CELLS],
+    z1: u64,
     ok: &[u8; CELLS],
+    base2: &[u16; CELLS],
+    keys2: &[u64; SIDE],
     bonds2: &[i32],
     n: usize,
     m2: usize,
@@ -34,10 +37,13 @@ fn place(
     ren: &mut [u8; SIDE],
 ) -> bool
     requires { ⌜ Drawable (now bonds2) m2 (now row2) ⌝ }
-    requires { ⌜ Fewer n (now ren) ⌝ }
-    ensures { λ r. ⌜ Solved (ways (now (o1 .entry)) (now (ok .entry)) (now (bonds2 .entry)) n m2 (now (row2 .entry))) n 0 (now (ren .entry)) r (now (ren .exit)) ⌝ }
+    requires { ⌜ Fewer n (now base2) (now keys2) (now ren) ⌝ }
+    ensures { λ r. ⌜ Solved (ways (now (o1 .entry)) z1 (now (ok .entry)) (sketch (now (base2 .entry)) (now (keys2 .entry)) (now (bonds2 .entry)) n m2) (now (row2 .entry))) n 0 (now (ren .entry)) r (now (ren .exit)) ⌝ }
 {
-    let mut o2 = [0u16; CELLS];
+    if same_drawing::row_sum(bonds2, m2, keys2, row2) != z1 {
+        return false;
+    }
+    let mut o2 = *base2;
     same_drawing::fill_orders(bonds2, m2, row2, &mut o2);
     same_place::solve(o1, &o2, ok, n, ren, 0)
 }
@@ -45,7 +51,10 @@ fn place(
 // The first row of the second molecule that goes with the first's matrix, and the smallest renumbering for it.
 fn second_row(
     o1: &[u16; CELLS],
+    z1: u64,
     ok: &[u8; CELLS],
+    base2: &[u16; CELLS],
+    keys2: &[u64; SIDE],
     atoms2: &[i32],
     bonds2: &[i32],
     n: usize,
@@ -55,12 +64,12 @@ fn second_row(
 ) -> bool
     requires { ⌜ Valid (now atoms2) (now bonds2) n m2 ⌝ }
     requires { ⌜ m2 ≤ length (now row2) ⌝ }
-    requires { ⌜ Fewer n (now ren) ⌝ }
-    ensures { λ r. ⌜ SecondFound (now (o1 .entry)) (now (ok .entry)) (now (atoms2 .entry)) (now (bonds2 .entry)) n m2 (now (row2 .entry)) (now (ren .entry)) r (now (row2 .exit)) (now (ren .exit)) ⌝ }
+    requires { ⌜ Fewer n (now base2) (now keys2) (now ren) ⌝ }
+    ensures { λ r. ⌜ SecondFound (now (o1 .entry)) z1 (now (ok .entry)) (now (atoms2 .entry)) (sketch (now (base2 .entry)) (now (keys2 .entry)) (now (bonds2 .entry)) n m2) (now (row2 .entry)) (now (ren .entry)) r (now (row2 .exit)) (now (ren .exit)) ⌝ }
 {
     let mut more = ask(Call::First, atoms2, bonds2, n, m2, row2);
     while more {
-        if place(o1, ok, bonds2, n, m2, &row2[..m2], ren) {
+        if place(o1, z1, ok, base2, keys2, bonds2, n, m2, &row2[..m2], ren) {
             return true;
         }
         more = ask(Call::Next, atoms2, bonds2, n, m2, row2);
@@ -70,10 +79,14 @@ fn second_row(
 
 // The same for a row of the first molecule.
 fn second_for(
+    base1: &[u16; CELLS],
+    keys1: &[u64; SIDE],
     bonds1: &[i32],
     m1: usize,
     row1: &[u8],
     ok: &[u8; CELLS],
+    base2: &[u16; CELLS],
+    keys2: &[u64; SIDE],
     atoms2: &[i32],
     bonds2: &[i32],
     n: usize,
@@ -84,20 +97,26 @@ fn second_for(
     requires { ⌜ Drawable (now bonds1) m1 (now row1) ⌝ }
     requires { ⌜ Valid (now atoms2) (now bonds2) n m2 ⌝ }
     requires { ⌜ m2 ≤ length (now row2) ⌝ }
-    requires { ⌜ Fewer n (now ren) ⌝ }
-    ensures { λ r. ⌜ SecondFound (drawnMatrix (now (bonds1 .entry)) m1 (now (row1 .entry))) (now (ok .entry)) (now (atoms2 .entry)) (now (bonds2 .entry)) n m2 (now (row2 .entry)) (now (ren .entry)) r (now (row2 .exit)) (now (ren .exit)) ⌝ }
+    requires { ⌜ Fewer n (now base2) (now keys2) (now ren) ⌝ }
+    requires { ⌜ Bounded (now base1) (now keys1) ⌝ }
+    ensures { λ r. ⌜ SecondFound (drawnMatrix (sketch (now (base1 .entry)) (now (keys1 .entry)) (now (bonds1 .entry)) n m1) (now (row1 .entry))) (sumOf (sketch (now (base1 .entry)) (now (keys1 .entry)) (now (bonds1 .entry)) n m1) (now (row1 .entry))) (now (ok .entry)) (now (atoms2 .entry)) (sketch (now (base2 .entry)) (now (keys2 .entry)) (now (bonds2 .entry)) n m2) (now (row2 .entry)) (now (ren .entry)) r (now (row2 .exit)) (now (ren .exit)) ⌝ }
 {
-    let mut o1 = [0u16; CELLS];
+    let z1 = same_drawing::row_sum(bonds1, m1, keys1, row1);
+    let mut o1 = *base1;
     same_drawing::fill_orders(bonds1, m1, row1, &mut o1);
-    second_row(&o1, ok, atoms2, bonds2, n, m2, row2, ren)
+    second_row(&o1, z1, ok, base2, keys2, atoms2, bonds2, n, m2, row2, ren)
 }
 
 // internal: the first row of the first molecule with which some row of the second goes, the first such row, and the smallest renumbering.
 pub fn first_row(
     ok: &[u8; CELLS],
+    base1: &[u16; CELLS],
+    keys1: &[u64; SIDE],
     atoms1: &[i32],
     bonds1: &[i32],
     m1: usize,
+    base2: &[u16; CELLS],
+    keys2: &[u64; SIDE],
     atoms2: &[i32],
     bonds2: &[i32],
     n: usize,
@@ -109,16 +128,21 @@ pub fn first_row(
     requires { ⌜ Valid (now atoms1) (now bonds1) n m1 ⌝ }
     requires { ⌜ Valid (now atoms2) (now bonds2) n m2 ⌝ }
     requires { ⌜ (m1 ≤ length (now row1)) × (m2 ≤ length (now row2)) ⌝ }
-    requires { ⌜ Fewer n (now ren) ⌝ }
-    ensures { λ r. ⌜ FirstFound (now (ok .entry)) (now (atoms1 .entry)) (now (bonds1 .entry)) m1 (now (atoms2 .entry)) (now (bonds2 .entry)) n m2 (now (row1 .entry)) (now (row2 .entry)) (now (ren .entry)) r (now (row1 .exit)) (now (row2 .exit)) (now (ren .exit)) ⌝ }
+    requires { ⌜ Fewer n (now base2) (now keys2) (now ren) ⌝ }
+    requires { ⌜ Bounded (now base1) (now keys1) ⌝ }
+    ensures { λ r. ⌜ FirstFound (now (ok .entry)) (now (atoms1 .entry)) (sketch (now (base1 .entry)) (now (keys1 .entry)) (now (bonds1 .entry)) n m1) (now (atoms2 .entry)) (sketch (now (base2 .entry)) (now (keys2 .entry)) (now (bonds2 .entry)) n m2) (now (row1 .entry)) (now (row2 .entry)) (now (ren .entry)) r (now (row1 .exit)) (now (row2 .exit)) (now (ren .exit)) ⌝ }
 {
     let mut more = ask(Call::First, atoms1, bonds1, n, m1, row1);
     while more {
         if second_for(
+            base1,
+            keys1,
             bonds1,
             m1,
             &row1[..m1],
             ok,
+            base2,
+            keys2,
             atoms2,
             bonds2,
             n,

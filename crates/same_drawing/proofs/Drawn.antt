@@ -1,4 +1,4 @@
--- The matrices hold what they are to hold: the orders of the settled molecule, and which atoms match. Assumes nothing.
+-- The matrices hold what they are to hold: the orders of the settled molecule, and which atoms may go to one another. Assumes nothing.
 use mathlib.Core.Path.{_≡_, refl, sym, ap, _∙_}
 use mathlib.Core.Bool.{Bool, true, false, _&&_, _||_}
 use mathlib.Core.List.{List, _++_}
@@ -20,10 +20,10 @@ use Rattle.kinds.specs.Kind.{order}
 use Rattle.matching.specs.Enumeration.{Row}
 use Rattle.table_graph.specs.Graph.{flag}
 use Rattle.same_model.specs.Same.{maxSame, Molecule, settled, sameCells, joins, orderBetween}
-use Rattle.same_model.proofs.Totals.{run-total, total-same}
+use Rattle.same_model.proofs.Totals.{run-more, total-same}
 use Rattle.same_model.proofs.Orders.{between, order-total}
 use Rattle.same_place.specs.Place.{entry}
-use Rattle.same_drawing.specs.Drawing.{cells, settledOrder, drawnOrder, withBond, Ends, Drawable, atomsOnly, matchCell, Orders, Matches}
+use Rattle.same_drawing.specs.Drawing.{cells, settledOrder, drawnOrder, withBond, Ends, Drawable, mayGo, matchCell, Orders, Matches}
 use Rattle.same_drawing.proofs.Matrix.{adds, run-at}
 
 -- valid tables can be drawn
@@ -53,35 +53,32 @@ module _ (x : Molecule) (row : List ℕ) (v : Valid (x .atoms) (x .bonds) (x .n)
       go true = refl
       go false = refl
 
-  between-at : (a b k : ℕ) → k < x .m → between (settled x row) a b k
+  pub between-at : (a b k : ℕ) → k < x .m → between (settled x row) a b k
       ≡ pick ((eqb (end1 (x .bonds) k) a && eqb (end2 (x .bonds) k) b) || (eqb (end1 (x .bonds) k) b && eqb (end2 (x .bonds) k) a)) (drawnOrder (x .bonds) (getD row k 0) k) 0
   unfolding joins
   between-at a b k l = rw (first k, second k, order-at k l)
 
-  zeros-entry : (a b : ℕ) → a < maxSame → b < maxSame → entry (replicate cells 0) a b ≡ 0
-  zeros-entry a b la lb = getD-replicate {A = ℕ} cells (maxSame * a + b) 0 0 (omega arith)
-
-  pub orders-drawn : x .n ≤ maxSame → {o : List ℕ} → o ≡ run (withBond (x .bonds) row) 0 (x .m) (replicate cells 0) → Orders (settled x row) o
-  orders-drawn few q =
+  pub orders-drawn : x .n ≤ maxSame → (q : ℕ → ℕ → ℕ) (base : List ℕ) → length base ≡ cells → ((a b : ℕ) → a < x .n → b < x .n → entry base a b ≡ 4 * q a b) → Orders (settled x row) q (run (withBond (x .bonds) row) 0 (x .m) base)
+  orders-drawn few q base size based =
       record {
-        at = λ a b la lb.
-            ap (λ (t : List ℕ). entry t a b) q
-            ∙ run-at (x .bonds) a b la lb row 0 (x .m) (replicate cells 0) (length-replicate {A = ℕ} cells 0)
+        at = λ a b ka kb.
+            let la : a < maxSame = omega arith in
+            let lb : b < maxSame = omega arith in
+            run-at (x .bonds) a b la lb row 0 (x .m) base size
             (λ i u l. let f = bond-row v i (omega arith) in record { few = omega (arith, v .few-bonds); order = f .order; second = omega (arith, f .second) })
-            ∙ ap (run (λ (i s : ℕ). s + adds (x .bonds) a b la lb row i) 0 (x .m)) (zeros-entry a b la lb)
-            ∙ run-total (adds (x .bonds) a b la lb row) (x .m)
-            ∙ sym (order-total (settled x row) a b ∙ total-same (between (settled x row) a b) (adds (x .bonds) a b la lb row) (x .m) (between-at a b));
+            ∙ run-more (adds (x .bonds) a b la lb row) (x .m) (entry base a b)
+            ∙ (λ i. based a b ka kb i + sym (order-total (settled x row) a b ∙ total-same (between (settled x row) a b) (adds (x .bonds) a b la lb row) (x .m) (between-at a b)) i);
       }
 
--- the matrix of atoms that match
-pub matches-filled : (x y : Molecule) (rest : List ℕ) {ok : List ℕ} → ok ≡ upTo (matchCell (x .atoms) (y .atoms)) 0 (maxSame * x .n) ++ rest → Matches x y ok
+-- the matrix of atoms that may go to one another
+pub matches-filled : (x y : Molecule) (keys1 keys2 rest : List ℕ) {ok : List ℕ} → ok ≡ upTo (matchCell (x .atoms) keys1 (y .atoms) keys2) 0 (maxSame * x .n) ++ rest → Matches x y keys1 keys2 ok
 unfolding sameCells
-matches-filled x y rest {ok} e =
+matches-filled x y keys1 keys2 rest {ok} e =
     record {
       at = λ a d l h.
           let q : (maxSame * a + d) / maxSame ≡ a = mul-add-div {m = maxSame} (omega arith) a d ∙ ap (λ (k : ℕ). a + k) (div-eq-of-lt {n = d} {m = maxSame} h) ∙ add-zero a in
           let r : (maxSame * a + d) % maxSame ≡ d = mul-add-mod-self-left maxSame a d ∙ mod-eq-of-lt {n = d} {m = maxSame} h in
-          filled-at (matchCell (x .atoms) (y .atoms)) (maxSame * x .n) (maxSame * a + d) 0 ok rest e (omega arith)
-          ∙ ap (λ (k : ℕ). flag (sameCells (atomsOnly (x .atoms)) (atomsOnly (y .atoms)) k ((maxSame * a + d) % maxSame))) q
-          ∙ ap (λ (k : ℕ). flag (sameCells (atomsOnly (x .atoms)) (atomsOnly (y .atoms)) a k)) r;
+          filled-at (matchCell (x .atoms) keys1 (y .atoms) keys2) (maxSame * x .n) (maxSame * a + d) 0 ok rest e (omega arith)
+          ∙ ap (λ (k : ℕ). flag (mayGo (x .atoms) keys1 (y .atoms) keys2 k ((maxSame * a + d) % maxSame))) q
+          ∙ ap (λ (k : ℕ). flag (mayGo (x .atoms) keys1 (y .atoms) keys2 a k)) r;
     }

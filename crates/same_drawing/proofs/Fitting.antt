@@ -2,7 +2,7 @@
 use mathlib.Core.Path.{_≡_, refl, sym, ap, _∙_}
 use mathlib.Core.Bool.{Bool, true, false, _&&_, _||_, not}
 use mathlib.Core.List.{List, [], _∷_, _++_}
-use Prim.Native.Nat.{ℕ, zero, suc, _+_, _<_, _≤_}
+use Prim.Native.Nat.{ℕ, zero, suc, _+_, _*_, _<_, _≤_}
 use native.Mathlib.Omega.{arith}
 use native.Mathlib.Nat.{add-zero}
 use lib.Dec.{eqb, ltb}
@@ -20,12 +20,14 @@ use Rattle.matching.proofs.Graph.{and-intro, same-bool, never}
 use Rattle.table_graph.specs.Graph.{flag}
 use Rattle.kekule.proofs.Kekulized.{kekulized-valid}
 use Rattle.same_model.specs.Same.{maxSame, Molecule, settled, sameCells, joins, orderBetween, image, carries, words, apart, fits, fitting}
+use Rattle.same_model.specs.Redrawing.{Renumbering}
 use Rattle.same_model.proofs.Lists.{All, none, more, all-at}
-use Rattle.same_model.proofs.Words.{Word, words-all, apart-one, one-apart}
+use Rattle.same_model.proofs.Words.{Word, words-all, apart-one, one-apart, word-renumbers}
 use Rattle.same_model.proofs.Cells.{Alike, alike, cells-alike, alike-sym, alike-trans, alike-settled}
 use Rattle.same_model.proofs.Sameness.{Carried, carried-facts, facts-carried}
 use Rattle.same_model.proofs.Totals.{total, total-same, total-none}
 use Rattle.same_model.proofs.Orders.{between, order-total}
+use Rattle.same_model.proofs.Single.{orders-low}
 use Rattle.same_place.specs.Place.{entry, beside, placeable, goodFrom, goods}
 use Rattle.same_drawing.specs.Drawing.{Orders, Matches}
 
@@ -40,7 +42,7 @@ passing-both p q (r ∷ l) = go (q r) (passing-both p q l)
     go false e = e
 
 -- tests that agree on what stands in the list
-passing-agree : {P : Row → Type 0} (p q : Row → Bool) {l : List Row} → ((t : Row) → P t → p t ≡ q t) → All P l → passing p l ≡ passing q l
+pub passing-agree : {P : Row → Type 0} (p q : Row → Bool) {l : List Row} → ((t : Row) → P t → p t ≡ q t) → All P l → passing p l ≡ passing q l
 unfolding passing
 passing-agree p q h none = refl
 passing-agree p q h (more {b = t} {l = l} w a) = ap (λ (z : Bool). consIf z t (passing p l)) (h t w) ∙ ap (consIf (q t) t) (passing-agree p q h a)
@@ -104,8 +106,14 @@ not-back : (z : Bool) → not z ≡ true → z ≡ false
 not-back true h = absurd (never false h refl)
 not-back false h = refl
 
+-- the keys of atoms and of pairs are kept by a renumbering
+pub record Finer (n : ℕ) (keys1 keys2 : List ℕ) (q1 q2 : ℕ → ℕ → ℕ) (t : List ℕ) : Type 0 where
+  pub keys : (a : ℕ) → a < n → getD keys1 a 0 ≡ getD keys2 (image t a) 0
+  pub pairs : (a b : ℕ) → a < n → b < n → q1 a b ≡ q2 (image t a) (image t b)
+
 module _ (x y : Molecule) (r s : Row) (v1 : Valid (x .atoms) (x .bonds) (x .n) (x .m)) (e1 : Enough (x .atoms) (x .bonds)) (v2 : Valid (y .atoms) (y .bonds) (y .n) (y .m)) (e2 : Enough (y .atoms) (y .bonds))
-    (few : x .n ≤ maxSame) (counts : x .n ≡ y .n) {o1 o2 ok : List ℕ} (w1 : Orders (settled x r) o1) (w2 : Orders (settled y s) o2) (m : Matches x y ok) where
+    (few : x .n ≤ maxSame) (counts : x .n ≡ y .n) {o1 o2 ok keys1 keys2 : List ℕ} {q1 q2 : ℕ → ℕ → ℕ} (w1 : Orders (settled x r) q1 o1) (w2 : Orders (settled y s) q2 o2) (m : Matches x y keys1 keys2 ok)
+    (finer : (t : List ℕ) → Renumbering (x .n) t → fits x y r s t ≡ true → Finer (x .n) keys1 keys2 q1 q2 t) where
   -- one renumbering: the test of the search says what P4 says
   module _ (t : List ℕ) (w : Word (x .n) (x .n) t) where
     size : length t ≡ x .n
@@ -120,10 +128,10 @@ module _ (x y : Molecule) (r s : Row) (v1 : Valid (x .atoms) (x .bonds) (x .n) (
         (λ h. cells-alike x y a (image t a) (alike-trans (alike-settled x r a) (alike-trans (alike (settled x r) (settled y s) a (image t a) h) (alike-sym (alike-settled y s (image t a))))))
         (λ h. cells-alike (settled x r) (settled y s) a (image t a) (alike-trans (alike-sym (alike-settled x r a)) (alike-trans (alike x y a (image t a) h) (alike-settled y s (image t a)))))
 
-    entry1 : (a b : ℕ) → a < x .n → b < x .n → entry o1 a b ≡ orderBetween (settled x r) a b
-    entry1 a b la lb = w1 .at a b (omega arith) (omega arith)
+    entry1 : (a b : ℕ) → a < x .n → b < x .n → entry o1 a b ≡ 4 * q1 a b + orderBetween (settled x r) a b
+    entry1 a b la lb = w1 .at a b la lb
 
-    entry2 : (a b : ℕ) → a < x .n → b < x .n → entry o2 (image t a) (image t b) ≡ orderBetween (settled y s) (image t a) (image t b)
+    entry2 : (a b : ℕ) → a < x .n → b < x .n → entry o2 (image t a) (image t b) ≡ 4 * q2 (image t a) (image t b) + orderBetween (settled y s) (image t a) (image t b)
     entry2 a b la lb = let i = low a la in let j = low b lb in w2 .at (image t a) (image t b) (omega arith) (omega arith)
 
     -- what P4 asks, the search finds
@@ -136,14 +144,18 @@ module _ (x y : Molecule) (r s : Row) (v1 : Valid (x .atoms) (x .bonds) (x .n) (
         let la : a < x .n = omega arith in
         let k = m .at a (image t a) la (let i = low a la in omega arith) in
         and-intro (eqb (entry ok a (image t a)) 1) (each (beside o1 o2 t a (image t a)) 0 a)
-        (eq-eqb (entry ok a (image t a)) 1 (k ∙ ap flag (sym (cells-settled a) ∙ c .cells a la)))
+        (eq-eqb (entry ok a (image t a)) 1
+        (k ∙ ap flag (and-intro (eqb (getD keys1 a 0) (getD keys2 (image t a) 0)) (sameCells x y a (image t a)) (eq-eqb (getD keys1 a 0) (getD keys2 (image t a) 0) (f .keys a la)) (sym (cells-settled a) ∙ c .cells a la))))
         (each-all (beside o1 o2 t a (image t a)) a
         (λ b i.
         let lb : b < x .n = omega arith in
         and-intro (not (eqb (image t b) (image t a))) (eqb (entry o1 a b) (entry o2 (image t a) (image t b)))
         (ap not (ne-eqb (image t b) (image t a) (λ q. let z : b ≡ a = apart-one t (and-left (apart t) (fits x y r s t) h) b a (omega arith) l q in omega arith)))
-        (eq-eqb (entry o1 a b) (entry o2 (image t a) (image t b)) (entry1 a b la lb ∙ c .orders a b la lb ∙ sym (entry2 a b la lb))))))
+        (eq-eqb (entry o1 a b) (entry o2 (image t a) (image t b)) (entry1 a b la lb ∙ (λ i. 4 * f .pairs a b la lb i + c .orders a b la lb i) ∙ sym (entry2 a b la lb))))))
       where
+        f : Finer (x .n) keys1 keys2 q1 q2 t
+        f = finer t (word-renumbers w (and-left (apart t) (fits x y r s t) h)) (and-right (apart t) (fits x y r s t) h)
+
         c : Carried (settled x r) (settled y s) t
         c = carried-facts (settled x r) (settled y s) t (and-right (apart t) (fits x y r s t) h)
 
@@ -156,7 +168,7 @@ module _ (x y : Molecule) (r s : Row) (v1 : Valid (x .atoms) (x .bonds) (x .n) (
       unfolding placeable
       matched a l =
           let k = m .at a (image t a) l (let i = low a l in omega arith) in
-          flag-one (sameCells x y a (image t a)) (sym k ∙ eqb-true (entry ok a (image t a)) 1 (and-left (eqb (entry ok a (image t a)) 1) (each (beside o1 o2 t a (image t a)) 0 a) (each-placed a l)))
+          and-right (eqb (getD keys1 a 0) (getD keys2 (image t a) 0)) (sameCells x y a (image t a)) (flag-one (eqb (getD keys1 a 0) (getD keys2 (image t a) 0) && sameCells x y a (image t a)) (sym k ∙ eqb-true (entry ok a (image t a)) 1 (and-left (eqb (entry ok a (image t a)) 1) (each (beside o1 o2 t a (image t a)) 0 a) (each-placed a l))))
 
       beside-at : (a b : ℕ) → a < x .n → b < a → beside o1 o2 t a (image t a) b ≡ true
       unfolding placeable
@@ -168,7 +180,10 @@ module _ (x y : Molecule) (r s : Row) (v1 : Valid (x .atoms) (x .bonds) (x .n) (
       below : (a b : ℕ) → a < x .n → b < a → orderBetween (settled x r) a b ≡ orderBetween (settled y s) (image t a) (image t b)
       below a b l i =
           let lb : b < x .n = omega arith in
-          sym (entry1 a b l lb) ∙ eqb-true (entry o1 a b) (entry o2 (image t a) (image t b)) (and-right (not (eqb (image t b) (image t a))) (eqb (entry o1 a b) (entry o2 (image t a) (image t b))) (beside-at a b l i)) ∙ entry2 a b l lb
+          let u = orders-low (settled x r) (kekulized-valid v1 e1 r) a b in
+          let z = orders-low (settled y s) (kekulized-valid v2 e2 s) (image t a) (image t b) in
+          let q = sym (entry1 a b l lb) ∙ eqb-true (entry o1 a b) (entry o2 (image t a) (image t b)) (and-right (not (eqb (image t b) (image t a))) (eqb (entry o1 a b) (entry o2 (image t a) (image t b))) (beside-at a b l i)) ∙ entry2 a b l lb in
+          omega arith
 
       orders : (a b : ℕ) → a < x .n → b < x .n → orderBetween (settled x r) a b ≡ orderBetween (settled y s) (image t a) (image t b)
       orders a b la lb = go (ltb b a) (ltb a b) refl refl

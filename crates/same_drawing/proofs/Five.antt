@@ -36,3 +36,11 @@ chosen-order k c e = sym (ap (λ (z : Bool). pick z 2 (order k)) (eq-eqb c 1 e))
 
 pub other-order : (k c : ℕ) {r : ℕ} → (c ≡ 1 → ⊥) → r ≡ order k → r ≡ settledOrder k c
 other-order k c h e = e ∙ sym (ap (λ (z : Bool). pick z 2 (order k)) (ne-eqb c 1 h))
+
+-- keys first, then the cells
+module _ (u w : ℕ) (t l : List ℤ) (a b : ℕ) where
+  pub other-key : (u ≡ w → ⊥) → false ≡ (eqb u w && sameCells (atomsOnly t) (atomsOnly l) a b)
+  other-key h = sym (ap (λ (z : Bool). z && sameCells (atomsOnly t) (atomsOnly l) a b) (ne-eqb u w h))
+
+  pub same-key : {r : Bool} → u ≡ w → r ≡ sameCells (atomsOnly t) (atomsOnly l) a b → r ≡ (eqb u w && sameCells (atomsOnly t) (atomsOnly l) a b)
+  same-key e h = h ∙ sym (ap (λ (z : Bool). z && sameCells (atomsOnly t) (atomsOnly l) a b) (eq-eqb u w e))

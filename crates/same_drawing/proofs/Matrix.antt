@@ -19,7 +19,9 @@ use Rattle.table_graph.specs.Built.{bump}
 use Rattle.kinds.proofs.Kind.{order-small}
 use Rattle.same_model.specs.Same.{maxSame}
 use Rattle.same_place.specs.Place.{entry}
-use Rattle.same_drawing.specs.Drawing.{cells, settledOrder, drawnOrder, withOrder, withBond, Low, Ends, Drawable}
+use Rattle.same_keys.specs.Keys.{Low}
+use Rattle.same_keys.proofs.Low.{bump-at, bump-low, low-more}
+use Rattle.same_drawing.specs.Drawing.{cells, settledOrder, drawnOrder, withOrder, withBond, Ends, Drawable}
 
 pub drawn-small : (k c : ℕ) → settledOrder k c ≤ 3
 drawn-small k c = go (eqb c 1)
@@ -27,31 +29,6 @@ drawn-small k c = go (eqb c 1)
     go : (z : Bool) → pick z 2 (order k) ≤ 3
     go true = omega arith
     go false = order-small k
-
--- a number of a list raised
-bump-at : (s : List ℕ) (e x i : ℕ) → i < length s → getD (bump s e x) i 0 ≡ getD s i 0 + pick (eqb e i) x 0
-bump-at s e x i l = go (eqb e i) refl
-  where
-    go : (y : Bool) → eqb e i ≡ y → getD (bump s e x) i 0 ≡ getD s i 0 + pick y x 0
-    go true h = let q : e ≡ i = eqb-true e i h in rw q (getD-set-same s i (getD s i 0 + x) 0 l)
-    go false h = let n = eqb-false e i h in getD-set-other s e i (getD s e 0 + x) 0 (λ q. n (sym q)) ∙ sym (add-zero (getD s i 0))
-
--- it is low as it was, or by as much higher
-pub bump-low : (s : List ℕ) (e x h : ℕ) → Low s h → Low (bump s e x) (h + x)
-bump-low s e x h w = record { at = λ i. go i (ltb i (length s)) refl }
-  where
-    part : (i : ℕ) (y : Bool) → getD s i 0 + pick y x 0 ≤ h + x
-    part i true = omega (arith, w .at i)
-    part i false = omega (arith, w .at i)
-
-    go : (i : ℕ) (z : Bool) → ltb i (length s) ≡ z → getD (bump s e x) i 0 ≤ h + x
-    go i true q = rw (bump-at s e x i (ltb-true i (length s) q)) (part i (eqb e i))
-    go i false q =
-        let l : length (bump s e x) ≤ i = simp length-set (ltb-false i (length s) q) in
-        omega (arith, List·getD-eq-default (bump s e x) 0 l)
-
-pub low-more : {o : List ℕ} {h k : ℕ} → Low o h → h ≤ k → Low o k
-low-more w l = record { at = λ i. omega (arith, w .at i) }
 
 module _ (bonds : List ℤ) (c k : ℕ) (o : List ℕ) where
   pub with-length : length (withOrder bonds c k o) ≡ length o
@@ -63,13 +40,6 @@ module _ (bonds : List ℤ) (c k : ℕ) (o : List ℕ) where
   with-low h w =
       let x = drawnOrder bonds c k in
       low-more (bump-low (bump o (maxSame * end1 bonds k + end2 bonds k) x) (maxSame * end2 bonds k + end1 bonds k) x (h + x) (bump-low o (maxSame * end1 bonds k + end2 bonds k) x h w)) (omega (arith, drawn-small (kind bonds k) c))
-
-pub zeros-low : (m h : ℕ) → Low (replicate m 0) h
-zeros-low m h = record { at = λ i. go i (ltb i m) refl }
-  where
-    go : (i : ℕ) (z : Bool) → ltb i m ≡ z → getD (replicate {A = ℕ} m 0) i 0 ≤ h
-    go i true e = omega (arith, getD-replicate {A = ℕ} m i 0 0 (ltb-true i m e))
-    go i false e = omega (arith, List·getD-eq-default (replicate {A = ℕ} m 0) 0 {n = i} (omega (arith, length-replicate {A = ℕ} m 0, ltb-false i m e)))
 
 -- two places of a matrix are one exactly if row and column are
 pub same-place : (e f a b : ℕ) → f < maxSame → b < maxSame → eqb (maxSame * e + f) (maxSame * a + b) ≡ (eqb e a && eqb f b)
@@ -129,22 +99,22 @@ module _ (bonds : List ℤ) (a b : ℕ) (la : a < maxSame) (lb : b < maxSame) wh
       ∙ ap (run (λ (i s : ℕ). s + adds row i) (suc k) j) (with-at row k o l (h k (omega arith) (omega arith)))
 
 -- the loop over the bonds stands at k
-pub record Drawing (bonds : List ℤ) (row : List ℕ) (m k : ℕ) (o : List ℕ) : Type 0 where
-  pub ran : Ran (withBond bonds row) (replicate cells 0) m k o
-  pub low : Low o (6 * k)
+pub record Drawing (bonds : List ℤ) (row : List ℕ) (o₀ : List ℕ) (m k : ℕ) (o : List ℕ) : Type 0 where
+  pub ran : Ran (withBond bonds row) o₀ m k o
+  pub low : Low o (40000 + 6 * k)
 
-pub drawing-start : {bonds : List ℤ} {row : List ℕ} {m : ℕ} {o : List ℕ} → o ≡ replicate cells 0 → Drawing bonds row m 0 o
-drawing-start e = rw e record { ran = ran-start; low = zeros-low cells (6 * 0) }
+pub drawing-start : {bonds : List ℤ} {row : List ℕ} {m : ℕ} {o : List ℕ} → Low o 40000 → Drawing bonds row o m 0 o
+drawing-start w = record { ran = ran-start; low = low-more w (omega arith) }
 
-module _ {bonds : List ℤ} {row : List ℕ} {m k : ℕ} {o : List ℕ} (w : Drawing bonds row m k o) where
-  pub drawing-step : k < m → {o′ : List ℕ} → o′ ≡ withOrder bonds (getD row k 0) k o → Drawing bonds row m (k + 1) o′
+module _ {bonds : List ℤ} {row o₀ : List ℕ} {m k : ℕ} {o : List ℕ} (w : Drawing bonds row o₀ m k o) where
+  pub drawing-step : k < m → {o′ : List ℕ} → o′ ≡ withOrder bonds (getD row k 0) k o → Drawing bonds row o₀ m (k + 1) o′
   drawing-step l {o′} e =
       record {
         ran = ran-step (w .ran) o′ l e;
-        low = rw e (low-more (with-low bonds (getD row k 0) k o (6 * k) (w .low)) (omega arith));
+        low = rw e (low-more (with-low bonds (getD row k 0) k o (40000 + 6 * k) (w .low)) (omega arith));
       }
 
-  pub drawing-end : m ≤ k → o ≡ run (withBond bonds row) 0 m (replicate cells 0)
+  pub drawing-end : m ≤ k → o ≡ run (withBond bonds row) 0 m o₀
   drawing-end h = ran-end (w .ran) h
 
 -- both places of a bond

@@ -1,15 +1,16 @@
-// A molecule settled by a row as a matrix of orders, and which atoms of two molecules match. Every function here is internal.
+// A molecule settled by a row as a matrix of orders, and which atoms of two molecules may go to one another. Every function here is internal.
 ghost use mathlib.Core.Path.{_≡_};
 ghost use mathlib.Core.List.{_++_};
 ghost use Prim.Native.Nat.{_+_, _*_, _<_, _≤_};
-ghost use lib.ListN.{drop, replicate, length};
+ghost use lib.ListN.{drop, length, getD};
 ghost use Rattle.loops.specs.Loop.{run, upTo};
 ghost use Rattle.table.specs.Limits.{maxAtoms, atomCells};
 ghost use Rattle.table_graph.specs.Graph.{flag};
 ghost use Rattle.table_graph.specs.Built.{bump};
 ghost use Rattle.table.specs.Cells.{atomCell};
 ghost use Rattle.same_model.specs.Same.{maxSame, eqZ, sameCells};
-ghost use Rattle.same_drawing.specs.Drawing.{cells, settledOrder, withOrder, withBond, Low, Ends, Drawable, atomsOnly, matchCell};
+ghost use Rattle.same_keys.specs.Keys.{mixed, Low, highest};
+ghost use Rattle.same_drawing.specs.Drawing.{cells, settledOrder, withOrder, withBond, bondWeight, rowSum, Ends, Drawable, atomsOnly, mayGo, matchCell};
 use ids::AtomId;
 use ids::BondId;
 use same_place::CELLS;
@@ -56,17 +57,54 @@ fn add_order(bonds: &[i32], k: BondId, chosen: u8, o: &mut [u16; CELLS])
     raise(o, second, first, x);
 }
 
-// internal: the orders between the atoms of a molecule settled by the row, into a matrix of zeros.
+// internal: the orders between the atoms of a molecule settled by the row, added to a matrix.
 pub fn fill_orders(bonds: &[i32], m: usize, row: &[u8], o: &mut [u16; CELLS])
     requires { ⌜ Drawable (now bonds) m (now row) ⌝ }
-    requires { ⌜ now o ≡ replicate cells 0 ⌝ }
-    ensures { λ _. ⌜ now (o .exit) ≡ run (withBond (now (bonds .entry)) (now (row .entry))) 0 m (replicate cells 0) ⌝ }
+    requires { ⌜ Low (now o) 40000 ⌝ }
+    ensures { λ _. ⌜ now (o .exit) ≡ run (withBond (now (bonds .entry)) (now (row .entry))) 0 m (now (o .entry)) ⌝ }
 {
     let mut k = 0;
     while k < m {
         add_order(bonds, BondId(k), row[k], o);
         k += 1;
     }
+}
+
+// The keys of two atoms, mixed, times a small number.
+fn pair_weight(keys: &[u64; SIDE], a: usize, b: usize, x: u16) -> u64
+    requires { ⌜ (a < maxSame) × (b < maxSame) × (x ≤ 3) ⌝ }
+    requires { ⌜ Low (now keys) (highest 33) ⌝ }
+    ensures { λ r. ⌜ r ≡ x * mixed (getD (now (keys .entry)) a 0 + getD (now (keys .entry)) b 0) ⌝ }
+{
+    x as u64 * same_keys::mix(keys[a] + keys[b])
+}
+
+// What a bond adds to the sum of a row: its order after settling, times the keys of its ends, mixed.
+fn bond_weight(bonds: &[i32], k: BondId, chosen: u8, keys: &[u64; SIDE]) -> u64
+    requires { ⌜ Ends (now bonds) (k .0) ⌝ }
+    requires { ⌜ Low (now keys) (highest 33) ⌝ }
+    ensures { λ r. ⌜ r ≡ bondWeight (now (bonds .entry)) (now (keys .entry)) chosen (k .0) ⌝ }
+{
+    let bond = row::get_bond(bonds, k);
+    let first = cell::number(bond.first);
+    let second = cell::number(bond.second);
+    let x = drawn_order(cell::number(bond.kind), chosen);
+    pair_weight(keys, first, second, x)
+}
+
+// internal: the sum of a row over all bonds.
+pub fn row_sum(bonds: &[i32], m: usize, keys: &[u64; SIDE], row: &[u8]) -> u64
+    requires { ⌜ Drawable (now bonds) m (now row) ⌝ }
+    requires { ⌜ Low (now keys) (highest 33) ⌝ }
+    ensures { λ r. ⌜ r ≡ rowSum (now (bonds .entry)) m (now (keys .entry)) (now (row .entry)) ⌝ }
+{
+    let mut sum = 0u64;
+    let mut k = 0;
+    while k < m {
+        sum += bond_weight(bonds, BondId(k), row[k], keys);
+        k += 1;
+    }
+    sum
 }
 
 // Whether a cell of an atom is that of another.
@@ -100,15 +138,49 @@ fn flag(b: bool) -> u8
     if b { 1 } else { 0 }
 }
 
-// internal: 1 for each pair of atoms that match, into the first n rows of a matrix.
-pub fn fill_matches(atoms1: &[i32], atoms2: &[i32], n: usize, ok: &mut [u8; CELLS])
+// Whether an atom may go to another: their keys are equal, and their cells match.
+fn may_go(
+    atoms1: &[i32],
+    keys1: &[u64; SIDE],
+    a: AtomId,
+    atoms2: &[i32],
+    keys2: &[u64; SIDE],
+    b: AtomId,
+) -> bool
+    requires { ⌜ (a .0 < maxSame) × (b .0 < maxSame) ⌝ }
+    ensures { λ r. ⌜ r ≡ mayGo (now (atoms1 .entry)) (now (keys1 .entry)) (now (atoms2 .entry)) (now (keys2 .entry)) (a .0) (b .0) ⌝ }
+{
+    let i = a.0;
+    let j = b.0;
+    if keys1[i] != keys2[j] {
+        return false;
+    }
+    same_cells(atoms1, a, atoms2, b)
+}
+
+// internal: 1 for each pair of atoms that may go to one another, into the first n rows of a matrix.
+pub fn fill_matches(
+    atoms1: &[i32],
+    keys1: &[u64; SIDE],
+    atoms2: &[i32],
+    keys2: &[u64; SIDE],
+    n: usize,
+    ok: &mut [u8; CELLS],
+)
     requires { ⌜ (n ≤ maxSame) × (cells ≤ length (now ok)) ⌝ }
-    ensures { λ _. ⌜ now (ok .exit) ≡ upTo (matchCell (now (atoms1 .entry)) (now (atoms2 .entry))) 0 (maxSame * n) ++ drop (maxSame * n) (now (ok .entry)) ⌝ }
+    ensures { λ _. ⌜ now (ok .exit) ≡ upTo (matchCell (now (atoms1 .entry)) (now (keys1 .entry)) (now (atoms2 .entry)) (now (keys2 .entry))) 0 (maxSame * n) ++ drop (maxSame * n) (now (ok .entry)) ⌝ }
 {
     let end = SIDE * n;
     let mut i = 0;
     while i < end {
-        ok[i] = flag(same_cells(atoms1, AtomId(i / SIDE), atoms2, AtomId(i % SIDE)));
+        ok[i] = flag(may_go(
+            atoms1,
+            keys1,
+            AtomId(i / SIDE),
+            atoms2,
+            keys2,
+            AtomId(i % SIDE),
+        ));
         i += 1;
     }
 }

@@ -6,5 +6,6 @@ pub mod Sameness
 pub mod Relation
 pub mod Totals
 pub mod Orders
+pub mod Single
 pub mod Settling
 pub mod Redrawn

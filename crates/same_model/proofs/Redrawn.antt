@@ -115,3 +115,7 @@ module _ {x y : Molecule} (w : Same x y) (v1 : Valid (x .atoms) (x .bonds) (x .n
         sums = λ a l.
             sym (settled-sum x (w .row1) (w .placement1) v1 e1 a l) ∙ same-sums a l ∙ settled-sum y (w .row2) (w .placement2) v2 e2 (image t a) (below a l);
       }
+
+  pub redrawn-by : same-redrawing .renumbering ≡ t
+  unfolding same-redrawing
+  redrawn-by = refl

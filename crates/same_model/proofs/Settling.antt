@@ -158,7 +158,7 @@ module _ (x : Molecule) (r : Row) (p : Placement x r) (v : Valid (x .atoms) (x .
   abbrev grows : ℕ → ℕ → ℕ → ℕ
   grows a b k = pick (setOf r k && joins x a b k) 1 0
 
-  order-more : (a b : ℕ) → orderBetween (settled x r) a b ≡ orderBetween x a b + total (grows a b) (x .m)
+  pub order-more : (a b : ℕ) → orderBetween (settled x r) a b ≡ orderBetween x a b + total (grows a b) (x .m)
   order-more a b =
       order-total (settled x r) a b
       ∙ total-same (between (settled x r) a b) (λ k. between x a b k + grows a b k) (x .m)

@@ -20,10 +20,13 @@ run-last g k zero s = ap (λ (j : ℕ). s + g j) (sym (add-zero k))
 run-last g k (suc m) s = let e : k + suc m ≡ suc k + m = omega arith in rw e (run-last g (suc k) m (s + g k))
 
 -- a loop that adds up
-pub run-total : (g : ℕ → ℕ) (m : ℕ) → run (λ (j s : ℕ). s + g j) 0 m 0 ≡ total g m
+pub run-more : (g : ℕ → ℕ) (m s : ℕ) → run (λ (j s : ℕ). s + g j) 0 m s ≡ s + total g m
 unfolding run total
-run-total g zero = refl
-run-total g (suc m) = let e : 0 + m ≡ m = omega arith in run-last g 0 m 0 ∙ rw (e, run-total g m)
+run-more g zero s = sym (add-zero s)
+run-more g (suc m) s = let e : 0 + m ≡ m = omega arith in run-last g 0 m s ∙ rw e (let ih = run-more g m s in omega arith)
+
+pub run-total : (g : ℕ → ℕ) (m : ℕ) → run (λ (j s : ℕ). s + g j) 0 m 0 ≡ total g m
+run-total g m = run-more g m 0 ∙ omega arith
 
 pub total-same : (f g : ℕ → ℕ) (n : ℕ) → ((a : ℕ) → a < n → f a ≡ g a) → total f n ≡ total g n
 unfolding total
@@ -57,6 +60,13 @@ total-one c o (suc n) l = go (eqb c n) refl (λ i. total-one c o n i)
         let t : total (λ b. pick (eqb c b) o 0) n ≡ 0 = total-none (λ b. pick (eqb c b) o 0) n (λ a i. ap (λ (z : Bool). pick z o 0) (ne-eqb c a (λ k. omega arith))) in
         omega arith
     go false e ih = let q = eqb-false c n e in let t = ih (omega arith) in omega arith
+
+pub total-at : (c n : ℕ) (g : ℕ → ℕ) → c < n → total (λ b. pick (eqb c b) (g b) 0) n ≡ g c
+total-at c n g l = total-same (λ b. pick (eqb c b) (g b) 0) (λ b. pick (eqb c b) (g c) 0) n (λ b i. go b (eqb c b) refl) ∙ total-one c (g c) n l
+  where
+    go : (b : ℕ) (z : Bool) → eqb c b ≡ z → pick z (g b) 0 ≡ pick z (g c) 0
+    go b true e = ap g (sym (eqb-true c b e))
+    go b false e = refl
 
 -- sums in the other order
 pub total-exchange : (F : ℕ → ℕ → ℕ) (n m : ℕ) → total (λ b. total (λ k. F b k) m) n ≡ total (λ k. total (λ b. F b k) n) m

@@ -71,18 +71,19 @@ one-apart (d ∷ t) f =
         absurd (omega arith)
     go false q = refl
 
+-- n numbers below n, none twice
+pub word-renumbers : {n : ℕ} {t : List ℕ} → Word n n t → apart t ≡ true → Renumbering n t
+word-renumbers {n} {t} w h =
+    let s : length t ≡ n = w .size in
+    record {
+      size = s;
+      below = λ a l. all-at 0 (w .below) a (omega arith);
+      one = λ a b l k e. apart-one t h a b (omega arith) (omega arith) e;
+    }
+
 -- the list
 pub renumberings-all : (n : ℕ) → All (Renumbering n) (renumberings n)
-renumberings-all n = all-imp turn (all-passing apart (words-all n n))
-  where
-    turn : (t : List ℕ) → Word n n t × (apart t ≡ true) → Renumbering n t
-    turn t w =
-        let s : length t ≡ n = w .0 .size in
-        record {
-          size = s;
-          below = λ a l. all-at 0 (w .0 .below) a (omega arith);
-          one = λ a b l k e. apart-one t (w .1) a b (omega arith) (omega arith) e;
-        }
+renumberings-all n = all-imp (λ t w. word-renumbers (w .0) (w .1)) (all-passing apart (words-all n n))
 
 pub renumbering-in : (n : ℕ) (t : List ℕ) → Renumbering n t → In t (renumberings n)
 renumbering-in n t r =

@@ -154,14 +154,14 @@ turns-between rank atoms bonds m a =
 -- ---- a table with turned marks
 
 -- a turned mark is a mark exactly if it was one, and no larger
-mark-zero : (x : Bool) (k : ℕ) → ltb 0 (markIf x k) ≡ ltb 0 k
+pub mark-zero : (x : Bool) (k : ℕ) → ltb 0 (markIf x k) ≡ ltb 0 k
 mark-zero true zero = refl
 mark-zero true (suc zero) = refl
 mark-zero true (suc (suc zero)) = refl
 mark-zero true (suc (suc (suc k))) = refl
 mark-zero false k = refl
 
-mark-two : (x : Bool) (k : ℕ) → k ≤ maxMark → markIf x k ≤ maxMark
+pub mark-two : (x : Bool) (k : ℕ) → k ≤ maxMark → markIf x k ≤ maxMark
 mark-two true zero h = omega arith
 mark-two true (suc zero) h = omega arith
 mark-two true (suc (suc zero)) h = omega arith
@@ -253,6 +253,23 @@ module _ (rank : ℕ → ℕ → ℕ) (bonds : List ℤ) (m : ℕ) where
     pub turned-length : length (turnMarks rank bonds m n t) ≡ length t
     unfolding turnMarks
     turned-length = run-length 0 n t
+
+-- ranks that agree on the bonds at each atom turn a table alike
+module _ (f g : ℕ → ℕ → ℕ) (bonds : List ℤ) (m : ℕ) (h : (a b : ℕ) → b < m → touches bonds a b ≡ true → f a b ≡ g a b) where
+  pub turned-mark-alike : (t : List ℤ) (a : ℕ) → turnedMark f t bonds m a ≡ turnedMark g t bonds m a
+  unfolding turnedMark
+  turned-mark-alike t a = ap (λ (x : Bool). markIf x (mark t a)) (turns-same (f a) (g a) t bonds m a (h a))
+
+  run-alike : (k n : ℕ) (t : List ℤ) → run (turnMark f bonds m) k n t ≡ run (turnMark g bonds m) k n t
+  unfolding run
+  run-alike k zero t = refl
+  run-alike k (suc n) t =
+      ap (λ (x : ℕ). run (turnMark f bonds m) (suc k) n (set t (atomPlace k MARK) (pos x))) (turned-mark-alike t k)
+      ∙ run-alike (suc k) n (turnMark g bonds m k t)
+
+  pub turned-alike : (n : ℕ) (t : List ℤ) → turnMarks f bonds m n t ≡ turnMarks g bonds m n t
+  unfolding turnMarks
+  turned-alike n t = run-alike 0 n t
 
 -- ---- tables that differ in marks only, of n atoms that are marked in both or in neither
 pub record ButMarks (t u : List ℤ) (n : ℕ) : Type 0 where

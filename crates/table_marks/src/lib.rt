@@ -25,7 +25,8 @@ pub fn side(bonds: &[i32], a: AtomId, b: BondId) -> u8
         return mark;
     }
     if cell::bond_number(bonds, b, SECOND) == a.0 {
-        return kinds::turned(mark);
+        let back = kinds::turned(mark);
+        return back;
     }
     0
 }

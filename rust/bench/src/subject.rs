@@ -59,7 +59,8 @@ impl Subject for Molecules {
 
     fn kekulize(&self, slot: &mut MoleculeSlot) {
         if let Some(row) = &slot.row {
-            kekulize(&mut slot.molecule, row);
+            // a refusal leaves the molecule as it was, and that is written
+            let _ = kekulize(&mut slot.molecule, row);
         }
     }
 

@@ -2,7 +2,8 @@
 
 use crate::random::Random;
 use balsa_reference::{
-    delocalized, implied_hydrogens, is_shorthand, Atom, Bond, Kind, Molecule, MAX_ATOMS, MAX_BONDS,
+    delocalized, implied_hydrogens, is_shorthand, Atom, Bond, Kind, Mark, Molecule, MAX_ATOMS,
+    MAX_BONDS,
 };
 
 /// How hard the matchings of the molecules may be.
@@ -252,7 +253,73 @@ pub fn molecule(random: &mut Random, effort: Effort) -> Molecule {
     }
     charge_selected(random, &mut molecule);
     mark(random, &mut molecule);
+    if random.percent(5) {
+        add_marked_pair(random, &mut molecule);
+    }
+    mark_centers(random, &mut molecule);
     molecule
+}
+
+/// Gives tetrahedral marks to atoms with three or four bonds, mostly with the hydrogens that fit, and
+/// in some molecules to any other atom.
+pub fn mark_centers(random: &mut Random, molecule: &mut Molecule) {
+    let chance = *random.pick(&[0, 0, 50, 100]);
+    let careless = *random.pick(&[0, 0, 0, 3]);
+    let degrees = molecule.degrees();
+    for (atom, degree) in molecule.atoms.iter_mut().zip(degrees) {
+        let hydrogens = match degree {
+            3 => 1,
+            4 => 0,
+            _ => continue,
+        };
+        if !random.percent(chance) {
+            continue;
+        }
+        let is_careless = random.percent(careless);
+        // the hydrogens of a selected atom stay: they decide whether there is a matching
+        if !atom.selected && !is_careless {
+            atom.hydrogens = hydrogens;
+        }
+        if atom.hydrogens == hydrogens || is_careless {
+            atom.mark = tetrahedral_mark(random);
+        }
+    }
+    if random.percent(4) && !molecule.atoms.is_empty() {
+        let number = random.below(molecule.atoms.len());
+        molecule.atoms[number].mark = tetrahedral_mark(random);
+    }
+}
+
+fn tetrahedral_mark(random: &mut Random) -> Mark {
+    *random.pick(&[Mark::Counterclockwise, Mark::Clockwise])
+}
+
+/// Adds `C=C/c(\C=C)cC` with any two marks: a pair of selected atoms, one of which has two marked
+/// neighbours and becomes an end of a double bond only when it is kekulized.
+fn add_marked_pair(random: &mut Random, molecule: &mut Molecule) {
+    let base = molecule.atoms.len();
+    if base + 7 > MAX_ATOMS || molecule.bonds.len() + 6 > MAX_BONDS {
+        return;
+    }
+    for (selected, hydrogens) in [(0, 2), (0, 1), (1, 0), (0, 1), (0, 2), (1, 0), (0, 3)] {
+        molecule.atoms.push(Atom {
+            element: 6,
+            selected: selected == 1,
+            hydrogens,
+            ..Atom::default()
+        });
+    }
+    let mut mark = || *random.pick(&[Kind::Up, Kind::Down]);
+    let ends = [
+        (0, 1, Kind::Double),
+        (1, 2, mark()),
+        (2, 3, mark()),
+        (3, 4, Kind::Double),
+        (2, 5, Kind::Elided),
+        (5, 6, Kind::Elided),
+    ];
+    let bonds = ends.map(|(one, other, kind)| Bond::between(base + one, base + other, kind));
+    molecule.bonds.extend(bonds);
 }
 
 /// Marks bonds beside double bonds, mostly so that the two of one end lie on opposite sides, and in

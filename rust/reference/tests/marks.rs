@@ -45,7 +45,7 @@ fn refusals_of_marks() {
     assert_eq!(refusal("F/"), (3, 2));
     assert_eq!(refusal("F//C=C"), (3, 2));
     assert!(read(b"F/S(=O)(=O)/F").is_ok());
-    assert!(read(br"C=C/C(/F)(/F)F").is_ok());
+    assert!(read(br"C=C/C(\C=C)F").is_ok());
 }
 
 #[test]

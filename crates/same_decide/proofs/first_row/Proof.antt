@@ -5,18 +5,18 @@ use lib.ListN.{length}
 use lib.Seq.{length-take-le}
 use denote.Ref.{now}
 use Rattle.table_graph.specs.Graph.{matchingOf}
-use Rattle.same_decide.specs.Decide.{hasSecond}
+use Rattle.same_decide.specs.Decide.{sketch, hasSecond}
 use Rattle.same_decide.proofs.Walk.{Walking, rest, walking-first, walking-next, fewer, first-length}
 use Rattle.same_decide.proofs.Rows.{ready, first-hit, first-none}
 use Rattle.same_decide.proofs.first_row.Statement.{statement}
 use Rattle.same_decide.proofs.first_row.Tie as tie
 
 abbrev Inv-loop : tie.InvT-loop
-Inv-loop ok atoms1 bonds1 m1 atoms2 bonds2 n m2 row1₀ row2₀ ren₀ more₀ row1 row2 ren more =
-    Walking (matchingOf atoms1 bonds1 n m1) m1 (hasSecond ok bonds1 m1 atoms2 bonds2 n m2) (length row1₀) more row1 × (length row2 ≡ length row2₀) × (length ren ≡ length ren₀)
+Inv-loop ok base1 keys1 atoms1 bonds1 m1 base2 keys2 atoms2 bonds2 n m2 row1₀ row2₀ ren₀ more₀ row1 row2 ren more =
+    Walking (matchingOf atoms1 bonds1 n m1) m1 (hasSecond ok (sketch base1 keys1 bonds1 n m1) atoms2 (sketch base2 keys2 bonds2 n m2)) (length row1₀) more row1 × (length row2 ≡ length row2₀) × (length ren ≡ length ren₀)
 
 abbrev μ-loop : tie.MeasureT-loop
-μ-loop ok atoms1 bonds1 m1 atoms2 bonds2 n m2 row1₀ row2₀ ren₀ more₀ row1 row2 ren more = length (rest (matchingOf atoms1 bonds1 n m1) m1 more row1)
+μ-loop ok base1 keys1 atoms1 bonds1 m1 base2 keys2 atoms2 bonds2 n m2 row1₀ row2₀ ren₀ more₀ row1 row2 ren more = length (rest (matchingOf atoms1 bonds1 n m1) m1 more row1)
 
 ask-requires : tie.Need-ask-requires Inv-loop μ-loop
 ask-requires c κs = let s = c .before .before .before in (s .pre .0, s .pre .1 .1 .0 .0)
@@ -44,7 +44,7 @@ second-for-requires c κs =
     let s = c .before .before .before .before .before .before .before .before .before .before .before in
     let k = first-length _ (s .args .m1) (now (s .args .row1)) (s .pre .1 .1 .0 .0) (c .before .before .before .before .before .before .before .ask .ensures) in
     let v = c .before .before .before .before .loop .inv in
-    (ready _ (s .pre .0) (s .pre .1 .1 .1 .few) (omega (arith, s .pre .1 .1 .0 .0, v .0 .long)), (s .pre .1 .0, (omega (arith, s .pre .1 .1 .0 .1, v .1), record { few = s .pre .1 .1 .1 .few; room = omega (arith, s .pre .1 .1 .1 .room, v .2) })))
+    (ready _ (s .pre .0) (s .pre .1 .1 .1 .0 .few) (omega (arith, s .pre .1 .1 .0 .0, v .0 .long)), (s .pre .1 .0, (omega (arith, s .pre .1 .1 .0 .1, v .1), (record { few = s .pre .1 .1 .1 .0 .few; room = omega (arith, s .pre .1 .1 .1 .0 .room, v .2); bounded = s .pre .1 .1 .1 .0 .bounded }, s .pre .1 .1 .1 .1))))
 
 same-length : tie.Need-same-length Inv-loop μ-loop
 same-length c =
@@ -60,7 +60,7 @@ returns c =
     let s = c .before .before .before .before .before .before .before .before .before .before .before .before .before .before .before in
     let k = first-length _ (s .args .m1) (now (s .args .row1)) (s .pre .1 .1 .0 .0) (c .before .before .before .before .before .before .before .before .before .before .before .ask .ensures) in
     let v = c .before .before .before .before .before .before .before .before .loop .inv in
-    first-hit _ _ _ _ _ _ _ _ (now (s .args .row1)) (now (s .args .row2)) (now (s .args .ren)) (s .pre .1 .1 .0 .0) k (v .0) (c .before .before .before .before .before .before .before .loop-test .taken) (v .1) (v .2) (c .before .before .before .second-for .ensures) (c .if1 .taken)
+    first-hit _ _ (sketch _ _ _ _ _) _ (sketch _ _ _ _ _) (now (s .args .row1)) (now (s .args .row2)) (now (s .args .ren)) (s .pre .1 .1 .0 .0) k (v .0) (c .before .before .before .before .before .before .before .loop-test .taken) (v .1) (v .2) (c .before .before .before .second-for .ensures) (c .if1 .taken)
 
 ask-requires-2 : tie.Need-ask-requires-2 Inv-loop μ-loop
 ask-requires-2 c κs =
@@ -97,7 +97,7 @@ returns-2 c =
     let s = c .before .before .before .before .before .before .before .before in
     let k = first-length _ (s .args .m1) (now (s .args .row1)) (s .pre .1 .1 .0 .0) (c .before .before .before .before .ask .ensures) in
     let v = c .before .loop .inv in
-    first-none _ _ _ _ _ _ _ _ (now (s .args .row1)) (now (s .args .row2)) (now (s .args .ren)) (s .pre .1 .1 .0 .0) k (v .0) (c .loop-test .left) (v .1) (v .2)
+    first-none _ _ (sketch _ _ _ _ _) _ (sketch _ _ _ _ _) (now (s .args .row1)) (now (s .args .row2)) (now (s .args .ren)) (s .pre .1 .1 .0 .0) k (v .0) (c .loop-test .left) (v .1) (v .2)
 
 pub first-row-spec : {M : Type 1} → statement M
 first-row-spec =

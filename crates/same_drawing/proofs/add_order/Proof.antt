@@ -5,7 +5,8 @@ use native.Mathlib.Omega.{arith}
 use denote.Ref.{now}
 use Rattle.table_graph.proofs.Sums.{row-cells}
 use Rattle.same_drawing.specs.Drawing.{settledOrder}
-use Rattle.same_drawing.proofs.Matrix.{both-places, first-place, second-place, raised-low, low-more}
+use Rattle.same_keys.proofs.Low.{low-more}
+use Rattle.same_drawing.proofs.Matrix.{both-places, first-place, second-place, raised-low}
 use borrow.Author.Needs.{needs}
 use Rattle.same_drawing.proofs.add_order.Statement.{statement}
 use Rattle.same_drawing.proofs.add_order.Tie as tie

@@ -10,10 +10,10 @@ use Rattle.same_drawing.proofs.fill_matches.Statement.{statement}
 use Rattle.same_drawing.proofs.fill_matches.Tie as tie
 
 abbrev Inv-loop : tie.InvT-loop
-Inv-loop atoms1 atoms2 n ok₀ end i₀ ok i = Edited (fills (matchCell atoms1 atoms2)) ok₀ end i ok
+Inv-loop atoms1 keys1 atoms2 keys2 n ok₀ end i₀ ok i = Edited (fills (matchCell atoms1 keys1 atoms2 keys2)) ok₀ end i ok
 
 abbrev μ-loop : tie.MeasureT-loop
-μ-loop atoms1 atoms2 n ok₀ end i₀ ok i = end - i
+μ-loop atoms1 keys1 atoms2 keys2 n ok₀ end i₀ ok i = end - i
 
 mul-end : tie.Need-mul-end Inv-loop μ-loop
 mul-end c = omega arith
@@ -21,8 +21,8 @@ mul-end c = omega arith
 loop-holds : tie.Need-loop-holds Inv-loop μ-loop
 loop-holds c = edited-start
 
-same-cells-requires : tie.Need-same-cells-requires Inv-loop μ-loop
-same-cells-requires c κs =
+may-go-requires : tie.Need-may-go-requires Inv-loop μ-loop
+may-go-requires c κs =
     let i = c .before .loop .i in
     let s = c .before .before in
     let d = div-lt-iff-lt-mul {k = 64} {x = i} {y = s .args .n} (omega arith) .1 (omega (arith, c .loop-test .taken)) in
@@ -41,7 +41,7 @@ loop-less : tie.Need-loop-less Inv-loop μ-loop
 loop-less c = omega arith
 
 loop-again : tie.Need-loop-again Inv-loop μ-loop
-loop-again c = filled-step (c .before .before .before .loop .inv) _ (c .before .before .loop-test .taken) (c .flag .ensures ∙ ap flag (c .before .same-cells .ensures))
+loop-again c = filled-step (c .before .before .before .loop .inv) _ (c .before .before .loop-test .taken) (c .flag .ensures ∙ ap flag (c .before .may-go .ensures))
 
 returns : tie.Need-returns Inv-loop μ-loop
 returns c = filled-end (c .before .loop .inv) (omega (arith, c .before .before .pre)) (c .loop-test .left)
@@ -54,7 +54,7 @@ fill-matches-spec =
     μ-loop
     mul-end
     loop-holds
-    same-cells-requires
+    may-go-requires
     flag-requires
     element-write-ok
     add-i

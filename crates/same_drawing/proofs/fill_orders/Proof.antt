@@ -1,12 +1,13 @@
 -- `same_drawing::fill_orders` meets its contract. Assumes nothing.
 use Prim.Native.Nat.{_-_}
 use native.Mathlib.Omega.{arith}
-use Rattle.same_drawing.proofs.Matrix.{Drawing, drawing-start, drawing-step, drawing-end, low-more}
+use Rattle.same_keys.proofs.Low.{low-more}
+use Rattle.same_drawing.proofs.Matrix.{Drawing, drawing-start, drawing-step, drawing-end}
 use Rattle.same_drawing.proofs.fill_orders.Statement.{statement}
 use Rattle.same_drawing.proofs.fill_orders.Tie as tie
 
 abbrev Inv-loop : tie.InvT-loop
-Inv-loop bonds m row o₀ k₀ o k = Drawing bonds row m k o
+Inv-loop bonds m row o₀ k₀ o k = Drawing bonds row o₀ m k o
 
 abbrev μ-loop : tie.MeasureT-loop
 μ-loop bonds m row o₀ k₀ o k = m - k

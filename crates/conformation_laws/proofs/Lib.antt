@@ -1,0 +1,4 @@
+pub mod Kept
+pub mod Claims
+pub mod Back
+pub mod Examples

@@ -1,0 +1,1 @@
+// Theorems only: what renumbering the atoms does to the row of sides. See proofs/Claims.antt.

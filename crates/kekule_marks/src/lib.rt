@@ -1,0 +1,1 @@
+// Theorems only: when kekulizing gives 20. See proofs/Claims.antt.
