@@ -68,11 +68,11 @@ paused-read i (at m d) μ = refl
 module _ {x y : ℕ} (i : ℕ) (σ : MachineState) (μ : Memory) (w : Sane x y σ i μ) (h : Shown σ μ) (l : i ≤ maxText) (room : enough (μ .atoms) (μ .bonds) ≡ true) where
   pub going-feed : (s : List ℕ) → fedOf (pausedAt i σ μ) s (μ .atoms) (μ .bonds) ≡ fedTo (i + length s) (μ .atoms) (μ .bonds) (readOn i (going σ μ) s)
   unfolding fedOf
-  going-feed s = rw (room, unbroken σ μ w h l, paused-told i σ μ, paused-read i σ μ, machine-again i σ μ w h, memory-again i σ μ (w .kind))
+  going-feed s = rw (room, unbroken σ μ w h l, paused-told i σ μ, paused-read i σ μ, machine-again i σ μ w h, memory-again i σ μ w h l)
 
   pub going-end : endOf (pausedAt i σ μ) (μ .atoms) (μ .bonds) ≡ record { result = restCleared (finished i (μ .atoms) (μ .bonds) (going σ μ)); state = blankState endedCode 0 }
   unfolding endOf
-  going-end = rw (room, unbroken σ μ w h l, paused-told i σ μ, paused-read i σ μ, machine-again i σ μ w h, memory-again i σ μ (w .kind))
+  going-end = rw (room, unbroken σ μ w h l, paused-told i σ μ, paused-read i σ μ, machine-again i σ μ w h, memory-again i σ μ w h l)
 
 -- ---- a state that holds nothing but what was told
 valid-none : (atoms bonds : List ℤ) → valid atoms bonds 0 0 ≡ true

@@ -1,4 +1,5 @@
 pub mod Bounded
+pub mod Safe
 pub mod Shown
 pub mod Unbroken
 pub mod Calls

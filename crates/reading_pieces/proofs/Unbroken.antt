@@ -1,14 +1,15 @@
 -- The state that a reading hands back stands for that reading, and is not refused as 25 with the tables as they were left. Assumes nothing.
-use Prim.Native.Nat.{ℕ, _≤_, _<_}
+use Prim.Native.Nat.{ℕ, zero, suc, _≤_, _<_}
 use native.Mathlib.Omega.{arith}
-use mathlib.Core.Path.{_≡_, refl, ap}
+use mathlib.Core.Path.{_≡_, refl}
 use mathlib.Core.Bool.{Bool, true, false, _&&_}
 use mathlib.Core.List.{List}
-use lib.ListN.{getD}
+use lib.ListN.{getD, set}
+use lib.Seq.{set-getD}
 use lib.IntN.{ℤ}
 use lib.Dec.{eqb, leb, ltb}
 use borrow.Author.Tests.{ne-eqb, le-leb, lt-leb, lt-ltb, le-ltb}
-use Rattle.loops.specs.Loop.{each}
+use Rattle.loops.specs.Loop.{each, run}
 use Rattle.kinds.specs.Kind.{maxKind}
 use Rattle.ids.specs.Limits.{maxText, maxDepth, bridges}
 use Rattle.reading_grammar.specs.declared.Last.the-variants.{Plain as plain, AfterC as afterC, AfterB as afterB}
@@ -17,15 +18,16 @@ use Rattle.reading_grammar.specs.declared.Mode.the-variants.{Seq as seq, Bond a
 use Rattle.reading_grammar.specs.declared.MachineState.{MachineState}
 use Rattle.reading_grammar.specs.declared.MachineState.the-variants.{Dead as dead, Start as start, At as at}
 use Rattle.table.specs.Valid.{valid, maxMark}
-use Rattle.reading_state.specs.State.{Steering}
+use Rattle.reading_state.specs.State.{Steering, keyCount}
 use Rattle.reading.specs.Memory.{Memory, Pending, nothing, dotted, symbol, kindOf}
 use Rattle.reading.proofs.Draft.{isotope-most, extension-most}
 use Rattle.reading.proofs.Sane.{InRange, HalfRead, Sane, Steers}
 use Rattle.reading.proofs.Valid.{each-all, sane-between, valid-true}
 use Rattle.reading_pieces.specs.declared.Paused.{Paused}
-use Rattle.reading_pieces.specs.State.{modeNumber, machineOf, memoryOf, pendingOf, pendingNumber, pausedIn, pausedAt, goesOn}
+use Rattle.reading_pieces.specs.State.{modeNumber, machineOf, memoryOf, extensionIn, cap, capped, pendingOf, pendingNumber, pausedIn, pausedAt, goesOn}
 use Rattle.reading_pieces.specs.Broken.{hubAstray, branchAstray, bridgeAstray, deep, fieldAbove, halfReadAbove, brokenOf}
-use Rattle.reading_pieces.proofs.Shown.{Shown}
+use Rattle.reading_pieces.specs.Safe.{Bounded}
+use Rattle.reading_pieces.proofs.Shown.{Shown, spelt, extension-kept}
 
 -- ---- the state stands for the reading
 
@@ -34,19 +36,50 @@ pending-again nothing h = refl
 pending-again dotted h = refl
 pending-again (symbol k) h = rw (le-leb k maxKind h)
 
--- the memory with another joint
-abbrev with-joint : Memory → Pending → Memory
-with-joint μ k = record { st = μ .st; atoms = μ .atoms; bonds = μ .bonds; pending = k; tens = μ .tens; draft = μ .draft }
+-- offsets within the limit are as they are
+cap-same : (n k : ℕ) (l : List ℕ) → ((r : ℕ) → getD l r 0 ≤ maxText) → run (λ i t. set t i (cap (getD t i 0))) k n l ≡ l
+unfolding run
+cap-same zero k l h = refl
+cap-same (suc n) k l h =
+    let e : set l k (cap (getD l k 0)) ≡ l = rw (le-leb (getD l k 0) maxText (h k)) (set-getD l k 0) in
+    rw e (cap-same n (suc k) l h)
 
-pub memory-again : (i : ℕ) (σ : MachineState) (μ : Memory) → kindOf (μ .pending) ≤ maxKind → memoryOf (pausedAt i σ μ) (μ .atoms) (μ .bonds) ≡ μ
-memory-again i dead μ h = ap (with-joint μ) (pending-again (μ .pending) h)
-memory-again i start μ h = ap (with-joint μ) (pending-again (μ .pending) h)
-memory-again i (at m d) μ h = ap (with-joint μ) (pending-again (μ .pending) h)
+pub capped-same : (n : ℕ) (l : List ℕ) → ((r : ℕ) → getD l r 0 ≤ maxText) → capped n l ≡ l
+unfolding capped
+capped-same n l h = cap-same n 0 l h
+
+-- the memory with another joint, other offsets and keys, and another extension
+abbrev with-parts : Memory → Pending → List ℕ → List ℕ → ℕ → Memory
+with-parts μ k o y e =
+    record {
+      st = record { hub = μ .st .hub; atoms = μ .st .atoms; bonds = μ .st .bonds; depth = μ .st .depth; stack = μ .st .stack; opener = μ .st .opener; symbol = μ .st .symbol; offset = o; outside = μ .st .outside; keys = y };
+      atoms = μ .atoms;
+      bonds = μ .bonds;
+      pending = k;
+      tens = μ .tens;
+      draft = record { element = μ .draft .element; selected = μ .draft .selected; isotope = μ .draft .isotope; hydrogens = μ .draft .hydrogens; charge = μ .draft .charge; extension = e; mark = μ .draft .mark };
+    }
+
+parts-same : (μ : Memory) {k : Pending} {o y : List ℕ} {e : ℕ} → k ≡ μ .pending → o ≡ μ .st .offset → y ≡ μ .st .keys → e ≡ μ .draft .extension → with-parts μ k o y e ≡ μ
+parts-same μ hk ho hy he = rw (hk, ho, hy, he)
+
+module _ {p q : ℕ} (i : ℕ) (σ : MachineState) (μ : Memory) (w : Sane p q σ i μ) (l : i ≤ maxText) where
+  keys-capped : capped keyCount (μ .st .keys) ≡ μ .st .keys
+  keys-capped = capped-same keyCount (μ .st .keys) (λ k. omega (arith, w .steering .keys k))
+
+  memory-in : (m : Mode) → Bounded (μ .st) → extensionIn (modeNumber m) (μ .draft .extension) ≡ μ .draft .extension → memoryOf (pausedIn i m μ) (μ .atoms) (μ .bonds) ≡ μ
+  memory-in m h e = parts-same μ (pending-again (μ .pending) (w .kind)) (capped-same bridges (μ .st .offset) (h .offset)) keys-capped e
+
+pub memory-again : {p q : ℕ} (i : ℕ) (σ : MachineState) (μ : Memory) → Sane p q σ i μ → Shown σ μ → i ≤ maxText → memoryOf (pausedAt i σ μ) (μ .atoms) (μ .bonds) ≡ μ
+unfolding modeNumber
+memory-again i dead μ w h l = absurd (w .stands)
+memory-again i start μ w h l = memory-in i start μ w l atomNext (h .1) refl
+memory-again i (at m d) μ w h l = memory-in i (at m d) μ w l m (h .bounded) (extension-kept (μ .tens) (μ .draft) m (h .half))
 
 pub machine-again : {p q : ℕ} (i : ℕ) (σ : MachineState) (μ : Memory) → Sane p q σ i μ → Shown σ μ → machineOf (pausedAt i σ μ) ≡ σ
 machine-again i dead μ w h = absurd (w .stands)
 machine-again i start μ w h = rw (w .stands .atoms)
-machine-again i (at m d) μ w h = rw (ne-eqb (μ .st .atoms) 0 (λ e. omega (arith, w .stands .hub)), h, w .stands .depth)
+machine-again i (at m d) μ w h = rw (ne-eqb (μ .st .atoms) 0 (λ e. omega (arith, w .stands .hub)), spelt (μ .tens) (μ .draft) m (h .half), w .stands .depth)
 
 -- ---- it is not broken
 
@@ -113,7 +146,7 @@ unfolding modeNumber
 unbroken dead μ w h l = absurd (w .stands)
 unbroken {i = i} start μ w h l =
     let z = pausedAt i start μ in
-    none-broken z (μ .atoms) (μ .bonds) (valid-true (sane-between {σ = start} w)) (rw (w .stands .atoms, h))
+    none-broken z (μ .atoms) (μ .bonds) (valid-true (sane-between {σ = start} w)) (rw (w .stands .atoms, h .0))
     (branch-fine (w .steering) z refl refl refl) (bridge-fine (w .steering) z refl refl) (deep-fine (w .steering) z refl) l refl
 unbroken {i = i} (at m d) μ w h l =
     let z = pausedAt i (at m d) μ in

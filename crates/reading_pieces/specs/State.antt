@@ -1,13 +1,13 @@
 -- 02, P11: "the state handed back to the caller between pieces": a reading as numbers, and the machine and the memory that such numbers stand for
 use Prim.Native.Nat.{ℕ, zero, suc}
-use mathlib.Core.Bool.{Bool}
+use mathlib.Core.Bool.{Bool, _&&_}
 use mathlib.Core.List.{List, [], _∷_}
-use lib.ListN.{getD, replicate}
+use lib.ListN.{getD, set, replicate}
 use lib.IntN.{ℤ, pos}
 use lib.Dec.{eqb, leb}
-use Rattle.loops.specs.Loop.{pick}
+use Rattle.loops.specs.Loop.{pick, run}
 use Rattle.kinds.specs.Kind.{maxKind}
-use Rattle.ids.specs.Limits.{maxDepth, bridges}
+use Rattle.ids.specs.Limits.{maxText, maxDepth, bridges}
 use Rattle.table.specs.Limits.{maxAtoms}
 use Rattle.reading_grammar.specs.declared.Last.the-variants.{Plain as plain, AfterC as afterC, AfterB as afterB}
 use Rattle.reading_grammar.specs.declared.Mode.{Mode}
@@ -46,6 +46,10 @@ abbrev pub pendingOf : ℕ → Pending
 pendingOf zero = nothing
 pendingOf (suc k) = pick (leb k maxKind) (symbol k) dotted
 
+-- in a bracket there is no extension before its `:`
+abbrev pub extensionIn : ℕ → ℕ → ℕ
+extensionIn m e = pick (leb 10 m && leb m 18) 0 e
+
 abbrev pub fieldsOf : Paused → Fields
 fieldsOf p =
     record {
@@ -54,9 +58,16 @@ fieldsOf p =
       isotope = p .isotope;
       hydrogens = p .hydrogens;
       charge = p .charge;
-      extension = p .extension;
+      extension = extensionIn (p .mode) (p .extension);
       mark = p .mark;
     }
+
+-- an offset past the limit of a text counts as the limit; the first n of a list
+abbrev pub cap : ℕ → ℕ
+cap q = pick (leb q maxText) q maxText
+
+unfoldable pub capped : ℕ → List ℕ → List ℕ
+capped n l = run (λ i t. set t i (cap (getD t i 0))) 0 n l
 
 abbrev pub steeringOf : Paused → Steering
 steeringOf p =
@@ -68,9 +79,9 @@ steeringOf p =
       stack = p .hubs;
       opener = p .openers;
       symbol = p .symbols;
-      offset = p .offsets;
+      offset = capped bridges (p .offsets);
       outside = p .outsides;
-      keys = p .keys;
+      keys = capped keyCount (p .keys);
     }
 
 -- with the tables beside it
