@@ -1,6 +1,6 @@
 -- What the walk over matrices finds is what P4 defines; the renumbering handed out. Assumes nothing.
 use mathlib.Core.Path.{_≡_, refl, sym, ap, _∙_, subst}
-use mathlib.Core.Bool.{Bool, true, false, _&&_}
+use mathlib.Core.Bool.{Bool, true, false, _&&_, not}
 use mathlib.Core.List.{List, [], _∷_, _++_, append-nil}
 use Prim.Native.Nat.{ℕ, _+_, _-_, _*_, _<_, _≤_}
 use native.Mathlib.Omega.{arith}
@@ -10,7 +10,7 @@ use lib.ListN.{length, getD, take, drop, replicate, length-append, length-replic
 use lib.Seq.{length-take-le, getD-take, getD-append-add, drop-length, ext-getD}
 use borrow.Author.Tests.{eq-eqb, eqb-false, lt-ltb, le-ltb, ltb-true, ltb-false}
 use Rattle.loops.specs.Loop.{pick, upTo}
-use Rattle.loops.proofs.Loops.{length-upTo, upTo-at}
+use Rattle.loops.proofs.Loops.{and-right, length-upTo, upTo-at}
 use Rattle.matching.specs.Enumeration.{Row, fill}
 use Rattle.matching.specs.Model.{some?, headOr}
 use Rattle.matching.proofs.Graph.{never}
@@ -21,16 +21,16 @@ use Rattle.same_model.specs.Redrawing.{Renumbering, Placement, Same, Redrawing}
 use Rattle.same_model.proofs.Sameness.{carried-facts, placements-all, fitting-head, partners-head, partnered-head, same-fact}
 use Rattle.same_model.proofs.Redrawn.{same-redrawing, redrawn-by}
 use Rattle.same_place.specs.Place.{entry, goods}
-use Rattle.same_keys.specs.Keys.{keysOf, keySum, pairsOf, pairKey}
+use Rattle.same_keys.specs.Keys.{keysOf, keySum, pairsOf, pairKey, pairSum}
 use Rattle.same_keys.proofs.Low.{low-same}
 use Rattle.same_keys.proofs.Kept.{keys-kept, sums-kept}
-use Rattle.same_keys.proofs.Pairs.{keys-low, pairs-at, pairs-length, pairs-low, pairs-kept}
+use Rattle.same_keys.proofs.Pairs.{keys-low, pairs-at, pairs-length, pairs-low, pairs-kept, pair-sums-kept}
 use Rattle.same_drawing.specs.Drawing.{matchCell}
 use Rattle.same_drawing.proofs.Drawn.{orders-drawn, matches-filled}
 use Rattle.same_drawing.proofs.Weights.{row-sums}
 use Rattle.same_drawing.proofs.Fitting.{Finer, passing-agree, fitting-goods}
 use Rattle.same_decide.specs.Decide.{Sketch, sketch, drawnMatrix, sumOf, ways, goesWith, seconds, secondsFor, hasSecond, firsts, Bounded, FirstFound}
-use Rattle.same.specs.Ready.{Ready, Decided}
+use Rattle.same.specs.Ready.{Ready, Sketched, Decided}
 
 -- a list filled by index: the first n numbers of another, and zeros
 module _ (found : List ℕ) (n len : ℕ) (room : n ≤ len) (size : n ≤ length found) where
@@ -103,9 +103,9 @@ module _ (atoms1 bonds1 : List ℤ) (m1 : ℕ) (atoms2 bonds2 : List ℤ) (m2 n 
   unfolding same-by
   redrawn r s p1 p2 t w h = let f = same-by r s p1 p2 t w h in (same-redrawing f (w1 .valid) e1 (w2 .valid) e2, redrawn-by f (w1 .valid) e1 (w2 .valid) e2)
 
-  -- unequal sums of keys: they are not the same
-  pub unlike-sums : {k1 k2 : List ℕ} {s1 s2 : ℕ} → k1 ≡ keysOf x → k2 ≡ keysOf y → s1 ≡ keySum k1 n → s2 ≡ keySum k2 n → (s1 ≡ s2 → ⊥) → (ren : List ℕ) → Decided x y row1 row2 ren false row1 row2 ren
-  unlike-sums {k1} {k2} q1 q2 u1 u2 h ren =
+  -- neither is a redrawing of the other: they are not the same
+  not-redrawn : (Redrawing x y → ⊥) → (ren : List ℕ) → Decided x y row1 row2 ren false row1 row2 ren
+  not-redrawn h ren =
       record {
         long1 = refl;
         long2 = refl;
@@ -117,10 +117,24 @@ module _ (atoms1 bonds1 : List ℤ) (m1 : ℕ) (atoms2 bonds2 : List ℤ) (m2 n 
       }
     where
       go : (z : Bool) → same? x y ≡ z → false ≡ z
-      go true e =
-          let w = same-redrawing (same-fact x y e) (w1 .valid) e1 (w2 .valid) e2 in
-          absurd (h (u1 ∙ ap (λ (k : List ℕ). keySum k n) q1 ∙ sums-kept w (w1 .valid) (w2 .valid) (w1 .few) ∙ ap (λ (k : List ℕ). keySum k n) (sym q2) ∙ sym u2))
+      go true e = absurd (h (same-redrawing (same-fact x y e) (w1 .valid) e1 (w2 .valid) e2))
       go false e = refl
+
+  -- unequal sums of keys
+  pub unlike-sums : {k1 k2 : List ℕ} {s1 s2 : ℕ} → k1 ≡ keysOf x → k2 ≡ keysOf y → s1 ≡ keySum k1 n → s2 ≡ keySum k2 n → (s1 ≡ s2 → ⊥) → (ren : List ℕ) → Decided x y row1 row2 ren false row1 row2 ren
+  unlike-sums q1 q2 u1 u2 h =
+      not-redrawn (λ d. h (u1 ∙ ap (λ (k : List ℕ). keySum k n) q1 ∙ sums-kept d (w1 .valid) (w2 .valid) (w1 .few) ∙ ap (λ (k : List ℕ). keySum k n) (sym q2) ∙ sym u2))
+
+  -- unequal sums over pairs
+  pub unlike-pair-sums : (on : Bool) {base1 keys1 base2 keys2 : List ℕ} → Sketched on x base1 keys1 → Sketched on y base2 keys2 → {r : Bool} → r ≡ (on && not (eqb (pairSum base1 n) (pairSum base2 n))) → r ≡ true → (ren : List ℕ) → Decided x y row1 row2 ren false row1 row2 ren
+  unlike-pair-sums on {base1} {keys1} {base2} {keys2} a b e h =
+      not-redrawn
+      (λ d.
+      let q : pairSum base1 n ≡ pairSum base2 n = sum-of x (a .paired) (a .keyed) ∙ pair-sums-kept d (w1 .valid) (w2 .valid) (w1 .few) on ∙ sym (sum-of y (b .paired) (b .keyed)) in
+      never (not (eqb (pairSum base1 n) (pairSum base2 n))) (and-right on (not (eqb (pairSum base1 n) (pairSum base2 n))) (sym e ∙ h)) (ap not (eq-eqb (pairSum base1 n) (pairSum base2 n) q)))
+    where
+      sum-of : (z : Molecule) {base keys : List ℕ} → base ≡ pairsOf on z keys → keys ≡ keysOf z → pairSum base n ≡ pairSum (pairsOf on z (keysOf z)) n
+      sum-of z p k = ap (λ (l : List ℕ). pairSum l n) p ∙ ap (λ (l : List ℕ). pairSum (pairsOf on z l) n) k
 
   module _ {keys1 keys2 : List ℕ} (k1 : keys1 ≡ keysOf x) (k2 : keys2 ≡ keysOf y) (on : Bool) {base1 base2 : List ℕ} (b1 : base1 ≡ pairsOf on x keys1) (b2 : base2 ≡ pairsOf on y keys2) {ok : List ℕ} (rest : List ℕ)
       (filled : ok ≡ upTo (matchCell atoms1 keys1 atoms2 keys2) 0 (maxSame * n) ++ rest) where

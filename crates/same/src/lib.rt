@@ -1,14 +1,15 @@
 // Whether two molecules are the same compound, drawn differently (02, P4).
 ghost use mathlib.Core.Path.{_≡_};
 ghost use Prim.Native.Nat.{_≤_};
-ghost use lib.Dec.{ltb};
+ghost use mathlib.Core.Bool.{_&&_, not};
+ghost use lib.Dec.{eqb, ltb};
 ghost use lib.ListN.{length, take, replicate, getD};
 ghost use Rattle.loops.specs.Loop.{pick};
 ghost use Rattle.matching.specs.Enumeration.{fill};
 ghost use Rattle.same_model.specs.Same.{maxSame, molecule, sameOf, roomyBoth};
-ghost use Rattle.same_keys.specs.Keys.{keysOf};
+ghost use Rattle.same_keys.specs.Keys.{keysOf, pairSum, Low};
 ghost use Rattle.same.specs.Answer.{samenessCode, sameOut};
-ghost use Rattle.same.specs.Ready.{Ready, Decided};
+ghost use Rattle.same.specs.Ready.{Ready, Sketched, Decided};
 use ids::BondId;
 use refusal::Refusal;
 use same_place::CELLS;
@@ -85,6 +86,66 @@ fn hand_out(found: &[u8; SIDE], n: usize, ren: &mut [u16])
     }
 }
 
+// Whether the sums over the matrices of pairs differ; not asked where there are none.
+fn unlike_pairs(on: bool, base1: &[u16; CELLS], base2: &[u16; CELLS], n: usize) -> bool
+    requires { ⌜ n ≤ maxSame ⌝ }
+    requires { ⌜ Low (now base1) 40000 × Low (now base2) 40000 ⌝ }
+    ensures { λ r. ⌜ r ≡ (on && not (eqb (pairSum (now (base1 .entry)) n) (pairSum (now (base2 .entry)) n))) ⌝ }
+{
+    if !on {
+        return false;
+    }
+    same_keys::pair_sum(base1, n) != same_keys::pair_sum(base2, n)
+}
+
+// Whether two molecules of equally many atoms, with the keys of their atoms and the matrices of pairs, are the same.
+fn decide_paired(
+    on: bool,
+    base1: &[u16; CELLS],
+    keys1: &[u64; SIDE],
+    atoms1: &[i32],
+    bonds1: &[i32],
+    m1: usize,
+    base2: &[u16; CELLS],
+    keys2: &[u64; SIDE],
+    atoms2: &[i32],
+    bonds2: &[i32],
+    m2: usize,
+    n: usize,
+    row1: &mut [u8],
+    row2: &mut [u8],
+    ren: &mut [u16],
+) -> bool
+    requires { ⌜ Ready (molecule (now atoms1) (now bonds1) n m1) (now row1) ⌝ }
+    requires { ⌜ Ready (molecule (now atoms2) (now bonds2) n m2) (now row2) ⌝ }
+    requires { ⌜ Sketched on (molecule (now atoms1) (now bonds1) n m1) (now base1) (now keys1) × Sketched on (molecule (now atoms2) (now bonds2) n m2) (now base2) (now keys2) ⌝ }
+    requires { ⌜ n ≤ length (now ren) ⌝ }
+    ensures { λ r. ⌜ Decided (molecule (now (atoms1 .entry)) (now (bonds1 .entry)) n m1) (molecule (now (atoms2 .entry)) (now (bonds2 .entry)) n m2) (now (row1 .entry)) (now (row2 .entry)) (now (ren .entry)) r (now (row1 .exit)) (now (row2 .exit)) (now (ren .exit)) ⌝ }
+{
+    let mut ok = [0u8; CELLS];
+    same_drawing::fill_matches(atoms1, keys1, atoms2, keys2, n, &mut ok);
+    let mut found = [0u8; SIDE];
+    let yes = same_decide::first_row(
+        &ok,
+        base1,
+        keys1,
+        atoms1,
+        bonds1,
+        m1,
+        base2,
+        keys2,
+        atoms2,
+        bonds2,
+        n,
+        m2,
+        row1,
+        row2,
+        &mut found,
+    );
+    hand_out(&found, n, ren);
+    yes
+}
+
 // Whether two molecules of equally many atoms, with the keys of their atoms, are the same.
 fn decide_keyed(
     keys1: &[u64; SIDE],
@@ -111,11 +172,11 @@ fn decide_keyed(
     same_keys::fill_pairs(on, atoms1, bonds1, n, m1, keys1, &mut base1);
     let mut base2 = [0u16; CELLS];
     same_keys::fill_pairs(on, atoms2, bonds2, n, m2, keys2, &mut base2);
-    let mut ok = [0u8; CELLS];
-    same_drawing::fill_matches(atoms1, keys1, atoms2, keys2, n, &mut ok);
-    let mut found = [0u8; SIDE];
-    let yes = same_decide::first_row(
-        &ok,
+    if unlike_pairs(on, &base1, &base2, n) {
+        return false;
+    }
+    decide_paired(
+        on,
         &base1,
         keys1,
         atoms1,
@@ -125,14 +186,12 @@ fn decide_keyed(
         keys2,
         atoms2,
         bonds2,
-        n,
         m2,
+        n,
         row1,
         row2,
-        &mut found,
-    );
-    hand_out(&found, n, ren);
-    yes
+        ren,
+    )
 }
 
 // Whether two molecules of equally many atoms are the same: not where the keys of their atoms have unequal sums.

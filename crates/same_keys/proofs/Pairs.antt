@@ -17,8 +17,9 @@ use Rattle.table.specs.Valid.{Valid}
 use Rattle.table_graph.specs.Built.{bump, Wired}
 use Rattle.same_model.specs.Same.{maxSame, Molecule, molecule, image}
 use Rattle.same_model.specs.Redrawing.{settledSum, Redrawing}
+use Rattle.same_model.proofs.Totals.{total, run-total, total-same, total-permuted}
 use Rattle.same_place.specs.Place.{entry}
-use Rattle.same_keys.specs.Keys.{prime, firstKey, at, filledTo, nextKeys, rounds, refined, keysOf, apartBy, pairRounds, pairLimit, toldApart, pairCell, setCell, rowFilled, pairsFilled, pairsOf, pairKey, Low, highest}
+use Rattle.same_keys.specs.Keys.{prime, firstKey, at, filledTo, nextKeys, rounds, refined, keysOf, apartBy, pairRounds, pairLimit, toldApart, pairCell, setCell, rowFilled, pairsFilled, pairsOf, pairKey, rowTotal, pairSum, Low, highest}
 use Rattle.same_keys.proofs.Low.{bump-at, low-more, low-filled, zeros-low}
 use Rattle.same_keys.proofs.Mixing.{first-key-low}
 use Rattle.same_keys.proofs.Spreading.{refined-low}
@@ -147,6 +148,25 @@ module _ (x : Molecule) (keys : List ℕ) where
   pairs-low true few = rows-low (x .n) few (λ a. pairCell (toldApart (end1 (x .bonds)) (end2 (x .bonds)) (x .m) (x .n) keys a)) 40000 (λ a. cell-low (toldApart (end1 (x .bonds)) (end2 (x .bonds)) (x .m) (x .n) keys a)) 0 (x .n) (replicate (maxSame * maxSame) 0) (zeros-low (maxSame * maxSame) 40000)
   pairs-low false few = zeros-low (maxSame * maxSame) 40000
 
+-- a row's sum is low
+total-low : (f : ℕ → ℕ) (h n : ℕ) → ((a : ℕ) → f a ≤ h) → total f n ≤ h * n
+unfolding total
+total-low f h zero l = omega arith
+total-low f h (suc n) l = let i = total-low f h n l in omega (arith, l n)
+
+pub row-total-low : (p : List ℕ) (n a : ℕ) → Low p 40000 → rowTotal p n a ≤ 40000 * n
+unfolding rowTotal
+row-total-low p n a w = rw (run-total (λ b. at p (maxSame * a + b)) n) (total-low (λ b. at p (maxSame * a + b)) 40000 n (λ b. w .at (maxSame * a + b)))
+
+-- the sum of all cells
+sum-pairs : (x : Molecule) (keys : List ℕ) (on : Bool) → x .n ≤ maxSame → pairSum (pairsOf on x keys) (x .n) ≡ total (λ a. total (λ b. 4 * pairKey on x keys a b) (x .n)) (x .n)
+unfolding pairSum rowTotal
+sum-pairs x keys on few =
+    let p = pairsOf on x keys in
+    run-total (λ a. run (λ (b s : ℕ). s + at p (maxSame * a + b)) 0 (x .n) 0) (x .n)
+    ∙ total-same (λ a. run (λ (b s : ℕ). s + at p (maxSame * a + b)) 0 (x .n) 0) (λ a. total (λ b. 4 * pairKey on x keys a b) (x .n)) (x .n)
+    (λ a l. run-total (λ b. at p (maxSame * a + b)) (x .n) ∙ total-same (λ b. at p (maxSame * a + b)) (λ b. 4 * pairKey on x keys a b) (x .n) (λ b h. pairs-at x keys on few a b l h))
+
 -- every redrawing keeps the keys of pairs
 module _ {x y : Molecule} (w : Redrawing x y) (v1 : Valid (x .atoms) (x .bonds) (x .n) (x .m)) (v2 : Valid (y .atoms) (y .bonds) (y .n) (y .m)) (few : x .n ≤ maxSame) where
   abbrev u : List ℕ
@@ -157,6 +177,9 @@ module _ {x y : Molecule} (w : Redrawing x y) (v1 : Valid (x .atoms) (x .bonds) 
       same-bool (eqb a b) (eqb (image u a) (image u b))
       (λ h. eq-eqb (image u a) (image u b) (ap (image u) (eqb-true a b h)))
       (λ h. eq-eqb a b (w .renumbers .one a b la lb (eqb-true (image u a) (image u b) h)))
+
+  abbrev right : Bool → ℕ → ℕ → ℕ
+  right on a b = 4 * pairKey on y (keysOf y) a b
 
   apart-kept : (keys1 keys2 : List ℕ) → Kept (x .n) u keys1 keys2 → (a : ℕ) → a < x .n → Kept (x .n) u (bump keys1 a apartBy) (bump keys2 (image u a) apartBy)
   apart-kept keys1 keys2 k a l =
@@ -175,3 +198,15 @@ module _ {x y : Molecule} (w : Redrawing x y) (v1 : Valid (x .atoms) (x .bonds) 
       ap (λ (s : ℕ). s % pairLimit)
       (rounds-kept w v1 v2 few 0 pairRounds (bump (keysOf x) a apartBy) (bump (keysOf y) (image u a) apartBy) (apart-kept (keysOf x) (keysOf y) (keys-kept w v1 v2 few) a la) .kept b lb)
   pairs-kept false a b la lb = refl
+
+  -- so are their sums
+  pub pair-sums-kept : (on : Bool) → pairSum (pairsOf on x (keysOf x)) (x .n) ≡ pairSum (pairsOf on y (keysOf y)) (y .n)
+  pair-sums-kept on =
+      sum-pairs x (keysOf x) on few
+      ∙ total-same (λ a. total (λ b. 4 * pairKey on x (keysOf x) a b) (x .n)) (λ a. total (right on (image u a)) (x .n)) (x .n)
+      (λ a l.
+      total-same (λ b. 4 * pairKey on x (keysOf x) a b) (λ b. right on (image u a) (image u b)) (x .n) (λ b h. ap (λ (k : ℕ). 4 * k) (pairs-kept on a b l h))
+      ∙ total-permuted (x .n) (image u) (w .renumbers .below) (w .renumbers .one) (right on (image u a)))
+      ∙ total-permuted (x .n) (image u) (w .renumbers .below) (w .renumbers .one) (λ a. total (right on a) (x .n))
+      ∙ ap (λ (n : ℕ). total (λ a. total (right on a) n) n) (w .counts)
+      ∙ sym (sum-pairs y (keysOf y) on (few2 w v1 v2 few))

@@ -109,6 +109,19 @@ pairsOf on x keys = pick on (pairsFilled (end1 (x .bonds)) (end2 (x .bonds)) (x 
 abbrev pub pairKey : Bool → Molecule → List ℕ → ℕ → ℕ → ℕ
 pairKey on x keys a b = pick on (at (toldApart (end1 (x .bonds)) (end2 (x .bonds)) (x .m) (x .n) keys a) b % pairLimit) 0
 
+-- all cells of n rows and columns of a matrix, added up
+abbrev pub addCell : List ℕ → ℕ → ℕ → ℕ → ℕ
+addCell p a b s = s + at p (maxSame * a + b)
+
+unfoldable pub rowTotal : List ℕ → ℕ → ℕ → ℕ
+rowTotal p n a = run (addCell p a) 0 n 0
+
+abbrev pub addRow : List ℕ → ℕ → ℕ → ℕ → ℕ
+addRow p n a s = s + rowTotal p n a
+
+unfoldable pub pairSum : List ℕ → ℕ → ℕ
+pairSum p n = run (addRow p n) 0 n 0
+
 -- the mixed keys of n atoms, added up
 abbrev pub addMixed : List ℕ → ℕ → ℕ → ℕ
 addMixed keys i s = s + mixedAt keys i

@@ -7,7 +7,7 @@ ghost use Rattle.loops.specs.Loop.{run, upTo};
 ghost use Rattle.table.specs.Limits.{maxAtoms};
 ghost use Rattle.table.specs.Valid.{Valid};
 ghost use Rattle.same_model.specs.Same.{maxSame, molecule};
-ghost use Rattle.same_keys.specs.Keys.{prime, mixed, stirred, chargeNumber, firstKey, sumKey, at, mixedAt, joinKeys, spread, nextKeys, refined, keysOf, toldApart, pairCell, pairLimit, rowFilled, pairsFilled, pairsOf, keySum, Low, highest, Inside};
+ghost use Rattle.same_keys.specs.Keys.{prime, mixed, stirred, chargeNumber, firstKey, sumKey, at, mixedAt, joinKeys, spread, nextKeys, refined, keysOf, toldApart, pairCell, pairLimit, rowFilled, pairsFilled, pairsOf, rowTotal, pairSum, keySum, Low, highest, Inside};
 use ids::AtomId;
 use ids::BondId;
 use same_place::CELLS;
@@ -280,6 +280,43 @@ pub fn fill_pairs(
     let mut sums = [0u16; SIDE];
     table_graph::wire(bonds, m, &mut ea, &mut eb, &mut el, &mut sums);
     pair_rows(&ea, &eb, m, n, keys, pairs);
+}
+
+// A small number as a wider one.
+fn wide(x: u16) -> u64
+    ensures { λ r. ⌜ r ≡ x ⌝ }
+{
+    x as u64
+}
+
+// The cells of a row of the matrix of pairs, added up.
+fn row_total(pairs: &[u16; CELLS], n: usize, a: usize) -> u64
+    requires { ⌜ (n ≤ maxSame) × (a < maxSame) ⌝ }
+    requires { ⌜ Low (now pairs) 40000 ⌝ }
+    ensures { λ r. ⌜ r ≡ rowTotal (now (pairs .entry)) n a ⌝ }
+{
+    let mut sum = 0u64;
+    let mut b = 0;
+    while b < n {
+        sum += wide(pairs[SIDE * a + b]);
+        b += 1;
+    }
+    sum
+}
+
+// internal: all cells of the matrix of pairs, added up.
+pub fn pair_sum(pairs: &[u16; CELLS], n: usize) -> u64
+    requires { ⌜ n ≤ maxSame ⌝ }
+    requires { ⌜ Low (now pairs) 40000 ⌝ }
+    ensures { λ r. ⌜ r ≡ pairSum (now (pairs .entry)) n ⌝ }
+{
+    let mut sum = 0u64;
+    let mut a = 0;
+    while a < n {
+        sum += row_total(pairs, n, a);
+        a += 1;
+    }
+    sum
 }
 
 // Marks the second end of each bond.

@@ -1,11 +1,11 @@
--- `same::decide_keyed` meets its contract. Assumes nothing.
+-- `same::decide_paired` meets its contract. Assumes nothing.
 use Prim.Native.Nat.{ℕ}
 use native.Mathlib.Omega.{arith}
 use lib.ListN.{length-replicate}
 use Rattle.same.proofs.Deciding.{bounded, decided}
 use borrow.Author.Needs.{needs}
-use Rattle.same.proofs.decide_keyed.Statement.{statement}
-use Rattle.same.proofs.decide_keyed.Tie as tie
+use Rattle.same.proofs.decide_paired.Statement.{statement}
+use Rattle.same.proofs.decide_paired.Tie as tie
 
 scattered-requires : tie.Need-scattered-requires
 scattered-requires c κs = search needs
@@ -55,8 +55,8 @@ returns c = let s = c .before .before .before .before .before .before .before .b
     let k = s .pre .1 .1 .0 in
     decided _ _ _ _ _ _ _ _ _ (s .pre .0) (s .pre .1 .0) (k .0) (k .1) (c .before .before .before .before .before .before .before .before .before .before .before .before .before .before .before .before .before .before .before .before .before .before .scattered .result) (c .before .before .before .before .before .before .before .before .before .before .before .before .before .before .before .before .before .before .before .before .fill-pairs .ensures) (c .before .before .before .before .before .before .before .before .before .before .before .before .before .before .before .before .before .before .fill-pairs2 .ensures) _ (c .before .before .before .before .before .before .before .before .before .before .before .before .before .before .before .before .fill-matches .ensures) f (s .pre .1 .1 .1) (omega (arith, s .pre .0 .few, f .size, length-replicate {A = ℕ} 64 0)) (c .before .before .hand-out .ensures)
 
-pub decide-keyed-spec : {M : Type 1} → statement M
-decide-keyed-spec =
+pub decide-paired-spec : {M : Type 1} → statement M
+decide-paired-spec =
     tie.close
     (tie.spec
     scattered-requires
