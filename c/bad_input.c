@@ -85,6 +85,28 @@ static void texts(void) {
     expect(r.code == 11 && r.overfull == 0, "no number at a refusal");
 }
 
+/* Tetrahedral marks: stored for the hydrogen and the bonds by number, written for the text's order; 23, and 13 in tables. */
+static void marks(void) {
+    static const char alanine[] = "N[C@@H](C)C(=O)O";
+    static const int32_t wrong[] = {INT_MIN, -1, 3, INT_MAX};
+    balsa_read_reply r = read_text(alanine);
+    expect(r.code == 0 && atoms[7 + 6] == 1, "the hydrogen and the first bond change places");
+    balsa_write_reply w = balsa_write(atoms, BALSA_ATOM_TABLE, bonds, BALSA_BOND_TABLE, r.atoms, r.bonds,
+                                      out, BALSA_TEXT, ren, BALSA_RENUMBERING);
+    expect(w.code == 0 && w.length == sizeof alanine - 1 && memcmp(out, alanine, w.length) == 0,
+           "and are written back");
+    for (size_t i = 0; i < sizeof wrong / sizeof *wrong; i++) {
+        atoms[7 + 6] = wrong[i];
+        expect(first(r.atoms, r.bonds, BALSA_ROW) == 13, "a cell that is no mark");
+    }
+    atoms[7 + 6] = 2;
+    expect(first(r.atoms, r.bonds, BALSA_ROW) == 0, "the other mark");
+    atoms[6] = 1;
+    expect(first(r.atoms, r.bonds, BALSA_ROW) == 13, "a mark without four neighbours");
+    r = read_text("C[S@](=O)C");
+    expect(r.code == BALSA_UNFIT_MARK && r.place == 0 && all(atoms, sizeof atoms, 0), "a sulfoxide is 23");
+}
+
 /* Refusal 13: cells out of range and counts above the limits, in every call on tables. */
 static void invalid_tables(void) {
     balsa_read_reply r = read_text("c1ccccc1");
@@ -226,6 +248,7 @@ static void reports(void) {
 int main(void) {
     short_buffers();
     texts();
+    marks();
     invalid_tables();
     rubbish_rows();
     forced_pairs();

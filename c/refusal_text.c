@@ -26,6 +26,7 @@ static const char *const words[] = {
     [BALSA_CROWDED_END] = "two marked neighbours of one end lie on the same side",
     [BALSA_STRAY_MARK] = "a mark touches no double bond",
     [BALSA_LOOSE_ATOM] = "a selected atom has fewer than two bonds",
+    [BALSA_UNFIT_MARK] = "a tetrahedral mark without four neighbours",
 };
 
 const char *balsa_refusal_text(uint32_t code) {

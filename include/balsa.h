@@ -5,11 +5,12 @@
  * call ends, and the answer is the one named here. The caller keeps what C cannot check: the pointers
  * are valid for their lengths and aligned, and no slice that is written overlaps another one.
  *
- * Tables: 6 cells for an atom (element, selected, isotope, hydrogens, charge, extension), 3 for a bond
- * (first end, second end, kind: 0 elided, 1, 2, 3, 4 for `/`, 5 for `\`). Least lengths: atoms 6000, bonds 3300, row 1100, out 16384, ren 1000.
+ * Tables: 7 cells for an atom (element, selected, isotope, hydrogens, charge, extension, mark: 0 none, 1 for
+ * `@`, 2 for `@@`, of the hydrogen, if there is one, and then the bonds by ascending number), 3 for a bond
+ * (first end, second end, kind: 0 elided, 1, 2, 3, 4 for `/`, 5 for `\`). Least lengths: atoms 7000, bonds 3300, row 1100, out 16384, ren 1000.
  * n and m are the numbers of atoms and bonds in the tables.
  *
- * Codes: 0 accepted, 1 to 22 the refusals of docs/RULES.md, 255 "end" (balsa_next, balsa_register_walk). Refusal 1 changes
+ * Codes: 0 accepted, 1 to 23 the refusals of docs/RULES.md, 255 "end" (balsa_next, balsa_register_walk). Refusal 1 changes
  * nothing; any other zeroes what is named as output; an acceptance zeroes the unused rest.
  *
  * Threads: a call keeps nothing, allocates nothing and takes no lock; it works on what it is lent and on
@@ -24,9 +25,9 @@
 #define BALSA_VERSION "0.1.0"
 
 /* Grows with each change of an answer: 1 the first rules, 2 charged ring atoms (P1), 3 over-full atoms
- * counted (P10), 4 no loose selected atoms (P6), 5 larger limits (P7), 6 up and down bonds (P5). What is
- * stored of answers, as in an index of a database, is good for one edition. */
-#define BALSA_EDITION 6
+ * counted (P10), 4 no loose selected atoms (P6), 5 larger limits (P7), 6 up and down bonds (P5), 7
+ * tetrahedral marks (P8). What is stored of answers, as in an index of a database, is good for one edition. */
+#define BALSA_EDITION 7
 
 #ifdef __cplusplus
 extern "C" {
@@ -56,11 +57,12 @@ enum {
     BALSA_CROWDED_END = 20,
     BALSA_STRAY_MARK = 21,
     BALSA_LOOSE_ATOM = 22,
+    BALSA_UNFIT_MARK = 23,
     BALSA_END = 255
 };
 
 enum {
-    BALSA_ATOM_TABLE = 6000,
+    BALSA_ATOM_TABLE = 7000,
     BALSA_BOND_TABLE = 3300,
     BALSA_ROW = 1100,
     BALSA_TEXT = 16384,
@@ -117,7 +119,7 @@ typedef struct {
     size_t length;
 } balsa_report_reply;
 
-/* Reads a text. Output: atoms, bonds. Refusals 1 to 11, 20 to 22. */
+/* Reads a text. Output: atoms, bonds. Refusals 1 to 11, 20 to 23. */
 balsa_read_reply balsa_read(const uint8_t *text, size_t text_len, int32_t *atoms, size_t atoms_len,
                             int32_t *bonds, size_t bonds_len);
 

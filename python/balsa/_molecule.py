@@ -14,7 +14,15 @@ _NOT_MATCHING = 12
 
 
 class Atom(NamedTuple):
-    """An atom: atomic number (0 for `*`), 1 if selected (aromatic), isotope, hydrogens, charge, extension."""
+    """An atom: atomic number (0 for `*`), 1 if selected (aromatic), isotope, hydrogens, charge, extension, tetrahedral mark.
+
+    The mark is 0 for none, 1 for `@`, 2 for `@@`; it speaks of the hydrogen, if there is one, and then the
+    bonds by ascending number.
+
+    >>> from balsa import Molecule
+    >>> Molecule("N[C@@H](C)C(=O)O").atoms[1]
+    Atom(element=6, selected=0, isotope=0, hydrogens=1, charge=0, extension=0, mark=1)
+    """
 
     element: int
     selected: int
@@ -22,6 +30,7 @@ class Atom(NamedTuple):
     hydrogens: int
     charge: int
     extension: int
+    mark: int
 
 
 class Bond(NamedTuple):
@@ -52,7 +61,7 @@ class Molecule:
     >>> from balsa import Molecule
     >>> furan = Molecule("o1cccc1")
     >>> furan.atoms[0]
-    Atom(element=8, selected=1, isotope=0, hydrogens=0, charge=0, extension=0)
+    Atom(element=8, selected=1, isotope=0, hydrogens=0, charge=0, extension=0, mark=0)
     >>> furan.bonds[-1]
     Bond(first=0, second=4, kind=0)
     >>> furan.kekulized()

@@ -7,10 +7,10 @@ import ctypes
 import os
 
 # Cells of an atom and of a bond.
-ATOM_CELLS = 6
+ATOM_CELLS = 7
 BOND_CELLS = 3
 # Least lengths of what is lent (BALSA_ATOM_TABLE and so on).
-ATOM_TABLE = 6000
+ATOM_TABLE = 7000
 BOND_TABLE = 3300
 ROW = 1100
 TEXT = 16384

@@ -25,6 +25,7 @@ def content(path):
 
 CORPUS = content("corpus/real.smi").split()
 TEXTS = CORPUS + [b"C11", b"C1CC", b"cc", b"", b"C\x00", b"c1cccc1", b"x" * (_native.TEXT + 1)]
+TEXTS += [b"N[C@@H](C)C(=O)O", b"F[C@](Cl)1Br.I1", b"C[S@](=O)C"]
 
 
 def load_tests(loader, tests, pattern):
@@ -115,6 +116,16 @@ class Molecules(unittest.TestCase):
         self.assertEqual(benzene.kekulized([1, 0, 1, 0, 1, 0]), benzene.kekulized())
         self.assertEqual(list(Molecule("C").matchings()), [()])
         self.assertEqual(len(list(Molecule("c1ccc2ccccc2c1").matchings())), 3)
+
+    def test_marks(self):
+        """A text and its mark as stored: the bond numbers put the hydrogen and the bonds in another order."""
+        for text, mark in [("[C@](F)(Cl)(Br)I", 1), ("F[C@H]12.Cl1.Br2", 2), ("F[C@H]12.Br2.Cl1", 1)]:
+            molecule = Molecule(text)
+            self.assertEqual([atom.mark for atom in molecule.atoms if atom.mark], [mark])
+            self.assertEqual(Molecule(molecule.text).text, molecule.text)
+        self.assertEqual(Molecule("F[C@H]12.Br2.Cl1").text, "F[C@@H](Br)Cl")
+        refusal = refused(Molecule, "C[S@](=O)C")
+        self.assertEqual((refusal.code, refusal.place), (23, None))
 
     def test_side_by_side(self):
         """Two enumerations in turn do not disturb each other."""

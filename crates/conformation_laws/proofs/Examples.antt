@@ -11,22 +11,24 @@ use Rattle.element.specs.Symbols.{among, listed, starts, sameBytes, symbols, le
 use Rattle.element.specs.Lookup.{indexFrom, numberOf, selectedOf, letterOf, bare, bytesOf, selectedBytes}
 use Rattle.valence.specs.Valence.{targets, firstTarget, firstFitting, reachedIn, hydrogensOf, shiftedTarget, delocalized}
 use Rattle.reading_grammar.specs.Grammar.{nonzero, digits, several, bondSymbols, signs}
-use Rattle.reading_grammar.specs.Machine.{step, next, accepting, resting, atomOr, bridgeOr, closing, extending, charging, hydrating, symbolOr}
+use Rattle.reading_grammar.specs.Machine.{step, next, accepting, resting, atomOr, bridgeOr, closing, extending, charging, hydrating, marking, symbolOr}
 use Rattle.reading_grammar.specs.Fold.{feed, read}
 use Rattle.matching.specs.Enumeration.{rows, passing}
 use Rattle.matching.specs.Graph.{isMatching, eachOnce, degree, chosenInduced}
+use Rattle.parity.specs.Parity.{oddly, oddPairs, odd}
 use Rattle.table.specs.Cells.{number, touches}
 use Rattle.table.specs.Rows.{withAtom, withBond}
 use Rattle.table.specs.Valid.{enough}
 use Rattle.table.specs.Marks.{side, sideCount, doubleCount, noneCrowded, noneStray}
-use Rattle.table.specs.Sound.{bondDegree, noneLoose, lateCode}
+use Rattle.table.specs.Sound.{bondDegree, noneLoose, noneUnfit, lateCode}
+use Rattle.table.specs.Orders.{bondsFrom, bondsAt, turns, turnedMark, turnMarks}
 use Rattle.table_graph.specs.Graph.{share, bondSum, matchable}
 use Rattle.conformation.specs.Sides.{lower, lowestOf, compared, sideOf}
 use Rattle.reading_state.specs.State.{started, opened, closed, joined}
 use Rattle.reading.specs.Memory.{begun, joins, joinedAlready, closeRefusal}
 use Rattle.reading.specs.Bracket.{symbolled}
 use Rattle.reading.specs.Act.{atomAct, bridgeAct, branchAct, modeAct, act}
-use Rattle.reading.specs.Read.{hydrogenated, overfullAtoms, leftmost, ended, readFrom, readOf}
+use Rattle.reading.specs.Read.{hydrogenated, overfullAtoms, textRank, leftmost, ended, readFrom, readOf}
 use Rattle.examples.specs.Said.{said}
 use Rattle.writing_walk.specs.Same.{Perm, nil, cons, swap}
 use Rattle.roundtrip.specs.Claims.{numbered}
@@ -43,7 +45,7 @@ unfoldable pub new : List ℤ
 new = pos 1 ∷ pos 2 ∷ pos 5 ∷ pos 0 ∷ pos 2 ∷ pos 4 ∷ pos 2 ∷ pos 3 ∷ pos 2 ∷ pos 3 ∷ pos 4 ∷ pos 4 ∷ []
 
 pub texts-read : map (λ t. said t .bonds) texts ≡ old ∷ new ∷ []
-unfolding texts old new bondDegree noneLoose side sideCount doubleCount noneCrowded noneStray lateCode each howMany run upTo among listed starts sameBytes symbols letters marks indexFrom numberOf selectedOf letterOf bare bytesOf selectedBytes order bondSymbol markOf turned targets firstTarget firstFitting reachedIn hydrogensOf shiftedTarget delocalized nonzero digits several bondSymbols signs step next accepting resting atomOr bridgeOr closing extending charging hydrating symbolOr feed read rows passing isMatching eachOnce degree chosenInduced number withAtom withBond enough touches share bondSum started opened closed joined symbolKind begun joins joinedAlready closeRefusal symbolled atomAct bridgeAct branchAct modeAct act hydrogenated overfullAtoms leftmost matchable ended readFrom readOf
+unfolding texts old new bondDegree noneLoose noneUnfit side sideCount doubleCount noneCrowded noneStray lateCode each howMany run upTo among listed starts sameBytes symbols letters marks indexFrom numberOf selectedOf letterOf bare bytesOf selectedBytes order bondSymbol markOf turned targets firstTarget firstFitting reachedIn hydrogensOf shiftedTarget delocalized nonzero digits several bondSymbols signs step next accepting resting atomOr bridgeOr closing extending charging hydrating marking symbolOr feed read rows passing isMatching eachOnce degree chosenInduced number withAtom withBond enough touches share bondSum started opened closed joined symbolKind begun joins joinedAlready closeRefusal symbolled atomAct bridgeAct branchAct modeAct act hydrogenated overfullAtoms leftmost matchable ended readFrom readOf bondsFrom bondsAt turns turnedMark turnMarks textRank oddly oddPairs odd
 texts-read = refl
 
 -- the rows of sides

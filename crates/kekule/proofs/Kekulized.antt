@@ -10,13 +10,13 @@ use lib.Dec.{eqb, leb}
 use Rattle.kinds.specs.Kind.{elided, double, maxKind}
 use Rattle.loops.specs.Loop.{pick, upTo}
 use Rattle.loops.proofs.Loops.{and-right, each-all, each-same, length-upTo}
-use Rattle.table.specs.Limits.{maxBonds, atomCells, ELEMENT, SELECTED, ISOTOPE, HYDROGENS, CHARGE, EXTENSION, FIRST, SECOND, KIND}
-use Rattle.table.specs.Cells.{number, inRange, bondPlace, atomCell, bondCell, element, selected, hydrogens}
+use Rattle.table.specs.Limits.{maxBonds, atomCells, ELEMENT, SELECTED, ISOTOPE, HYDROGENS, CHARGE, EXTENSION, MARK, FIRST, SECOND, KIND}
+use Rattle.table.specs.Cells.{number, inRange, bondPlace, atomCell, bondCell, element, selected, hydrogens, mark, touches}
 use Rattle.table.specs.Valid.{selectedOk, sameEnds, fresh, distinct, atomOk, bondOk, Valid, enough}
-use Rattle.table.specs.Sound.{lateCode, sound}
+use Rattle.table.specs.Sound.{bondDegree, unfit, noneUnfit, lateCode, sound}
 use Rattle.table.specs.Marks.{noneCrowded}
 use Rattle.table.specs.Edits.{unselectedAtoms, doubledBonds}
-use Rattle.table.proofs.Sound.{sound-valid, sound-late, sound-back, late-fine, late-none, unselected-tight}
+use Rattle.table.proofs.Sound.{sound-valid, sound-late, sound-back, late-fine, late-none, unselected-tight, none-unfit, not-unfit, degree-same}
 use Rattle.table.proofs.Valid.{enough-facts, Enough, AtomFine, atom-row, atom-fine-back, BondFine, bond-row, bond-fine-back}
 use Rattle.table.proofs.Edits.{unselected-cell, unselected-field, doubled-kind, doubled-field}
 use Rattle.valence.specs.Valence.{delocalized}
@@ -61,6 +61,7 @@ module _ {atoms bonds : List ℤ} {n m : ℕ} (v : Valid atoms bonds n m) (r : E
         hydrogens = rw (same a HYDROGENS (omega arith) (λ e. omega arith)) (f .hydrogens);
         charge = rw (same a CHARGE (omega arith) (λ e. omega arith)) (f .charge);
         extension = rw (same a EXTENSION (omega arith) (λ e. omega arith)) (f .extension);
+        mark = rw (same a MARK (omega arith) (λ e. omega arith)) (f .mark);
         selected = selected-ok a l;
       } in
       atom-fine-back fine
@@ -98,6 +99,20 @@ module _ {atoms bonds : List ℤ} {n m : ℕ} (v : Valid atoms bonds n m) (r : E
   unfolding distinct fresh
   same-distinct = each-same (fresh bonds′) (fresh bonds) m (λ i l. each-same (λ j. not (sameEnds bonds′ i j)) (λ j. not (sameEnds bonds i j)) i (λ j k. ap not (same-ends i j)))
 
+  -- 02, P8: the marks stay, and so do the neighbours of each atom
+  pub kekulized-mark : (a : ℕ) → atomCell atoms′ a MARK ≡ atomCell atoms a MARK
+  kekulized-mark a = same a MARK (omega arith) (λ e. omega arith)
+
+  same-degree : (a : ℕ) → bondDegree bonds′ m a ≡ bondDegree bonds m a
+  unfolding touches
+  same-degree a = degree-same bonds′ bonds m a (λ b l. simp (first b, second b))
+
+  same-unfit : (a : ℕ) → unfit atoms′ bonds′ m a ≡ unfit atoms bonds m a
+  same-unfit a = rw (kekulized-mark a, same-degree a, same a HYDROGENS (omega arith) (λ e. omega arith))
+
+  still-fit : noneUnfit atoms bonds n m ≡ true → noneUnfit atoms′ bonds′ n m ≡ true
+  still-fit h = none-unfit atoms′ bonds′ n m (λ a l. same-unfit a ∙ not-unfit atoms bonds n m h a l)
+
   -- the kekulized tables are valid
   pub kekulized-valid : Valid atoms′ bonds′ n m
   kekulized-valid =
@@ -114,7 +129,7 @@ module _ {atoms bonds : List ℤ} {n m : ℕ} (v : Valid atoms bonds n m) (r : E
   unfolding number
   kekulized-sound h e =
       sound-back atoms′ bonds′ n m kekulized-valid
-      (late-fine atoms′ bonds′ n m e (still-touching bonds m row (λ b l. omega (arith, v .few-bonds, r .bonds-room)) (late-none atoms bonds n m h .touching)) (unselected-tight atoms′ bonds′ n m (λ a l. ap number (none-selected a l))))
+      (late-fine atoms′ bonds′ n m e (still-touching bonds m row (λ b l. omega (arith, v .few-bonds, r .bonds-room)) (late-none atoms bonds n m h .touching)) (unselected-tight atoms′ bonds′ n m (λ a l. ap number (none-selected a l))) (still-fit (late-none atoms bonds n m h .fit)))
 
   -- no atom is delocalized
   pub none-delocalized : (a : ℕ) → a < n → delocalizedAt atoms′ bonds′ m a ≡ false

@@ -1,33 +1,33 @@
--- Bridges and branches, opened and closed in a memory and in the one that has n atoms and m bonds before it. Assumes nothing.
-use Prim.Native.Nat.{ℕ, zero, suc, _+_, _-_, _≤_, _<_}
+-- Bridges and branches, opened and closed in a memory and in the one that has n atoms, m bonds and δ bytes before it. Assumes nothing.
+use Prim.Native.Nat.{ℕ, zero, suc, _+_, _-_, _*_, _≤_, _<_}
 use native.Mathlib.Omega.{arith}
-use native.Mathlib.Numerals.{add-one}
 use native.Mathlib.Decide.{ℕ-discrete, decLt}
 use mathlib.Core.Path.{_≡_, refl, sym, ap, subst, _∙_}
 use mathlib.Core.Bool.{Bool, true, false, _&&_, _||_, not, true≢false}
 use mathlib.Core.List.{List, map}
-use lib.ListN.{getD, set, List·getD-map}
+use lib.ListN.{getD, set, length-set, List·getD-map, List·getD-eq-default}
 use lib.Seq.{getD-set-same, getD-set-other}
 use lib.IntN.{ℤ}
 use lib.Dec.{eqb, leb, ltb}
-use borrow.Author.Tests.{ne-eqb, eqb-false, lt-ltb, le-ltb, leb-false, lt-leb}
+use borrow.Author.Tests.{ne-eqb, eqb-false, leb-false, lt-leb}
 use Rattle.loops.specs.Loop.{pick, each}
 use Rattle.loops.proofs.Loops.{each-all}
 use Rattle.kinds.specs.Kind.{turned, meet, clash}
 use Rattle.reading_grammar.specs.Fold.{keeps, refuses}
 use Rattle.table.specs.Limits.{maxBonds}
 use Rattle.table.specs.Cells.{number, end1, end2}
-use Rattle.ids.specs.Limits.{maxDepth}
-use Rattle.reading_state.specs.State.{opened, closed, bridged, joined}
+use Rattle.ids.specs.Limits.{maxDepth, bridges}
+use Rattle.reading_state.specs.State.{opened, closed, keyed, keysAfter, bridged, joined}
 use Rattle.reading.specs.Memory.{Memory, kindOf, newBond, between, moved, joins, joinedAlready, closeRefusal}
 use Rattle.reading.specs.Act.{bridgeBond, orRefuse, bridgeAct, branchAct}
 use Rattle.reading.proofs.Atoms.{Held}
 use Rattle.mixture_rows.specs.Beside.{raisedRow, BondsBeside}
 use Rattle.mixture_rows.proofs.Parts.{each-parts}
-use Rattle.mixture_rows.proofs.Graph.{eqb-raised}
+use Rattle.mixture_rows.proofs.Graph.{eqb-raised, ltb-raised}
 use Rattle.mixture_rows.proofs.Bonds.{second-end1, second-end2}
 use Rattle.mixture.proofs.Rows.{bonds-written, set-alike, map-set}
 use Rattle.mixture.proofs.Behind.{raised, Behind, Side, Both}
+use Rattle.mixture.proofs.Keys.{raised-more, set-zero, keyed-raised, after-other}
 
 -- ---- openers
 raised-zero : (n x : ℕ) → eqb (raised n x) 0 ≡ eqb x 0
@@ -38,17 +38,7 @@ raised-pred : (n x : ℕ) → (x ≡ 0 → ⊥) → raised n x - 1 ≡ n + (x - 
 raised-pred n zero f = absurd (f refl)
 raised-pred n (suc x) f = omega arith
 
-raised-more : (n x : ℕ) → raised n (x + 1) ≡ n + x + 1
-raised-more n x = ap (raised n) (add-one x) ∙ sym (add-one (n + x))
-
 -- ---- bonds
-ltb-raised : (n a b : ℕ) → ltb (n + a) (n + b) ≡ ltb a b
-ltb-raised n a b = split (decLt a b)
-  where
-    split : Dec (a < b) → ltb (n + a) (n + b) ≡ ltb a b
-    split (yes l) = lt-ltb (n + a) (n + b) (omega arith) ∙ sym (lt-ltb a b l)
-    split (no l) = le-ltb (n + a) (n + b) (omega arith) ∙ sym (le-ltb a b (omega arith))
-
 between-raised : (n a b k : ℕ) → between (n + a) (n + b) k ≡ raisedRow n (between a b k)
 unfolding number
 between-raised n a b k = ap (λ (t : Bool). pick t (newBond (n + a) (n + b) k) (newBond (n + b) (n + a) (turned k))) (ltb-raised n a b) ∙ split (ltb a b)
@@ -90,7 +80,7 @@ module _ {n m k : ℕ} {t u : List ℤ} (w : BondsBeside n m k u t u) (a b : ℕ
       ∙ sym (ap (λ (z : Bool). pick z 5 (pick (eqb a b) 7 (pick (joinedAlready t k a b) 8 (pick (clash x y) 9 0)))) (lt-leb maxBonds k (omega arith)))
 
 -- ---- a bridge
-module _ {n m p q d i p′ q′ d′ j : ℕ} {μ κ : Memory} (h : Held p q d i μ) (k : Held p′ q′ d′ j κ) (w : Behind n m μ κ) where
+module _ {n m δ p q d i p′ q′ d′ j : ℕ} {φ : List ℕ} {μ κ : Memory} (h : Held p q d i μ) (k : Held p′ q′ d′ j κ) (w : Behind n m δ φ μ κ) where
   opener-at : (r : ℕ) → getD (κ .st .opener) r 0 ≡ raised n (getD (μ .st .opener) r 0)
   opener-at r = ap (λ (l : List ℕ). getD l r 0) (w .ground .opener) ∙ List·getD-map (raised n) (μ .st .opener) r 0
 
@@ -101,8 +91,8 @@ module _ {n m p q d i p′ q′ d′ j : ℕ} {μ κ : Memory} (h : Held p q d i
   kind-alike = ap kindOf (w .pending)
 
   -- the number opens
-  opens : (r o e : ℕ) → Behind n m (moved (bridged (μ .st) r (μ .st .hub .0 + 1) (kindOf (μ .pending)) o (μ .st .bonds)) μ) (moved (bridged (κ .st) r (κ .st .hub .0 + 1) (kindOf (κ .pending)) e (κ .st .bonds)) κ)
-  opens r o e =
+  opens : (r o e : ℕ) → e ≡ δ + o → Behind n m δ φ (moved (bridged (μ .st) r (μ .st .hub .0 + 1) (kindOf (μ .pending)) o (μ .st .bonds) (μ .st .keys)) μ) (moved (bridged (κ .st) r (κ .st .hub .0 + 1) (kindOf (κ .pending)) e (κ .st .bonds) (κ .st .keys)) κ)
+  opens r o e later =
       record {
         ground = record {
           atom-count = w .ground .atom-count;
@@ -111,6 +101,9 @@ module _ {n m p q d i p′ q′ d′ j : ℕ} {μ κ : Memory} (h : Held p q d i
           stack = w .ground .stack;
           opener = opener;
           symbol = symbol;
+          offset = offset;
+          front = w .ground .front;
+          keys = w .ground .keys;
           outside = w .ground .outside;
           atom-rows = w .ground .atom-rows;
           bond-rows = w .ground .bond-rows;
@@ -138,17 +131,35 @@ module _ {n m p q d i p′ q′ d′ j : ℕ} {μ κ : Memory} (h : Held p q d i
               ∙ w .ground .symbol c (subst (λ (x : ℕ). 0 < x) (getD-set-other (μ .st .opener) r c (μ .st .hub .0 + 1) 0 f) l)
               ∙ sym (getD-set-other (μ .st .symbol) r c (kindOf (μ .pending)) 0 f)
 
+      offset : (c : ℕ) → 0 < getD (set (μ .st .opener) r (μ .st .hub .0 + 1)) c 0 → getD (set (κ .st .offset) r e) c 0 ≡ δ + getD (set (μ .st .offset) r o) c 0
+      offset c l = split (ℕ-discrete c r) (decLt c bridges)
+        where
+          split : Dec (c ≡ r) → Dec (c < bridges) → getD (set (κ .st .offset) r e) c 0 ≡ δ + getD (set (μ .st .offset) r o) c 0
+          split (yes f) (yes g) =
+              ap (λ (x : ℕ). getD (set (κ .st .offset) r e) x 0) f
+              ∙ getD-set-same (κ .st .offset) r e 0 (omega (arith, k .steering .offset-length))
+              ∙ later
+              ∙ ap (λ (x : ℕ). δ + x) (sym (getD-set-same (μ .st .offset) r o 0 (omega (arith, h .steering .offset-length))) ∙ ap (λ (x : ℕ). getD (set (μ .st .offset) r o) x 0) (sym f))
+          split (yes f) (no g) = let z = List·getD-eq-default (set (μ .st .opener) r (μ .st .hub .0 + 1)) 0 {n = c} (rw length-set (omega (arith, h .steering .opener-length))) in absurd (omega arith)
+          split (no f) g =
+              getD-set-other (κ .st .offset) r c e 0 f
+              ∙ w .ground .offset c (subst (λ (x : ℕ). 0 < x) (getD-set-other (μ .st .opener) r c (μ .st .hub .0 + 1) 0 f) l)
+              ∙ ap (λ (x : ℕ). δ + x) (sym (getD-set-other (μ .st .offset) r c o 0 f))
+
   -- the number closes
   module _ (r : ℕ) (held : getD (μ .st .opener) r 0 ≡ 0 → ⊥) where
     first-atom : getD (κ .st .opener) r 0 - 1 ≡ n + (getD (μ .st .opener) r 0 - 1)
     first-atom = ap (λ (x : ℕ). x - 1) (opener-at r) ∙ raised-pred n (getD (μ .st .opener) r 0) held
 
-    symbol-alike : getD (κ .st .symbol) r 0 ≡ getD (μ .st .symbol) r 0
-    symbol-alike = w .ground .symbol r (positive (getD (μ .st .opener) r 0) held)
+    open-still : 0 < getD (μ .st .opener) r 0
+    open-still = positive (getD (μ .st .opener) r 0) held
       where
         positive : (x : ℕ) → (x ≡ 0 → ⊥) → 0 < x
         positive zero f = absurd (f refl)
         positive (suc x) f = omega arith
+
+    symbol-alike : getD (κ .st .symbol) r 0 ≡ getD (μ .st .symbol) r 0
+    symbol-alike = w .ground .symbol r open-still
 
     close-alike : m + (μ .st .bonds + 1) ≤ maxBonds
         → closeRefusal (κ .bonds) (κ .st .bonds) (getD (κ .st .opener) r 0 - 1) (κ .st .hub .0) (getD (κ .st .symbol) r 0) (kindOf (κ .pending))
@@ -163,8 +174,29 @@ module _ {n m p q d i p′ q′ d′ j : ℕ} {μ κ : Memory} (h : Held p q d i
         (λ v. between (first-atom v) (w .hub v) (meet (symbol-alike v) (kind-alike v)))
         ∙ between-raised n (getD (μ .st .opener) r 0 - 1) (μ .st .hub .0) (meet (getD (μ .st .symbol) r 0) (kindOf (μ .pending)))
 
-    closes : m + (μ .st .bonds + 1) ≤ maxBonds → Behind n m (moved (bridged (μ .st) r 0 0 0 (μ .st .bonds + 1)) (bridgeBond r μ)) (moved (bridged (κ .st) r 0 0 0 (κ .st .bonds + 1)) (bridgeBond r κ))
-    closes l =
+    -- the keys of the bond
+    module _ (o e : ℕ) (later : e ≡ δ + o) (room : m + (μ .st .bonds + 1) ≤ maxBonds) where
+      keys-alike : (c : ℕ) → getD (keysAfter (κ .st) r e) (2 * m + c) 0 ≡ raised δ (getD (keysAfter (μ .st) r o) c 0)
+      keys-alike c = split (ltb (getD (μ .st .opener) r 0 - 1) (μ .st .hub .0)) (ltb (getD (κ .st .opener) r 0 - 1) (κ .st .hub .0)) ((λ v. ltb (first-atom v) (w .hub v)) ∙ ltb-raised n (getD (μ .st .opener) r 0 - 1) (μ .st .hub .0))
+        where
+          both : (p q p′ q′ : ℕ) → p′ ≡ δ + p → q′ ≡ δ + q → getD (keyed (κ .st .keys) (κ .st .bonds) p′ q′) (2 * m + c) 0 ≡ raised δ (getD (keyed (μ .st .keys) (μ .st .bonds) p q) c 0)
+          both p q p′ q′ x y =
+              let z = w .ground .bond-count in
+              keyed-raised δ m (μ .st .keys) (κ .st .keys) (μ .st .bonds) (κ .st .bonds) p q p′ q′ (omega (arith, h .steering .keys-length)) (omega (arith, k .steering .keys-length)) z x y (w .ground .keys) c
+
+          split : (t u : Bool) → u ≡ t
+              → getD (pick u (keyed (κ .st .keys) (κ .st .bonds) (getD (κ .st .offset) r 0) e) (keyed (κ .st .keys) (κ .st .bonds) e (getD (κ .st .offset) r 0))) (2 * m + c) 0
+              ≡ raised δ (getD (pick t (keyed (μ .st .keys) (μ .st .bonds) (getD (μ .st .offset) r 0) o) (keyed (μ .st .keys) (μ .st .bonds) o (getD (μ .st .offset) r 0))) c 0)
+          split true true g = both (getD (μ .st .offset) r 0) o (getD (κ .st .offset) r 0) e (w .ground .offset r open-still) later
+          split true false g = absurd (true≢false (sym g))
+          split false true g = absurd (true≢false g)
+          split false false g = both o (getD (μ .st .offset) r 0) e (getD (κ .st .offset) r 0) later (w .ground .offset r open-still)
+
+      keys-front : (c : ℕ) → c < 2 * m → getD (keysAfter (κ .st) r e) c 0 ≡ getD φ c 0
+      keys-front c l = let z = w .ground .bond-count in after-other (κ .st) r e c (λ g. omega arith) (λ g. omega arith) ∙ w .ground .front c l
+
+    closes : (o e : ℕ) → e ≡ δ + o → m + (μ .st .bonds + 1) ≤ maxBonds → Behind n m δ φ (moved (bridged (μ .st) r 0 0 0 (μ .st .bonds + 1) (keysAfter (μ .st) r o)) (bridgeBond r μ)) (moved (bridged (κ .st) r 0 0 0 (κ .st .bonds + 1) (keysAfter (κ .st) r e)) (bridgeBond r κ))
+    closes o e later l =
         record {
           ground = record {
             atom-count = w .ground .atom-count;
@@ -173,6 +205,9 @@ module _ {n m p q d i p′ q′ d′ j : ℕ} {μ κ : Memory} (h : Held p q d i
             stack = w .ground .stack;
             opener = (λ v. set (w .ground .opener v) r 0) ∙ map-set (raised n) (μ .st .opener) r 0;
             symbol = symbol;
+            offset = offset;
+            front = keys-front o e later l;
+            keys = keys-alike o e later l;
             outside = w .ground .outside;
             atom-rows = w .ground .atom-rows;
             bond-rows =
@@ -194,10 +229,20 @@ module _ {n m p q d i p′ q′ d′ j : ℕ} {μ κ : Memory} (h : Held p q d i
             split (no f) l =
                 getD-set-other (κ .st .symbol) r c 0 0 f ∙ w .ground .symbol c (subst (λ (x : ℕ). 0 < x) (getD-set-other (μ .st .opener) r c 0 0 f) l) ∙ sym (getD-set-other (μ .st .symbol) r c 0 0 f)
 
+        offset : (c : ℕ) → 0 < getD (set (μ .st .opener) r 0) c 0 → getD (set (κ .st .offset) r 0) c 0 ≡ δ + getD (set (μ .st .offset) r 0) c 0
+        offset c = split (ℕ-discrete c r)
+          where
+            split : Dec (c ≡ r) → 0 < getD (set (μ .st .opener) r 0) c 0 → getD (set (κ .st .offset) r 0) c 0 ≡ δ + getD (set (μ .st .offset) r 0) c 0
+            split (yes f) l = let z = ap (λ (x : ℕ). getD (set (μ .st .opener) r 0) x 0) f ∙ set-zero (μ .st .opener) r in absurd (omega arith)
+            split (no f) l =
+                getD-set-other (κ .st .offset) r c 0 0 f
+                ∙ w .ground .offset c (subst (λ (x : ℕ). 0 < x) (getD-set-other (μ .st .opener) r c 0 0 f) l)
+                ∙ ap (λ (x : ℕ). δ + x) (sym (getD-set-other (μ .st .offset) r c 0 0 f))
+
   -- a bridge number that is complete
-  pub bridge-both : (r o e : ℕ) → Both n m μ (bridgeAct r o μ) (bridgeAct r e κ)
+  pub bridge-both : (r o e : ℕ) → e ≡ δ + o → Both n m δ φ μ (bridgeAct r o μ) (bridgeAct r e κ)
   unfolding bridgeAct joined
-  bridge-both r o e = split (eqb (getD (μ .st .opener) r 0) 0) refl (eqb (getD (κ .st .opener) r 0) 0) (free-alike r)
+  bridge-both r o e later = split (eqb (getD (μ .st .opener) r 0) 0) refl (eqb (getD (κ .st .opener) r 0) 0) (free-alike r)
     where
       c₁ : ℕ
       c₁ = closeRefusal (μ .bonds) (μ .st .bonds) (getD (μ .st .opener) r 0 - 1) (μ .st .hub .0) (getD (μ .st .symbol) r 0) (kindOf (μ .pending))
@@ -205,29 +250,29 @@ module _ {n m p q d i p′ q′ d′ j : ℕ} {μ κ : Memory} (h : Held p q d i
       c₂ : ℕ
       c₂ = closeRefusal (κ .bonds) (κ .st .bonds) (getD (κ .st .opener) r 0 - 1) (κ .st .hub .0) (getD (κ .st .symbol) r 0) (kindOf (κ .pending))
 
-      refusal : (c : ℕ) → c₁ ≡ c → eqb (getD (μ .st .opener) r 0) 0 ≡ false → Both n m μ (orRefuse c o (moved (bridged (μ .st) r 0 0 0 (μ .st .bonds + 1)) (bridgeBond r μ))) (orRefuse c₂ e (moved (bridged (κ .st) r 0 0 0 (κ .st .bonds + 1)) (bridgeBond r κ)))
+      refusal : (c : ℕ) → c₁ ≡ c → eqb (getD (μ .st .opener) r 0) 0 ≡ false → Both n m δ φ μ (orRefuse c o (moved (bridged (μ .st) r 0 0 0 (μ .st .bonds + 1) (keysAfter (μ .st) r o)) (bridgeBond r μ))) (orRefuse c₂ e (moved (bridged (κ .st) r 0 0 0 (κ .st .bonds + 1) (keysAfter (κ .st) r e)) (bridgeBond r κ)))
       refusal zero z f =
           let held = eqb-false (getD (μ .st .opener) r 0) 0 f in (
-            record { atoms = omega arith; bonds = omega arith },
+            record { atoms = omega arith; bonds = omega arith; clear = λ x c l. after-other (μ .st) r o c (λ g. omega arith) (λ g. omega arith) ∙ x c (omega arith) },
             λ room.
-                subst (λ (c : ℕ). Side n m (moved (bridged (μ .st) r 0 0 0 (μ .st .bonds + 1)) (bridgeBond r μ)) (orRefuse c e (moved (bridged (κ .st) r 0 0 0 (κ .st .bonds + 1)) (bridgeBond r κ)))) (sym (close-alike r held (room .bonds) ∙ z))
-                (closes r held (room .bonds)),
+                subst (λ (c : ℕ). Side n m δ φ (moved (bridged (μ .st) r 0 0 0 (μ .st .bonds + 1) (keysAfter (μ .st) r o)) (bridgeBond r μ)) (orRefuse c e (moved (bridged (κ .st) r 0 0 0 (κ .st .bonds + 1) (keysAfter (κ .st) r e)) (bridgeBond r κ)))) (sym (close-alike r held (room .bonds) ∙ z))
+                (closes r held o e later (room .bonds)),
           )
       refusal (suc c) z f = tt
 
       split : (t : Bool) → eqb (getD (μ .st .opener) r 0) 0 ≡ t → (u : Bool) → u ≡ t
-          → Both n m μ
-          (pick t (keeps (moved (pick t (bridged (μ .st) r (μ .st .hub .0 + 1) (kindOf (μ .pending)) o (μ .st .bonds)) (bridged (μ .st) r 0 0 0 (μ .st .bonds + 1))) μ))
-          (orRefuse c₁ o (moved (pick t (bridged (μ .st) r (μ .st .hub .0 + 1) (kindOf (μ .pending)) o (μ .st .bonds)) (bridged (μ .st) r 0 0 0 (μ .st .bonds + 1))) (bridgeBond r μ))))
-          (pick u (keeps (moved (pick u (bridged (κ .st) r (κ .st .hub .0 + 1) (kindOf (κ .pending)) e (κ .st .bonds)) (bridged (κ .st) r 0 0 0 (κ .st .bonds + 1))) κ))
-          (orRefuse c₂ e (moved (pick u (bridged (κ .st) r (κ .st .hub .0 + 1) (kindOf (κ .pending)) e (κ .st .bonds)) (bridged (κ .st) r 0 0 0 (κ .st .bonds + 1))) (bridgeBond r κ))))
-      split true f true g = (record { atoms = omega arith; bonds = omega arith }, λ room. opens r o e)
+          → Both n m δ φ μ
+          (pick t (keeps (moved (pick t (bridged (μ .st) r (μ .st .hub .0 + 1) (kindOf (μ .pending)) o (μ .st .bonds) (μ .st .keys)) (bridged (μ .st) r 0 0 0 (μ .st .bonds + 1) (keysAfter (μ .st) r o))) μ))
+          (orRefuse c₁ o (moved (pick t (bridged (μ .st) r (μ .st .hub .0 + 1) (kindOf (μ .pending)) o (μ .st .bonds) (μ .st .keys)) (bridged (μ .st) r 0 0 0 (μ .st .bonds + 1) (keysAfter (μ .st) r o))) (bridgeBond r μ))))
+          (pick u (keeps (moved (pick u (bridged (κ .st) r (κ .st .hub .0 + 1) (kindOf (κ .pending)) e (κ .st .bonds) (κ .st .keys)) (bridged (κ .st) r 0 0 0 (κ .st .bonds + 1) (keysAfter (κ .st) r e))) κ))
+          (orRefuse c₂ e (moved (pick u (bridged (κ .st) r (κ .st .hub .0 + 1) (kindOf (κ .pending)) e (κ .st .bonds) (κ .st .keys)) (bridged (κ .st) r 0 0 0 (κ .st .bonds + 1) (keysAfter (κ .st) r e))) (bridgeBond r κ))))
+      split true f true g = (record { atoms = omega arith; bonds = omega arith; clear = λ x. x }, λ room. opens r o e later)
       split true f false g = absurd (true≢false (sym g))
       split false f true g = absurd (true≢false g)
       split false f false g = refusal c₁ refl f
 
   -- ---- a branch
-  open-branch : μ .st .depth < maxDepth → Behind n m (moved (opened (μ .st)) μ) (moved (opened (κ .st)) κ)
+  open-branch : μ .st .depth < maxDepth → Behind n m δ φ (moved (opened (μ .st)) μ) (moved (opened (κ .st)) κ)
   unfolding opened
   open-branch l =
       record {
@@ -238,6 +283,9 @@ module _ {n m p q d i p′ q′ d′ j : ℕ} {μ κ : Memory} (h : Held p q d i
           stack = stack;
           opener = w .ground .opener;
           symbol = w .ground .symbol;
+          offset = w .ground .offset;
+          front = w .ground .front;
+          keys = w .ground .keys;
           outside = w .ground .outside;
           atom-rows = w .ground .atom-rows;
           bond-rows = w .ground .bond-rows;
@@ -264,16 +312,16 @@ module _ {n m p q d i p′ q′ d′ j : ℕ} {μ κ : Memory} (h : Held p q d i
               ∙ w .ground .stack x (omega arith)
               ∙ ap (λ (v : ℕ). n + v) (sym (getD-set-other (μ .st .stack) (μ .st .depth) x (μ .st .hub .0) 0 f))
 
-  pub branch-both : (o e : ℕ) → Both n m μ (branchAct o μ) (branchAct e κ)
+  pub branch-both : (o e : ℕ) → Both n m δ φ μ (branchAct o μ) (branchAct e κ)
   unfolding branchAct opened
   branch-both o e = split (leb maxDepth (μ .st .depth)) refl (leb maxDepth (κ .st .depth)) (ap (leb maxDepth) (w .ground .depth))
     where
-      split : (t : Bool) → leb maxDepth (μ .st .depth) ≡ t → (u : Bool) → u ≡ leb maxDepth (μ .st .depth) → Both n m μ (pick t (refuses 6 o) (keeps (moved (opened (μ .st)) μ))) (pick u (refuses 6 e) (keeps (moved (opened (κ .st)) κ)))
+      split : (t : Bool) → leb maxDepth (μ .st .depth) ≡ t → (u : Bool) → u ≡ leb maxDepth (μ .st .depth) → Both n m δ φ μ (pick t (refuses 6 o) (keeps (moved (opened (μ .st)) μ))) (pick u (refuses 6 e) (keeps (moved (opened (κ .st)) κ)))
       split true f u g = tt
       split false f true g = absurd (true≢false (g ∙ f))
-      split false f false g = (record { atoms = omega arith; bonds = omega arith }, λ room. open-branch (leb-false maxDepth (μ .st .depth) f))
+      split false f false g = (record { atoms = omega arith; bonds = omega arith; clear = λ x. x }, λ room. open-branch (leb-false maxDepth (μ .st .depth) f))
 
-  pub unbranch-behind : 0 < μ .st .depth → Behind n m (moved (closed (μ .st)) μ) (moved (closed (κ .st)) κ)
+  pub unbranch-behind : 0 < μ .st .depth → Behind n m δ φ (moved (closed (μ .st)) μ) (moved (closed (κ .st)) κ)
   unfolding closed
   unbranch-behind l =
       record {
@@ -288,6 +336,9 @@ module _ {n m p q d i p′ q′ d′ j : ℕ} {μ κ : Memory} (h : Held p q d i
               ∙ ap (λ (v : ℕ). n + v) (sym (getD-set-other (μ .st .stack) (μ .st .depth - 1) x 0 0 (λ e. omega arith)));
           opener = w .ground .opener;
           symbol = w .ground .symbol;
+          offset = w .ground .offset;
+          front = w .ground .front;
+          keys = w .ground .keys;
           outside = w .ground .outside;
           atom-rows = w .ground .atom-rows;
           bond-rows = w .ground .bond-rows;

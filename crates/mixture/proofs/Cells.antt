@@ -14,7 +14,7 @@ use Rattle.table.specs.declared.Bond.{Bond}
 use Rattle.table.specs.Limits.{atomCells, bondCells}
 use Rattle.table.specs.Cells.{atomCell, bondCell}
 use Rattle.table.specs.Rows.{atomRow, bondRow}
-use Rattle.reading.proofs.Rows.{length-with-bond, with-bond-row}
+use Rattle.table.proofs.Rows.{with-bond-length, with-bond-row}
 use Rattle.mixture_rows.specs.Beside.{raisedRow}
 use Rattle.mixture.specs.Mixed.{raisedBond, raisedBonds, sideBySide}
 use Rattle.mixture.proofs.Rows.{other-bond}
@@ -79,7 +79,8 @@ atom-cell t u a c (suc (suc zero)) l e = ap (λ (x : Atom). x .isotope) e
 atom-cell t u a c (suc (suc (suc zero))) l e = ap (λ (x : Atom). x .hydrogens) e
 atom-cell t u a c (suc (suc (suc (suc zero)))) l e = ap (λ (x : Atom). x .charge) e
 atom-cell t u a c (suc (suc (suc (suc (suc zero))))) l e = ap (λ (x : Atom). x .extension) e
-atom-cell t u a c (suc (suc (suc (suc (suc (suc f)))))) l e = absurd (omega arith)
+atom-cell t u a c (suc (suc (suc (suc (suc (suc zero)))))) l e = ap (λ (x : Atom). x .mark) e
+atom-cell t u a c (suc (suc (suc (suc (suc (suc (suc f))))))) l e = absurd (omega arith)
 
 bond-cell : (t u : List ℤ) (b c f : ℕ) → f < bondCells → bondRow u c ≡ bondRow t b → bondCell u c f ≡ bondCell t b f
 bond-cell t u b c zero l e = ap (λ (x : Bond). x .first) e
@@ -118,39 +119,35 @@ first-bonds-cells t u M h k l =
 
 -- ---- bonds moved up
 module _ (n : ℕ) where
-  one-length : (b : ℕ) (t : List ℤ) → bondCells * b + bondCells ≤ length t → length (raisedBond n b t) ≡ length t
-  one-length b t l = length-with-bond t b (raisedRow n (bondRow t b)) l
+  one-length : (b : ℕ) (t : List ℤ) → length (raisedBond n b t) ≡ length t
+  one-length b t = with-bond-length t b (raisedRow n (bondRow t b))
 
-  run-length : (c k : ℕ) (t : List ℤ) → bondCells * (k + c) ≤ length t → length (run (raisedBond n) k c t) ≡ length t
+  run-length : (c k : ℕ) (t : List ℤ) → length (run (raisedBond n) k c t) ≡ length t
   unfolding run
-  run-length zero k t l = refl
-  run-length (suc c) k t l =
-      let e = one-length k t (omega arith) in
-      run-length c (suc k) (raisedBond n k t) (omega arith) ∙ e
+  run-length zero k t = refl
+  run-length (suc c) k t = run-length c (suc k) (raisedBond n k t) ∙ one-length k t
 
-  run-before : (c k : ℕ) (t : List ℤ) → bondCells * (k + c) ≤ length t → (b : ℕ) → b < k → bondRow (run (raisedBond n) k c t) b ≡ bondRow t b
+  run-before : (c k : ℕ) (t : List ℤ) (b : ℕ) → b < k → bondRow (run (raisedBond n) k c t) b ≡ bondRow t b
   unfolding run
-  run-before zero k t l b s = refl
-  run-before (suc c) k t l b s =
-      let e = one-length k t (omega arith) in
-      run-before c (suc k) (raisedBond n k t) (omega arith) b (omega arith) ∙ other-bond t k (raisedRow n (bondRow t k)) (omega arith) b (λ q. omega arith)
+  run-before zero k t b s = refl
+  run-before (suc c) k t b s = run-before c (suc k) (raisedBond n k t) b (omega arith) ∙ other-bond t k (raisedRow n (bondRow t k)) b (λ q. omega arith)
 
   run-raised : (c k : ℕ) (t : List ℤ) → bondCells * (k + c) ≤ length t → (b : ℕ) → k ≤ b → b < k + c → bondRow (run (raisedBond n) k c t) b ≡ raisedRow n (bondRow t b)
   unfolding run
   run-raised zero k t l b s u = absurd (omega arith)
-  run-raised (suc c) k t l b s u = split (ℕ-discrete b k) (λ g. run-raised c (suc k) (raisedBond n k t) (let e = one-length k t (omega arith) in omega arith) b g (omega arith))
+  run-raised (suc c) k t l b s u = split (ℕ-discrete b k) (λ g. run-raised c (suc k) (raisedBond n k t) (let e = one-length k t in omega arith) b g (omega arith))
     where
       split : Dec (b ≡ k) → (suc k ≤ b → bondRow (run (raisedBond n) (suc k) c (raisedBond n k t)) b ≡ raisedRow n (bondRow (raisedBond n k t) b)) → bondRow (run (raisedBond n) (suc k) c (raisedBond n k t)) b ≡ raisedRow n (bondRow t b)
       split (yes q) rest =
-          run-before c (suc k) (raisedBond n k t) (let e = one-length k t (omega arith) in omega arith) b (omega arith)
+          run-before c (suc k) (raisedBond n k t) b (omega arith)
           ∙ ap (bondRow (raisedBond n k t)) q
           ∙ with-bond-row t k (raisedRow n (bondRow t k)) (omega arith)
           ∙ ap (λ (z : ℕ). raisedRow n (bondRow t z)) (sym q)
-      split (no f) rest = rest (omega arith) ∙ ap (raisedRow n) (other-bond t k (raisedRow n (bondRow t k)) (omega arith) b f)
+      split (no f) rest = rest (omega arith) ∙ ap (raisedRow n) (other-bond t k (raisedRow n (bondRow t k)) b f)
 
-  pub raised-length : (m : ℕ) (t : List ℤ) → bondCells * m ≤ length t → length (raisedBonds n m t) ≡ length t
+  pub raised-length : (m : ℕ) (t : List ℤ) → length (raisedBonds n m t) ≡ length t
   unfolding raisedBonds
-  raised-length m t l = run-length m 0 t (omega arith)
+  raised-length m t = run-length m 0 t
 
   pub raised-rows : (m : ℕ) (t : List ℤ) → bondCells * m ≤ length t → (b : ℕ) → b < m → bondRow (raisedBonds n m t) b ≡ raisedRow n (bondRow t b)
   unfolding raisedBonds

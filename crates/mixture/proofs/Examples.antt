@@ -14,6 +14,7 @@ use Rattle.valence.specs.Valence.{targets, firstTarget, firstFitting, reachedIn
 use Rattle.reading_grammar.specs.Grammar.{nonzero, digits, several, bondSymbols, signs}
 use Rattle.reading_grammar.specs.Machine.{step, next, accepting, resting, atomOr, bridgeOr, closing, extending, charging, hydrating, symbolOr}
 use Rattle.reading_grammar.specs.Fold.{feed, read}
+use Rattle.parity.specs.Parity.{oddly, oddPairs, odd}
 use Rattle.matching.specs.Enumeration.{rows, passing}
 use Rattle.matching.specs.Graph.{isMatching, eachOnce, degree, chosenInduced}
 use Rattle.table.specs.Limits.{maxAtoms, maxBonds, atomCells, bondCells}
@@ -21,13 +22,14 @@ use Rattle.table.specs.Cells.{number, touches}
 use Rattle.table.specs.Rows.{withAtom, withBond}
 use Rattle.table.specs.Valid.{enough}
 use Rattle.table.specs.Marks.{side, sideCount, doubleCount, noneCrowded, noneStray}
-use Rattle.table.specs.Sound.{bondDegree, noneLoose, lateCode}
+use Rattle.table.specs.Sound.{bondDegree, noneLoose, noneUnfit, lateCode}
+use Rattle.table.specs.Orders.{bondsFrom, bondsAt, turns, turnedMark, turnMarks}
 use Rattle.table_graph.specs.Graph.{share, bondSum, matchable}
 use Rattle.reading_state.specs.State.{started, opened, closed, joined}
 use Rattle.reading.specs.Memory.{begun, joins, joinedAlready, closeRefusal}
 use Rattle.reading.specs.Bracket.{symbolled}
 use Rattle.reading.specs.Act.{atomAct, bridgeAct, branchAct, modeAct, act}
-use Rattle.reading.specs.Read.{hydrogenated, overfullAtoms, leftmost, ended, readFrom, readOf}
+use Rattle.reading.specs.Read.{hydrogenated, textRank, overfullAtoms, leftmost, ended, readFrom, readOf}
 use Rattle.mixture_rows.specs.Rows.{followed}
 use Rattle.mixture.specs.Mixed.{unmarkedText, joinedText}
 use Rattle.mixture.specs.Claims.{matchingsRead, Joinable}
@@ -52,7 +54,7 @@ record Alone : Type 0 where
   pub rows : matchingsRead (readOf benzene atomRubbish bondRubbish) ≡ (1 ∷ 0 ∷ 1 ∷ 0 ∷ 1 ∷ 0 ∷ []) ∷ (0 ∷ 1 ∷ 0 ∷ 1 ∷ 0 ∷ 1 ∷ []) ∷ []
 
 alone : Alone
-unfolding benzene atomRubbish bondRubbish bondDegree noneLoose side sideCount doubleCount noneCrowded noneStray lateCode each howMany run upTo among listed starts sameBytes symbols letters marks indexFrom numberOf selectedOf letterOf order markOf turned targets firstTarget firstFitting reachedIn hydrogensOf shiftedTarget delocalized nonzero digits several bondSymbols signs step next accepting resting atomOr bridgeOr closing extending charging hydrating symbolOr feed read rows passing isMatching eachOnce degree chosenInduced number withAtom withBond enough touches share bondSum started opened closed joined symbolKind begun joins joinedAlready closeRefusal symbolled atomAct bridgeAct branchAct modeAct act hydrogenated overfullAtoms leftmost matchable ended readFrom readOf
+unfolding benzene atomRubbish bondRubbish bondDegree noneLoose noneUnfit bondsFrom bondsAt turns turnedMark turnMarks oddly oddPairs odd textRank side sideCount doubleCount noneCrowded noneStray lateCode each howMany run upTo among listed starts sameBytes symbols letters marks indexFrom numberOf selectedOf letterOf order markOf turned targets firstTarget firstFitting reachedIn hydrogensOf shiftedTarget delocalized nonzero digits several bondSymbols signs step next accepting resting atomOr bridgeOr closing extending charging hydrating symbolOr feed read rows passing isMatching eachOnce degree chosenInduced number withAtom withBond enough touches share bondSum started opened closed joined symbolKind begun joins joinedAlready closeRefusal symbolled atomAct bridgeAct branchAct modeAct act hydrogenated overfullAtoms leftmost matchable ended readFrom readOf
 alone = record { accepted = refl; atoms = refl; bonds = refl; rows = refl }
 
 long : enough atomRubbish bondRubbish ≡ true

@@ -1,5 +1,5 @@
--- A text that is read from a memory is read as well from the one that has n atoms and m bonds before it, where there is room. Assumes nothing.
-use Prim.Native.Nat.{ℕ, zero, suc, _+_, _<_}
+-- A text that is read from a memory is read as well from the one that has n atoms, m bonds and δ bytes before it, where there is room. Assumes nothing.
+use Prim.Native.Nat.{ℕ, zero, suc, _+_, _-_, _*_, _<_}
 use native.Mathlib.Omega.{arith}
 use native.Mathlib.Nat.{zero-add}
 use mathlib.Core.Path.{_≡_, refl, sym, ap, subst, _∙_}
@@ -29,7 +29,8 @@ use Rattle.reading.proofs.Step.{sane-feed}
 use Rattle.reading.proofs.Percent.{into-percent1, first-digit}
 use Rattle.mixture_rows.specs.Beside.{raisedRow}
 use Rattle.mixture.proofs.Behind.{raised, Behind, Grown, Room, Side, Both}
-use Rattle.mixture.proofs.Modes.{SameTens, mode-both}
+use Rattle.mixture.proofs.Keys.{unmoved}
+use Rattle.mixture.proofs.Modes.{SamePercent, mode-both}
 
 -- ---- one byte of a reading that goes on
 pub record Taken (i : ℕ) (σ : MachineState) (μ : Memory) (b : ℕ) (s : List ℕ) (r : Reading Memory) : Type 0 where
@@ -74,36 +75,32 @@ not-start dead b e = let z : _≡_ {A = ℕ} 0 1 = cc in omega arith
 not-start start b e = turned-away (atomOr b stop) 0 e
 not-start (at x d) b e = turned-away (next x b) d e
 
-module _ {n m p q i p′ q′ j : ℕ} {μ κ : Memory} where
-  step-both : (σ : MachineState) → (σ ≡ start → ⊥) → Sane p q σ i μ → Sane p′ q′ σ j κ → Behind n m μ κ → SameTens σ μ κ → (b : ℕ) → alive (step σ b) ≡ true → Both n m μ (act σ b i μ) (act σ b j κ)
+module _ {n m δ p q i p′ q′ j : ℕ} {φ : List ℕ} {μ κ : Memory} where
+  step-both : (σ : MachineState) → (σ ≡ start → ⊥) → Sane p q σ i μ → Sane p′ q′ σ j κ → Behind n m δ φ μ κ → j ≡ δ + i → SamePercent δ i j σ μ κ → (b : ℕ) → alive (step σ b) ≡ true → Both n m δ φ μ (act σ b i μ) (act σ b j κ)
   unfolding step act
-  step-both dead s h k w t b v = absurd (h .stands)
-  step-both start s h k w t b v = absurd (s refl)
-  step-both (at x d) s h k w t b v = mode-both x h k w t b i j v
+  step-both dead s h k w y t b v = absurd (h .stands)
+  step-both start s h k w y t b v = absurd (s refl)
+  step-both (at x d) s h k w y t b v = mode-both x h k w b i j y t v
 
 -- after the first digit behind `%` both have it
-pub tens-after : (σ : MachineState) (b i j : ℕ) (μ κ ν ξ : Memory) → act σ b i μ ≡ keeps ν → act σ b j κ ≡ keeps ξ → SameTens (step σ b) ν ξ
-tens-after σ b i j μ κ ν ξ e f x q =
+pub percent-after : (δ : ℕ) (σ : MachineState) (b i j : ℕ) (μ κ ν ξ : Memory) → j ≡ δ + i → 0 < i → act σ b i μ ≡ keeps ν → act σ b j κ ≡ keeps ξ → SamePercent δ (suc i) (suc j) (step σ b) ν ξ
+percent-after δ σ b i j μ κ ν ξ y l e f x q =
     let d = into-percent1 σ b x q .0 in
-    let e1 : ν ≡ counting (digit b) μ = inside (sym e ∙ ap (λ (y : MachineState). act y b i μ) (d .1) ∙ first-digit (d .0) b i μ) in
-    let f1 : ξ ≡ counting (digit b) κ = inside (sym f ∙ ap (λ (y : MachineState). act y b j κ) (d .1) ∙ first-digit (d .0) b j κ) in
-    ap (λ (y : Memory). y .tens) f1 ∙ sym (ap (λ (y : Memory). y .tens) e1)
+    let e1 : ν ≡ counting (digit b) μ = inside (sym e ∙ ap (λ (z : MachineState). act z b i μ) (d .1) ∙ first-digit (d .0) b i μ) in
+    let f1 : ξ ≡ counting (digit b) κ = inside (sym f ∙ ap (λ (z : MachineState). act z b j κ) (d .1) ∙ first-digit (d .0) b j κ) in
+    (ap (λ (z : Memory). z .tens) f1 ∙ sym (ap (λ (z : Memory). z .tens) e1), omega arith)
   where
     inside : {α β : Memory} → keeps α ≡ keeps β → α ≡ β
     inside g = cc
 
 -- no first byte of a text leads there
-pub tens-first : (b : ℕ) (ν ξ : Memory) → SameTens (step start b) ν ξ
-tens-first b ν ξ x q = let d = into-percent1 start b x q .0 in let e : start ≡ at percent (d .0) = d .1 in absurd (let z : _≡_ {A = ℕ} 0 1 = cc in omega arith)
+pub percent-first : (δ b i j : ℕ) (ν ξ : Memory) → SamePercent δ i j (step start b) ν ξ
+percent-first δ b i j ν ξ x q = let d = into-percent1 start b x q .0 in let e : start ≡ at percent (d .0) = d .1 in absurd (let z : _≡_ {A = ℕ} 0 1 = cc in omega arith)
 
 -- ---- the counts only grow: a memory is behind itself
 raised-none : (l : List ℕ) → l ≡ map (raised 0) l
 raised-none [] = refl
-raised-none (x ∷ l) = λ i. none x i ∷ raised-none l i
-  where
-    none : (x : ℕ) → x ≡ raised 0 x
-    none zero = refl
-    none (suc x) = omega arith
+raised-none (x ∷ l) = λ i. sym (unmoved x) i ∷ raised-none l i
 
 first-cell : (x : ℤ) → leZ (pos 0) x ≡ true → x ≡ pos (0 + number x)
 unfolding number
@@ -121,7 +118,7 @@ unraised {μ = μ} h b l =
     let w = h .tables .bond-rows b l in
     λ v. record { first = first-cell (bondCell (μ .bonds) b FIRST) (w .natural) v; second = second-cell (end1 (μ .bonds) b) (bondCell (μ .bonds) b SECOND) (w .order) v; kind = bondCell (μ .bonds) b KIND }
 
-itself : {p q i : ℕ} {σ : MachineState} {μ : Memory} → Sane p q σ i μ → Behind 0 0 μ μ
+itself : {p q i : ℕ} {σ : MachineState} {μ : Memory} → Sane p q σ i μ → Behind 0 0 0 [] μ μ
 itself {μ = μ} h =
     record {
       ground = record {
@@ -131,6 +128,9 @@ itself {μ = μ} h =
         stack = λ k l. omega arith;
         opener = raised-none (μ .st .opener);
         symbol = λ r l. refl;
+        offset = λ r l. omega arith;
+        front = λ c l. absurd (omega arith);
+        keys = λ c. (let e : 2 * 0 + c ≡ c = omega arith in ap (λ (v : ℕ). getD (μ .st .keys) v 0) e ∙ sym (unmoved (getD (μ .st .keys) c 0)));
         outside = λ a l. ap (λ (v : ℕ). getD (μ .st .outside) v 0) (zero-add a);
         atom-rows = λ a l. ap (atomRow (μ .atoms)) (zero-add a);
         bond-rows = record { inside = λ b l. absurd (omega arith); first-bonds = λ b l. refl; second-bonds = λ b l. ap (bondRow (μ .bonds)) (zero-add b) ∙ unraised h b l };
@@ -140,49 +140,52 @@ itself {μ = μ} h =
       draft = refl;
     }
 
+pub grown-on : {μ ν ξ : Memory} → Grown μ ν → Grown ν ξ → Grown μ ξ
+grown-on g r = record { atoms = omega (arith, g .atoms, r .atoms); bonds = omega (arith, g .bonds, r .bonds); clear = λ x. r .clear (g .clear x) }
+
 step-grown : {p q i : ℕ} {σ : MachineState} {μ ν : Memory} (b : ℕ) → (σ ≡ start → ⊥) → Sane p q σ i μ → alive (step σ b) ≡ true → act σ b i μ ≡ keeps ν → Grown μ ν
-step-grown {i = i} {σ = σ} {μ = μ} b s h v e = subst (λ a. Both 0 0 μ a (act σ b i μ)) e (step-both σ s h h (itself h) (λ x q. refl) b v) .0
+step-grown {i = i} {σ = σ} {μ = μ} b s h v e = subst (λ a. Both 0 0 0 [] μ a (act σ b i μ)) e (step-both σ s h h (itself h) (sym (zero-add i)) (λ x q. (refl, sym (zero-add (i - 2)))) b v) .0
 
 pub read-grown : (s : List ℕ) {p q i : ℕ} {σ τ : MachineState} {μ ν : Memory} → (σ ≡ start → ⊥) → Sane p q σ i μ → read act i (going σ μ) s ≡ going τ ν → Grown μ ν
 unfolding read
-read-grown [] {μ = μ} {ν = ν} z h e = let f : μ ≡ ν = cc in subst (Grown μ) f (record { atoms = omega arith; bonds = omega arith })
+read-grown [] {μ = μ} {ν = ν} z h e = let f : μ ≡ ν = cc in subst (Grown μ) f (record { atoms = omega arith; bonds = omega arith; clear = λ x. x })
 read-grown (b ∷ s) {i = i} {σ = σ} {μ = μ} z h e =
     let t = taken i b σ μ s e in
     let g = step-grown b z h (t .lives) (t .kept) in
     let r = read-grown s (not-start σ b) (sane-taken b h (t .lives) (t .kept)) (t .rest) in
-    record { atoms = omega (arith, g .atoms, r .atoms); bonds = omega (arith, g .bonds, r .bonds) }
+    grown-on g r
 
 -- ---- a text
--- the reading goes on to the same state, with a memory that has n atoms and m bonds before ν
-pub record Followed (n m : ℕ) (τ : MachineState) (ν : Memory) (r : Reading Memory) : Type 0 where
+-- the reading goes on to the same state, with a memory that has n atoms, m bonds and δ bytes before ν
+pub record Followed (n m δ : ℕ) (φ : List ℕ) (τ : MachineState) (ν : Memory) (r : Reading Memory) : Type 0 where
   pub memory : Memory
   pub goes : r ≡ going τ memory
-  pub behind : Behind n m ν memory
+  pub behind : Behind n m δ φ ν memory
 
 -- a byte that both take
-pub record Step (n m j : ℕ) (σ : MachineState) (b : ℕ) (κ ν : Memory) : Type 0 where
+pub record Step (n m δ : ℕ) (φ : List ℕ) (j : ℕ) (σ : MachineState) (b : ℕ) (κ ν : Memory) : Type 0 where
   pub memory : Memory
   pub kept : act σ b j κ ≡ keeps memory
-  pub behind : Behind n m ν memory
+  pub behind : Behind n m δ φ ν memory
 
-pub step-of : {n m j : ℕ} {σ : MachineState} {b : ℕ} {κ ν : Memory} (a : Acts) → act σ b j κ ≡ a → Side n m ν a → Step n m j σ b κ ν
+pub step-of : {n m δ : ℕ} {φ : List ℕ} {j : ℕ} {σ : MachineState} {b : ℕ} {κ ν : Memory} (a : Acts) → act σ b j κ ≡ a → Side n m δ φ ν a → Step n m δ φ j σ b κ ν
 step-of (keeps ξ) e w = record { memory = ξ; kept = e; behind = w }
 step-of (refuses c p) e w = absurd w
 
 pub room-before : {n m : ℕ} {μ ν : Memory} → Grown μ ν → Room n m ν → Room n m μ
 room-before g r = record { atoms = omega (arith, g .atoms, r .atoms); bonds = omega (arith, g .bonds, r .bonds) }
 
-pub follows : (s : List ℕ) {n m p q i p′ q′ j : ℕ} {σ τ : MachineState} {μ ν κ : Memory} → (σ ≡ start → ⊥) → Sane p q σ i μ → Sane p′ q′ σ j κ → Behind n m μ κ → SameTens σ μ κ → read act i (going σ μ) s ≡ going τ ν → Room n m ν
-    → Followed n m τ ν (read act j (going σ κ) s)
+pub follows : (s : List ℕ) {n m δ p q i p′ q′ j : ℕ} {φ : List ℕ} {σ τ : MachineState} {μ ν κ : Memory} → (σ ≡ start → ⊥) → Sane p q σ i μ → Sane p′ q′ σ j κ → Behind n m δ φ μ κ → j ≡ δ + i → 0 < i → SamePercent δ i j σ μ κ → read act i (going σ μ) s ≡ going τ ν → Room n m ν
+    → Followed n m δ φ τ ν (read act j (going σ κ) s)
 unfolding read
-follows [] {n} {m} {σ = σ} {τ = τ} {μ = μ} {ν = ν} {κ = κ} z h k w t e r =
+follows [] {n} {m} {δ} {φ = φ} {σ = σ} {τ = τ} {μ = μ} {ν = ν} {κ = κ} z h k w y l t e r =
     let f : σ ≡ τ = cc in
     let g : μ ≡ ν = cc in
-    record { memory = κ; goes = ap (λ (x : MachineState). going x κ) f; behind = subst (λ x. Behind n m x κ) g w }
-follows (b ∷ s) {n} {m} {i = i} {j = j} {σ = σ} {τ = τ} {μ = μ} {ν = ν} {κ = κ} z h k w t e r =
+    record { memory = κ; goes = ap (λ (x : MachineState). going x κ) f; behind = subst (λ x. Behind n m δ φ x κ) g w }
+follows (b ∷ s) {n} {m} {δ} {i = i} {j = j} {φ = φ} {σ = σ} {τ = τ} {μ = μ} {ν = ν} {κ = κ} z h k w later l t e r =
     let x = taken i b σ μ s e in
     let hx = sane-taken b h (x .lives) (x .kept) in
     let g = read-grown s (not-start σ b) hx (x .rest) in
-    let y = step-of (act σ b j κ) refl (subst (λ a. Both n m μ a (act σ b j κ)) (x .kept) (step-both σ z h k w t b (x .lives)) .1 (room-before g r)) in
-    subst (Followed n m τ ν) (sym (takes j b σ κ s (x .lives) (y .kept)))
-    (follows s (not-start σ b) hx (sane-taken b k (x .lives) (y .kept)) (y .behind) (tens-after σ b i j μ κ (x .memory) (y .memory) (x .kept) (y .kept)) (x .rest) r)
+    let y = step-of (act σ b j κ) refl (subst (λ a. Both n m δ φ μ a (act σ b j κ)) (x .kept) (step-both σ z h k w later t b (x .lives)) .1 (room-before g r)) in
+    subst (Followed n m δ φ τ ν) (sym (takes j b σ κ s (x .lives) (y .kept)))
+    (follows s (not-start σ b) hx (sane-taken b k (x .lives) (y .kept)) (y .behind) (omega arith) (omega arith) (percent-after δ σ b i j μ κ (x .memory) (y .memory) later l (x .kept) (y .kept)) (x .rest) r)

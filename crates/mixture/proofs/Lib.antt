@@ -1,11 +1,13 @@
 pub mod Rows
 pub mod Behind
+pub mod Keys
 pub mod Steps
 pub mod Bridges
 pub mod Modes
 pub mod Follow
 pub mod Join
 pub mod Whole
+pub mod Turned
 pub mod Ending
 pub mod Cells
 pub mod Mixture

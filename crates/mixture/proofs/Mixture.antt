@@ -11,9 +11,11 @@ use Rattle.reading_grammar.specs.Machine.{accepting}
 use Rattle.reading_grammar.specs.Fold.{going}
 use Rattle.table.specs.Limits.{atomCells, bondCells}
 use Rattle.table.specs.Sound.{lateCode}
+use Rattle.table.proofs.Orders.{turned-rest, turned-length}
+use Rattle.ids.specs.Limits.{maxText}
 use Rattle.table_graph.specs.Graph.{matchable}
 use Rattle.reading.specs.Memory.{Memory}
-use Rattle.reading.specs.Read.{ReadResult, readOf}
+use Rattle.reading.specs.Read.{ReadResult, textRank, readOf}
 use Rattle.reading.specs.Conditions.{bytesRead, atomsOf, Fits}
 use Rattle.reading.proofs.Sane.{Sane}
 use Rattle.reading.proofs.Hydrogens.{hydrogenated-length, hydrogenated-other}
@@ -26,7 +28,7 @@ use Rattle.mixture.specs.Mixed.{unmarkedText, joinedText, raisedBonds, s
 use Rattle.mixture.specs.Claims.{matchingsRead, Joinable, Mixture}
 use Rattle.mixture.proofs.Behind.{Room}
 use Rattle.mixture.proofs.Whole.{Joined, Ended, whole}
-use Rattle.mixture.proofs.Ending.{held-beside, overfull-add, joined-accepted}
+use Rattle.mixture.proofs.Ending.{filled, held-beside, overfull-add, joined-accepted}
 use Rattle.mixture.proofs.Cells.{side-by-side, atoms-cells, bonds-cells, first-atoms-cells, first-bonds-cells, raised-length, raised-rows}
 
 -- ---- a text that is accepted
@@ -67,16 +69,20 @@ reads s A B = go (readOf s A B) (outcome s A B)
         }
 
 -- ---- the tables
-module _ {p q i p₂ q₂ i₂ p₃ q₃ i₃ : ℕ} {σ τ ρ : MachineState} {μ ν κ : Memory} (h : Sane p q σ i μ) (k : Sane p₂ q₂ τ i₂ ν) (l : Sane p₃ q₃ ρ i₃ κ) (w : Joined μ ν κ) where
+module _ {p q i p₂ q₂ i₂ p₃ q₃ i₃ : ℕ} {σ τ ρ : MachineState} {μ ν κ : Memory} (h : Sane p q σ i μ) (k : Sane p₂ q₂ τ i₂ ν) (l : Sane p₃ q₃ ρ i₃ κ) (short : i₃ ≤ maxText) (w : Joined μ ν κ) where
   atoms-long : {x y z : ℕ} {π : MachineState} {ξ : Memory} → Sane x y π z ξ → length (atomsOf ξ) ≡ x
-  atoms-long {ξ = ξ} s = hydrogenated-length (ξ .st .outside) (ξ .bonds) (ξ .st .bonds) (ξ .st .atoms) (ξ .atoms) ∙ s .tables .atom-length
+  atoms-long {ξ = ξ} s =
+      turned-length (textRank (ξ .st .keys) (ξ .bonds)) (ξ .bonds) (ξ .st .bonds) (ξ .st .atoms) (filled ξ) ∙ hydrogenated-length (ξ .st .outside) (ξ .bonds) (ξ .st .bonds) (ξ .st .atoms) (ξ .atoms) ∙ s .tables .atom-length
 
   atoms-after : (c : ℕ) → atomCells * κ .st .atoms ≤ c → getD (atomsOf κ) c (pos 0) ≡ pos 0
-  atoms-after c x = hydrogenated-other (κ .st .outside) (κ .bonds) (κ .st .bonds) (κ .st .atoms) (κ .atoms) c (λ a la ea ja. omega arith) ∙ l .tables .atoms-clear c x
+  atoms-after c x =
+      turned-rest (textRank (κ .st .keys) (κ .bonds)) (κ .bonds) (κ .st .bonds) (κ .st .atoms) (filled κ) c x
+      ∙ hydrogenated-other (κ .st .outside) (κ .bonds) (κ .st .bonds) (κ .st .atoms) (κ .atoms) c (λ a la ea ja. omega arith)
+      ∙ l .tables .atoms-clear c x
 
   atoms-mixed : atomsOf κ ≡ sideBySide (atomCells * μ .st .atoms) (atomsOf μ) (atomCells * ν .st .atoms) (atomsOf ν) p₃
   atoms-mixed =
-      let b = held-beside h k l w in
+      let b = held-beside h k l short w in
       let c = w .behind .ground .atom-count in
       side-by-side (atomsOf μ) (atomsOf ν) (atomCells * μ .st .atoms) (atomCells * ν .st .atoms) (omega (arith, atoms-long h, h .tables .atom-room, h .tables .few-atoms)) (omega (arith, atoms-long k, k .tables .atom-room, k .tables .few-atoms)) (atomsOf κ)
       (omega (arith, atoms-long l, l .tables .atom-room, l .tables .few-atoms))
@@ -89,7 +95,7 @@ module _ {p q i p₂ q₂ i₂ p₃ q₃ i₃ : ℕ} {σ τ ρ : MachineState} {
   bonds-mixed =
       let c = w .behind .ground .bond-count in
       let fits : bondCells * ν .st .bonds ≤ length (ν .bonds) = omega (arith, k .tables .bond-length, k .tables .bond-room, k .tables .few-bonds) in
-      let long = raised-length (μ .st .atoms) (ν .st .bonds) (ν .bonds) fits in
+      let long = raised-length (μ .st .atoms) (ν .st .bonds) (ν .bonds) in
       side-by-side (μ .bonds) (raisedBonds (μ .st .atoms) (ν .st .bonds) (ν .bonds)) (bondCells * μ .st .bonds) (bondCells * ν .st .bonds) (omega (arith, h .tables .bond-length, h .tables .bond-room, h .tables .few-bonds)) (omega arith) (κ .bonds)
       (omega (arith, l .tables .bond-length, l .tables .bond-room, l .tables .few-bonds))
       (first-bonds-cells (μ .bonds) (κ .bonds) (μ .st .bonds) (w .wires))
@@ -105,7 +111,7 @@ module _ {p q i p₂ q₂ i₂ p₃ q₃ i₃ : ℕ} {σ τ ρ : MachineState} {
         offset = 0;
         atomCount = w .behind .ground .atom-count v;
         bondCount = w .behind .ground .bond-count v;
-        overfull = overfull-add h k l w v;
+        overfull = overfull-add h k l short w v;
         atoms = atoms-mixed v;
         bonds = bonds-mixed v;
       }
@@ -132,11 +138,11 @@ module _ (A₁ B₁ A₂ B₂ A B : List ℤ) where
         let h = read-sane (c ∷ s) A₁ B₁ (x .fits) (x .reached) in
         let k = read-sane (b ∷ t) A₂ B₂ (y .fits) (y .reached) in
         let l = read-sane (joinedText (c ∷ s) (b ∷ t)) A B fits (e .reached) in
-        let told : readOf (joinedText (c ∷ s) (b ∷ t)) A B ≡ accepted (e .memory) = joined-accepted h k l (e .joined) (joinedText (c ∷ s) (b ∷ t)) A B fits (e .reached) (y .ends) (y .shut) (x .passes) (y .passes) (x .some) (y .some) in
+        let told : readOf (joinedText (c ∷ s) (b ∷ t)) A B ≡ accepted (e .memory) = joined-accepted h k l (w .bytes) (e .joined) (joinedText (c ∷ s) (b ∷ t)) A B fits (e .reached) (y .ends) (y .shut) (x .passes) (y .passes) (x .some) (y .some) in
         record {
-          accepted = told ∙ accepted-mixed h k l (e .joined) ∙ (λ v. mixed (sym (x .told) v) (sym (y .told) v) (length A) (length B));
-          rows = ap matchingsRead told ∙ matchings-beside (held-beside h k l (e .joined)) ∙ (λ v. followed (matchingsRead (sym (x .told) v)) (matchingsRead (sym (y .told) v)));
-          number = ap (λ (r : ReadResult). length (matchingsRead r)) told ∙ number-beside (held-beside h k l (e .joined)) ∙ (λ v. length (matchingsRead (sym (x .told) v)) * length (matchingsRead (sym (y .told) v)));
+          accepted = told ∙ accepted-mixed h k l (w .bytes) (e .joined) ∙ (λ v. mixed (sym (x .told) v) (sym (y .told) v) (length A) (length B));
+          rows = ap matchingsRead told ∙ matchings-beside (held-beside h k l (w .bytes) (e .joined)) ∙ (λ v. followed (matchingsRead (sym (x .told) v)) (matchingsRead (sym (y .told) v)));
+          number = ap (λ (r : ReadResult). length (matchingsRead r)) told ∙ number-beside (held-beside h k l (w .bytes) (e .joined)) ∙ (λ v. length (matchingsRead (sym (x .told) v)) * length (matchingsRead (sym (y .told) v)));
         }
 
   -- THE STATEMENT, whatever marks the texts have

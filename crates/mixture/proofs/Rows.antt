@@ -11,9 +11,9 @@ use lib.IntN.{ℤ, pos}
 use Rattle.table.specs.declared.Atom.{Atom}
 use Rattle.table.specs.declared.Bond.{Bond}
 use Rattle.table.specs.Limits.{atomCells, bondCells}
-use Rattle.table.specs.Cells.{number, end1, end2}
+use Rattle.table.specs.Cells.{number, atomPlace, bondPlace, end1, end2}
 use Rattle.table.specs.Rows.{atomRow, bondRow, noAtom, withAtom, withBond}
-use Rattle.reading.proofs.Rows.{with-atom-other, with-atom-row, same-atom-row, with-bond-other, with-bond-row, same-bond-row}
+use Rattle.table.proofs.Rows.{with-atom-other, with-atom-row, same-atom-row, with-bond-other, with-bond-row, same-bond-row}
 use Rattle.mixture_rows.specs.Beside.{raisedRow, BondsBeside}
 
 -- one of two numbers is the smaller
@@ -26,18 +26,18 @@ apart a c n = split (decLt c a)
 
 -- ---- atom rows
 clear-row : (t : List ℤ) (a : ℕ) → ((k : ℕ) → atomCells * a ≤ k → getD t k (pos 0) ≡ pos 0) → atomRow t a ≡ noAtom
-clear-row t a h = rw (h (atomCells * a + 0) (omega arith), h (atomCells * a + 1) (omega arith), h (atomCells * a + 2) (omega arith), h (atomCells * a + 3) (omega arith), h (atomCells * a + 4) (omega arith), h (atomCells * a + 5) (omega arith))
+clear-row t a h = same-atom-row t [] a (λ f l. h (atomPlace a f) (omega arith))
 
 -- two rows of zeros
 pub clear-rows : (t u : List ℤ) (a c : ℕ) → ((k : ℕ) → atomCells * a ≤ k → getD t k (pos 0) ≡ pos 0) → ((k : ℕ) → atomCells * c ≤ k → getD u k (pos 0) ≡ pos 0) → atomRow u c ≡ atomRow t a
 clear-rows t u a c h k = clear-row u c k ∙ sym (clear-row t a h)
 
-other-atom : (t : List ℤ) (a : ℕ) (x : Atom) → atomCells * a + atomCells ≤ length t → (c : ℕ) → (c ≡ a → ⊥) → atomRow (withAtom t a x) c ≡ atomRow t c
-other-atom t a x r c n = split (apart a c n)
+other-atom : (t : List ℤ) (a : ℕ) (x : Atom) (c : ℕ) → (c ≡ a → ⊥) → atomRow (withAtom t a x) c ≡ atomRow t c
+other-atom t a x c n = split (apart a c n)
   where
     split : (c < a) ⊎ (a < c) → atomRow (withAtom t a x) c ≡ atomRow t c
-    split (inl l) = same-atom-row (withAtom t a x) t c (λ k s u. with-atom-other t a x r k (inl (omega arith)))
-    split (inr l) = same-atom-row (withAtom t a x) t c (λ k s u. with-atom-other t a x r k (inr (omega arith)))
+    split (inl l) = same-atom-row (withAtom t a x) t c (λ f h. with-atom-other t a x (atomPlace c f) (inl (omega arith)))
+    split (inr l) = same-atom-row (withAtom t a x) t c (λ f h. with-atom-other t a x (atomPlace c f) (inr (omega arith)))
 
 -- the row of the atom a is written, and that of n + a
 pub atoms-written : (n : ℕ) (t u : List ℤ) (a e : ℕ) (x : Atom) → e ≡ n + a → atomCells * a + atomCells ≤ length t → atomCells * e + atomCells ≤ length u → (c : ℕ) → atomRow u (n + c) ≡ atomRow t c
@@ -48,15 +48,15 @@ atoms-written n t u a e x q r s c h = split (ℕ-discrete c a)
     split (yes f) =
         let g : n + c ≡ e = omega arith in
         ap (atomRow (withAtom u e x)) g ∙ with-atom-row u e x s ∙ sym (with-atom-row t a x r) ∙ ap (atomRow (withAtom t a x)) (sym f)
-    split (no f) = other-atom u e x s (n + c) (λ g. f (omega arith)) ∙ h ∙ sym (other-atom t a x r c f)
+    split (no f) = other-atom u e x (n + c) (λ g. f (omega arith)) ∙ h ∙ sym (other-atom t a x c f)
 
 -- ---- bond rows
-pub other-bond : (t : List ℤ) (b : ℕ) (x : Bond) → bondCells * b + bondCells ≤ length t → (c : ℕ) → (c ≡ b → ⊥) → bondRow (withBond t b x) c ≡ bondRow t c
-other-bond t b x r c n = split (apart b c n)
+pub other-bond : (t : List ℤ) (b : ℕ) (x : Bond) (c : ℕ) → (c ≡ b → ⊥) → bondRow (withBond t b x) c ≡ bondRow t c
+other-bond t b x c n = split (apart b c n)
   where
     split : (c < b) ⊎ (b < c) → bondRow (withBond t b x) c ≡ bondRow t c
-    split (inl l) = same-bond-row (withBond t b x) t c (λ k s u. with-bond-other t b x r k (inl (omega arith)))
-    split (inr l) = same-bond-row (withBond t b x) t c (λ k s u. with-bond-other t b x r k (inr (omega arith)))
+    split (inl l) = same-bond-row (withBond t b x) t c (λ f h. with-bond-other t b x (bondPlace c f) (inl (omega arith)))
+    split (inr l) = same-bond-row (withBond t b x) t c (λ f h. with-bond-other t b x (bondPlace c f) (inr (omega arith)))
 
 -- a bond more in both tables, in the second with its ends moved up
 pub bonds-written : {n m k : ℕ} {t u : List ℤ} (w : BondsBeside n m k u t u) (e : ℕ) (x y : Bond) → e ≡ m + k → y ≡ raisedRow n x → bondCells * k + bondCells ≤ length t → bondCells * e + bondCells ≤ length u
@@ -65,7 +65,7 @@ bonds-written {n} {m} {k} {t} {u} w e x y q z r s = record { inside = inside; fi
   where
     inside : (b : ℕ) → b < m → (end1 (withBond u e y) b < n) × (end2 (withBond u e y) b < n)
     inside b l =
-        let o : bondRow (withBond u e y) b ≡ bondRow u b = other-bond u e y s b (λ f. omega arith) in
+        let o : bondRow (withBond u e y) b ≡ bondRow u b = other-bond u e y b (λ f. omega arith) in
         let o1 : end1 (withBond u e y) b ≡ end1 u b = ap (λ (v : Bond). number (v .first)) o in
         let o2 : end2 (withBond u e y) b ≡ end2 u b = ap (λ (v : Bond). number (v .second)) o in
         let i = w .inside b l in
@@ -78,7 +78,7 @@ bonds-written {n} {m} {k} {t} {u} w e x y q z r s = record { inside = inside; fi
         split (yes f) =
             let g : m + b ≡ e = omega arith in
             ap (bondRow (withBond u e y)) g ∙ with-bond-row u e y s ∙ z ∙ ap (raisedRow n) (sym (with-bond-row t k x r) ∙ ap (bondRow (withBond t k x)) (sym f))
-        split (no f) = other-bond u e y s (m + b) (λ g. f (omega arith)) ∙ w .second-bonds b (omega arith) ∙ ap (raisedRow n) (sym (other-bond t k x r b f))
+        split (no f) = other-bond u e y (m + b) (λ g. f (omega arith)) ∙ w .second-bonds b (omega arith) ∙ ap (raisedRow n) (sym (other-bond t k x b f))
 
 -- ---- lists of numbers
 -- a cell that is written alike in lists of one length

@@ -1,10 +1,10 @@
--- Each thing that a byte does, done to a memory and to the one that has n atoms and m bonds before it. Assumes nothing.
+-- Each thing that a byte does, done to a memory and to the one that has n atoms, m bonds and δ bytes before it. Assumes nothing.
 use Prim.Native.Nat.{ℕ, _+_, _≤_, _<_}
 use native.Mathlib.Omega.{arith}
 use native.Mathlib.Decide.{ℕ-discrete}
 use mathlib.Core.Path.{_≡_, refl, sym, ap, subst, _∙_}
 use mathlib.Core.Bool.{Bool, true, false, _&&_, true≢false}
-use mathlib.Core.List.{List, []}
+use mathlib.Core.List.{List}
 use lib.ListN.{getD, set}
 use lib.Seq.{getD-set-same, getD-set-other}
 use lib.IntN.{ℤ}
@@ -28,8 +28,8 @@ use Rattle.mixture.proofs.Rows.{clear-rows, atoms-written, bonds-writte
 use Rattle.mixture.proofs.Behind.{Grounded, Behind, Grown, Room, Side, Both}
 
 -- ---- the row of the hub
-module _ {n m p q d i p′ q′ d′ j : ℕ} {μ κ : Memory} (h : Held p q d i μ) (k : Held p′ q′ d′ j κ) (w : Behind n m μ κ) where
-  described-ground : (x : Atom) → Grounded n m (described x μ) (described x κ)
+module _ {n m δ p q d i p′ q′ d′ j : ℕ} {φ : List ℕ} {μ κ : Memory} (h : Held p q d i μ) (k : Held p′ q′ d′ j κ) (w : Behind n m δ φ μ κ) where
+  described-ground : (x : Atom) → Grounded n m δ φ (described x μ) (described x κ)
   described-ground x =
       let g = w .ground in
       record {
@@ -39,13 +39,16 @@ module _ {n m p q d i p′ q′ d′ j : ℕ} {μ κ : Memory} (h : Held p q d i
         stack = g .stack;
         opener = g .opener;
         symbol = g .symbol;
+        offset = g .offset;
+        front = g .front;
+        keys = g .keys;
         outside = g .outside;
         atom-rows = λ a l.
             atoms-written n (μ .atoms) (κ .atoms) (μ .st .hub .0) (κ .st .hub .0) x (w .hub) (omega (arith, h .tables .atom-length, h .tables .atom-room, h .tables .few-atoms, h .hub)) (omega (arith, k .tables .atom-length, k .tables .atom-room, k .tables .few-atoms, k .hub)) a (g .atom-rows a l);
         bond-rows = g .bond-rows;
       }
 
-  pub described-behind : (x : Atom) → Behind n m (described x μ) (described x κ)
+  pub described-behind : (x : Atom) → Behind n m δ φ (described x μ) (described x κ)
   described-behind x = record { ground = described-ground x; hub = w .hub; pending = w .pending; draft = w .draft }
 
 -- ---- an atom begins
@@ -55,7 +58,7 @@ pub record Jointly (n : ℕ) (μ κ : Memory) : Type 0 where
   pub hub : bonded μ ≡ true → κ .st .hub .0 ≡ n + μ .st .hub .0
   pub kind : bonded μ ≡ true → kindOf (κ .pending) ≡ kindOf (μ .pending)
 
-module _ {n m p q d i p′ q′ d′ j : ℕ} {μ κ : Memory} (h : Ready p q d i μ) (k : Ready p′ q′ d′ j κ) (g : Grounded n m μ κ) (jointly : Jointly n μ κ) where
+module _ {n m δ p q d i p′ q′ d′ j : ℕ} {φ : List ℕ} {μ κ : Memory} (h : Ready p q d i μ) (k : Ready p′ q′ d′ j κ) (g : Grounded n m δ φ μ κ) (jointly : Jointly n μ κ) where
   raised-bond : (a b x : ℕ) → newBond (n + a) (n + b) x ≡ raisedRow n (newBond a b x)
   unfolding number
   raised-bond a b x = refl
@@ -104,7 +107,7 @@ module _ {n m p q d i p′ q′ d′ j : ℕ} {μ κ : Memory} (h : Ready p q d 
     wires false true b e = absurd (true≢false e)
     wires false false b e = g .bond-rows
 
-    begun-behind : (x : ℕ) → Behind n m (begun x μ) (begun x κ)
+    begun-behind : (x : ℕ) → Behind n m δ φ (begun x μ) (begun x κ)
     unfolding begun
     begun-behind x =
         record {
@@ -115,6 +118,9 @@ module _ {n m p q d i p′ q′ d′ j : ℕ} {μ κ : Memory} (h : Ready p q d 
             stack = g .stack;
             opener = g .opener;
             symbol = g .symbol;
+            offset = g .offset;
+            front = g .front;
+            keys = g .keys;
             outside = flags x;
             atom-rows = rows;
             bond-rows = wires (bonded μ) (bonded κ) refl (jointly .alike);
@@ -141,10 +147,10 @@ module _ {n m p q d i p′ q′ d′ j : ℕ} {μ κ : Memory} (h : Ready p q d 
         let fits : m + (μ .st .bonds + 1) ≤ maxBonds = subst (λ (t : Bool). m + pick t (μ .st .bonds + 1) (μ .st .bonds) ≤ maxBonds) (sym (jointly .alike) ∙ b) bonds-room in
         omega arith
 
-    letter-behind : (x : Atom) → Behind n m (described x (begun 1 μ)) (described x (begun 1 κ))
+    letter-behind : (x : Atom) → Behind n m δ φ (described x (begun 1 μ)) (described x (begun 1 κ))
     letter-behind x = described-behind (begun-held 1 h few few-bonds) (begun-held 1 k few-behind few-bonds-behind) (begun-behind 1) x
 
-    first-behind : (l : Letter) → (l ≡ Nothing → ⊥) → Behind n m (firstByte l μ) (firstByte l κ)
+    first-behind : (l : Letter) → (l ≡ Nothing → ⊥) → Behind n m δ φ (firstByte l μ) (firstByte l κ)
     first-behind (Plain e) f = letter-behind (bareRow e 0)
     first-behind (Selected e) f = letter-behind (bareRow e 1)
     first-behind Half f = letter-behind (bareRow 0 0)
@@ -164,13 +170,14 @@ module _ {n m p q d i p′ q′ d′ j : ℕ} {μ κ : Memory} (h : Ready p q d 
   record Counts (ν : Memory) : Type 0 where
     pub atoms : ν .st .atoms ≡ μ .st .atoms + 1
     pub bonds : ν .st .bonds ≡ pick (bonded μ) (μ .st .bonds + 1) (μ .st .bonds)
+    pub keys : ν .st .keys ≡ μ .st .keys
 
   counts : (l : Letter) → (l ≡ Nothing → ⊥) → Counts (firstByte l μ)
   unfolding begun
-  counts (Plain e) f = record { atoms = refl; bonds = refl }
-  counts (Selected e) f = record { atoms = refl; bonds = refl }
-  counts Half f = record { atoms = refl; bonds = refl }
-  counts Bracket f = record { atoms = refl; bonds = refl }
+  counts (Plain e) f = record { atoms = refl; bonds = refl; keys = refl }
+  counts (Selected e) f = record { atoms = refl; bonds = refl; keys = refl }
+  counts Half f = record { atoms = refl; bonds = refl; keys = refl }
+  counts Bracket f = record { atoms = refl; bonds = refl; keys = refl }
   counts Nothing f = absurd (f refl)
 
   more : (t : Bool) → μ .st .bonds ≤ pick t (μ .st .bonds + 1) (μ .st .bonds)
@@ -178,20 +185,25 @@ module _ {n m p q d i p′ q′ d′ j : ℕ} {μ κ : Memory} (h : Ready p q d 
   more false = omega arith
 
   -- a byte that begins an atom
-  pub atom-both : (b o e : ℕ) → (letterOf b ≡ Nothing → ⊥) → Both n m μ (atomAct b o μ) (atomAct b e κ)
+  pub atom-both : (b o e : ℕ) → (letterOf b ≡ Nothing → ⊥) → Both n m δ φ μ (atomAct b o μ) (atomAct b e κ)
   unfolding atomAct
   atom-both b o e f =
-      by-test (λ a. Both n m μ a (atomAct b e κ)) (leb maxAtoms (μ .st .atoms)) _ _ (λ x. tt) (λ x.
-      by-test (λ a. Both n m μ a (atomAct b e κ)) (bonded μ && leb maxBonds (μ .st .bonds)) _ _ (λ y. tt) (λ y. (grown, side)))
+      by-test (λ a. Both n m δ φ μ a (atomAct b e κ)) (leb maxAtoms (μ .st .atoms)) _ _ (λ x. tt) (λ x.
+      by-test (λ a. Both n m δ φ μ a (atomAct b e κ)) (bonded μ && leb maxBonds (μ .st .bonds)) _ _ (λ y. tt) (λ y. (grown, side)))
     where
       c : Counts (firstByte (letterOf b) μ)
       c = counts (letterOf b) f
 
       grown : Grown μ (firstByte (letterOf b) μ)
-      grown = record { atoms = omega (arith, c .atoms); bonds = omega (arith, c .bonds, more (bonded μ)) }
+      grown =
+          record {
+            atoms = omega (arith, c .atoms);
+            bonds = omega (arith, c .bonds, more (bonded μ));
+            clear = λ z x l. ap (λ (v : List ℕ). getD v x 0) (c .keys) ∙ z x (omega (arith, c .bonds, more (bonded μ)));
+          }
 
-      side : Room n m (firstByte (letterOf b) μ) → Side n m (firstByte (letterOf b) μ) (atomAct b e κ)
+      side : Room n m (firstByte (letterOf b) μ) → Side n m δ φ (firstByte (letterOf b) μ) (atomAct b e κ)
       side r =
           let ra : n + (μ .st .atoms + 1) ≤ maxAtoms = omega (arith, r .atoms, c .atoms) in
           let rb : m + pick (bonded μ) (μ .st .bonds + 1) (μ .st .bonds) ≤ maxBonds = omega (arith, r .bonds, c .bonds) in
-          subst (Side n m (firstByte (letterOf b) μ)) (sym (taken ra rb b e)) (first-behind ra rb (letterOf b) f)
+          subst (Side n m δ φ (firstByte (letterOf b) μ)) (sym (taken ra rb b e)) (first-behind ra rb (letterOf b) f)

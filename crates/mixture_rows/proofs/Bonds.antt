@@ -59,22 +59,22 @@ module _ {n m k : ℕ} {bonds1 bonds2 bonds : List ℤ} (w : BondsBeside n m k b
   at-end1 : (a b : ℕ) → b < k → eqb (end1 bonds (m + b)) (n + a) ≡ eqb (end1 bonds2 b) a
   at-end1 a b l = ap (λ (x : ℕ). eqb x (n + a)) (second-end1 b l) ∙ eqb-raised n (end1 bonds2 b) a
 
-  at-end2 : (a b : ℕ) → b < k → eqb (end2 bonds (m + b)) (n + a) ≡ eqb (end2 bonds2 b) a
+  pub at-end2 : (a b : ℕ) → b < k → eqb (end2 bonds (m + b)) (n + a) ≡ eqb (end2 bonds2 b) a
   at-end2 a b l = ap (λ (x : ℕ). eqb x (n + a)) (second-end2 b l) ∙ eqb-raised n (end2 bonds2 b) a
 
-  touch-first : (a b : ℕ) → b < m → touches bonds a b ≡ touches bonds1 a b
+  pub touch-first : (a b : ℕ) → b < m → touches bonds a b ≡ touches bonds1 a b
   unfolding touches
   touch-first a b l = λ i. eqb (first-end1 b l i) a || eqb (first-end2 b l i) a
 
-  touch-low : (a b : ℕ) → a < n → b < k → touches bonds a (m + b) ≡ false
+  pub touch-low : (a b : ℕ) → a < n → b < k → touches bonds a (m + b) ≡ false
   unfolding touches
   touch-low a b h l = let e = ends-low a b h l in rw (e .0, e .1)
 
-  touch-high : (a b : ℕ) → b < m → touches bonds (n + a) b ≡ false
+  pub touch-high : (a b : ℕ) → b < m → touches bonds (n + a) b ≡ false
   unfolding touches
   touch-high a b l = let e = ends-high a b l in rw (e .0, e .1)
 
-  touch-second : (a b : ℕ) → b < k → touches bonds (n + a) (m + b) ≡ touches bonds2 a b
+  pub touch-second : (a b : ℕ) → b < k → touches bonds (n + a) (m + b) ≡ touches bonds2 a b
   unfolding touches
   touch-second a b l = λ i. at-end1 a b l i || at-end2 a b l i
 

@@ -2,14 +2,14 @@
 use Prim.Native.Nat.{ℕ, suc, _+_, _<_}
 use native.Mathlib.Nat.{zero-add, add-zero}
 use native.Mathlib.Omega.{arith}
-use native.Mathlib.Decide.{ℕ-discrete}
+use native.Mathlib.Decide.{ℕ-discrete, decLt}
 use mathlib.Core.Path.{_≡_, refl, sym, ap, _∙_}
 use mathlib.Core.Bool.{Bool, true, false, _&&_, _||_, not}
 use mathlib.Core.List.{List, [], _∷_, _++_, map}
 use lib.ListN.{length, List·getD-append}
 use lib.Seq.{getD-append-add}
-use lib.Dec.{eqb}
-use borrow.Author.Tests.{eq-eqb, ne-eqb}
+use lib.Dec.{eqb, ltb}
+use borrow.Author.Tests.{eq-eqb, ne-eqb, lt-ltb, le-ltb}
 use Rattle.matching.specs.Enumeration.{Row}
 use Rattle.mixture_rows.proofs.Parts.{and-assoc}
 use Rattle.matching.specs.Graph.{Bond, flagged, induced, chosenInduced, countIf, touches, degree, eachOnce, isMatching}
@@ -29,6 +29,13 @@ eqb-raised n a b = split (ℕ-discrete a b)
     split : Dec (a ≡ b) → eqb (n + a) (n + b) ≡ eqb a b
     split (yes e) = eq-eqb (n + a) (n + b) (ap (_+_ n) e) ∙ sym (eq-eqb a b e)
     split (no f) = ne-eqb (n + a) (n + b) (λ e. f (omega arith)) ∙ sym (ne-eqb a b f)
+
+pub ltb-raised : (n a b : ℕ) → ltb (n + a) (n + b) ≡ ltb a b
+ltb-raised n a b = split (decLt a b)
+  where
+    split : Dec (a < b) → ltb (n + a) (n + b) ≡ ltb a b
+    split (yes l) = lt-ltb (n + a) (n + b) (omega arith) ∙ sym (lt-ltb a b l)
+    split (no l) = le-ltb (n + a) (n + b) (omega arith) ∙ sym (le-ltb a b (omega arith))
 
 and-swap : (a b c d : Bool) → ((a && b) && (c && d)) ≡ ((a && c) && (b && d))
 and-swap true true c d = refl

@@ -4,11 +4,11 @@ use mathlib.Core.Path.{_≡_, refl, ap, _∙_}
 use mathlib.Core.Bool.{Bool, true, _&&_, _||_, not}
 use mathlib.Core.List.{List}
 use lib.IntN.{ℤ}
-use lib.Dec.{eqb, ltb}
+use lib.Dec.{eqb, leb, ltb}
 use Rattle.kinds.specs.Kind.{double, up, down, isMark}
 use Rattle.table.specs.Cells.{number, end1, end2, selected}
 use Rattle.table.specs.Marks.{crowded, crowdedBond, noneCrowded, stray, noneStray, doubleCount}
-use Rattle.table.specs.Sound.{loose, noneLoose, lateCode}
+use Rattle.table.specs.Sound.{loose, noneLoose, unfit, noneUnfit, lateCode}
 use Rattle.table.proofs.Sound.{late-none, late-fine}
 use Rattle.mixture_rows.specs.Beside.{Molecule, BondsBeside, Beside}
 use Rattle.mixture_rows.proofs.Parts.{each-parts}
@@ -67,6 +67,14 @@ module _ {t u j : Molecule} (w : Beside t u j) where
       (λ a l i. not (eqb (number (w .first-atoms a l i .selected)) 1 && ltb (degree-first (w .bond-rows) a l i) 2))
       (λ a l i. not (eqb (number (w .second-atoms a l i .selected)) 1 && ltb (degree-second (w .bond-rows) a i) 2))
 
+  -- ---- 23
+  fit : noneUnfit (j .atoms) (j .bonds) (t .atomCount + u .atomCount) (t .bondCount + u .bondCount) ≡ (noneUnfit (t .atoms) (t .bonds) (t .atomCount) (t .bondCount) && noneUnfit (u .atoms) (u .bonds) (u .atomCount) (u .bondCount))
+  unfolding noneUnfit
+  fit =
+      each-parts (λ a. not (unfit (j .atoms) (j .bonds) (t .bondCount + u .bondCount) a)) (λ a. not (unfit (t .atoms) (t .bonds) (t .bondCount) a)) (λ a. not (unfit (u .atoms) (u .bonds) (u .bondCount) a)) (t .atomCount) (u .atomCount)
+      (λ a l i. let x = w .first-atoms a l i in not (ltb 0 (number (x .mark)) && not (eqb (degree-first (w .bond-rows) a l i + number (x .hydrogens)) 4 && leb (number (x .hydrogens)) 1)))
+      (λ a l i. let x = w .second-atoms a l i in not (ltb 0 (number (x .mark)) && not (eqb (degree-second (w .bond-rows) a i + number (x .hydrogens)) 4 && leb (number (x .hydrogens)) 1)))
+
   -- no late check fails where none fails in either
   pub late-parts : lateCode (t .atoms) (t .bonds) (t .atomCount) (t .bondCount) ≡ 0 → lateCode (u .atoms) (u .bonds) (u .atomCount) (u .bondCount) ≡ 0 → lateCode (j .atoms) (j .bonds) (j .atomCount) (j .bondCount) ≡ 0
   late-parts e f =
@@ -77,3 +85,4 @@ module _ {t u j : Molecule} (w : Beside t u j) where
       (uncrowded (w .bond-rows) ∙ both (noneCrowded (t .bonds) (t .bondCount)) (noneCrowded (u .bonds) (u .bondCount)) (p .uncrowded) (q .uncrowded))
       (touching (w .bond-rows) ∙ both (noneStray (t .bonds) (t .bondCount)) (noneStray (u .bonds) (u .bondCount)) (p .touching) (q .touching))
       (tight ∙ both (noneLoose (t .atoms) (t .bonds) (t .atomCount) (t .bondCount)) (noneLoose (u .atoms) (u .bonds) (u .atomCount) (u .bondCount)) (p .tight) (q .tight))
+      (fit ∙ both (noneUnfit (t .atoms) (t .bonds) (t .atomCount) (t .bondCount)) (noneUnfit (u .atoms) (u .bonds) (u .atomCount) (u .bondCount)) (p .fit) (q .fit))

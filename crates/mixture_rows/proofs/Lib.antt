@@ -3,5 +3,6 @@ pub mod Parts
 pub mod Graph
 pub mod Bonds
 pub mod Late
+pub mod Orders
 pub mod Tables
 pub mod Claims

@@ -4,10 +4,10 @@ use native.Mathlib.Nat.{zero-add, add-zero, suc-add}
 use native.Mathlib.Omega.{arith}
 use mathlib.Core.Path.{_≡_, refl, sym, ap, _∙_}
 use mathlib.Core.Bool.{Bool, true, false, _&&_}
-use mathlib.Core.List.{List, [], _∷_, _++_}
+use mathlib.Core.List.{List, _∷_, _++_}
 use Rattle.loops.specs.Loop.{pick, each, howMany, run, upTo}
 
-next : (x j : ℕ) → suc x + j ≡ x + suc j
+pub next : (x j : ℕ) → suc x + j ≡ x + suc j
 next x j = omega arith
 
 -- ---- a loop from k on, and one from l on that does the same

@@ -55,11 +55,11 @@ close-act b p μ e = rw e
 
 pub bounded-opened : {t u : Steering} → u ≡ opened t → Bounded t → t .depth < maxDepth → Bounded u
 unfolding opened
-bounded-opened {t} e g h = rw e (record { atoms = g .atoms; bonds = g .bonds; depth = omega arith; hub = g .hub; stack = set-le (t .stack) (t .depth) (t .hub .0) maxAtoms (g .hub) (g .stack); opener = g .opener })
+bounded-opened {t} e g h = rw e (record { atoms = g .atoms; bonds = g .bonds; depth = omega arith; hub = g .hub; stack = set-le (t .stack) (t .depth) (t .hub .0) maxAtoms (g .hub) (g .stack); opener = g .opener; offset = g .offset })
 
 bounded-closed : {t u : Steering} → u ≡ closed t → Bounded t → Bounded u
 unfolding closed
-bounded-closed {t} e g = rw e (record { atoms = g .atoms; bonds = g .bonds; depth = omega (arith, g .depth); hub = g .stack (t .depth - 1); stack = set-le (t .stack) (t .depth - 1) 0 maxAtoms (omega arith) (g .stack); opener = g .opener })
+bounded-closed {t} e g = rw e (record { atoms = g .atoms; bonds = g .bonds; depth = omega (arith, g .depth); hub = g .stack (t .depth - 1); stack = set-le (t .stack) (t .depth - 1) 0 maxAtoms (omega arith) (g .stack); opener = g .opener; offset = g .offset })
 
 -- the text ends in a branch
 ends-inside : (s : List ℕ) (p d : ℕ) (μ : Memory) → p ≡ length s → μ .st .depth ≡ suc d → rest s p (seq plain) μ ≡ bad 3 p

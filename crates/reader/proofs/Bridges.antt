@@ -6,30 +6,29 @@ use mathlib.Core.Bool.{Bool, true, false, not}
 use mathlib.Core.List.{List, [], _∷_}
 use lib.ListN.{getD, set}
 use lib.IntN.{ℤ}
-use lib.Dec.{eqb, leb}
+use lib.Dec.{eqb, ltb}
 use Rattle.loops.specs.Loop.{pick}
 use Rattle.loops.proofs.Loops.{Left, left-pass, left-fail, left-end}
 use borrow.Author.Tests.{eq-eqb, ne-eqb, eqb-true, eqb-false, le-leb, lt-leb, lt-ltb}
 use Rattle.ids.specs.declared.AtomId.{AtomId}
 use Rattle.refusal.specs.declared.Refusal.{Refusal}
 use Rattle.refusal.specs.declared.Refusal.the-variants.{ManyBonds, SelfBridge, RepeatedBond, SymbolClash}
-use Rattle.refusal.specs.Code.{codeOf}
-use Rattle.reading_grammar.specs.Fold.{keeps, refuses}
+use Rattle.ids.specs.Limits.{maxText}
 use Rattle.table.specs.Limits.{maxAtoms, maxBonds}
 use Rattle.table.specs.Rows.{withBond, putBond}
 use Rattle.table.specs.declared.Bond.{Bond}
 use Rattle.reading_state.specs.declared.Fields.{Fields}
 use Rattle.reading_state.specs.declared.Opening.{Opening}
-use Rattle.reading_state.specs.State.{Steering, joined, bridged, openingOf}
+use Rattle.reading_state.specs.State.{Steering, keyed, keysAfter, joined, bridged, openingOf}
 use Rattle.kinds.specs.Kind.{meet, clash}
-use Rattle.reading.specs.Memory.{Memory, nothing, symbol, kindOf, joins, joinedAlready, between, closeRefusal, moved}
-use Rattle.reading.specs.Act.{Acts, orRefuse, bridgeAct, bridgeBond}
+use Rattle.reading.specs.Memory.{nothing, symbol, kindOf, joins, joinedAlready, between, closeRefusal, moved}
+use Rattle.reading.specs.Act.{orRefuse, bridgeAct, bridgeBond}
 use Rattle.reading_fields.specs.Rest.{memory}
 use Rattle.reader.specs.declared.bridge.Why.{Why}
 use Rattle.reader.specs.declared.bridge.Closing.{Closing}
 use Rattle.reader.specs.Piece.{kindPending}
 use Rattle.reader.specs.Outcome.{Bounded}
-use Rattle.reader.specs.Bridge.{Closes, BridgeJoins, Bridges}
+use Rattle.reader.specs.Bridge.{Closes, Bridges}
 
 module _ (bonds : List ℤ) (a b : ℕ) {m i : ℕ} (l : Left (λ j. not (joins bonds a b j)) m i) where
   pub found : i < m → joins bonds a b i ≡ true → true ≡ joinedAlready bonds m a b
@@ -107,10 +106,10 @@ module _ (t : Steering) (r : ℕ) {x : Opening} (ex : x ≡ openingOf t r) where
 
 module _ (t : Steering) (r k p : ℕ) (b : List ℤ) {x : Opening} (ex : x ≡ openingOf t r) where
   -- a bridge that opens
-  pub bridge-opens : {o′ : List ℕ} → x ≡ Opening.Free → o′ ≡ set (t .offset) r p → Bridges t r k p b b o′ Why.Fine
+  pub bridge-opens : {o′ y′ : List ℕ} → x ≡ Opening.Free → o′ ≡ set (t .offset) r p → y′ ≡ t .keys → Bridges t r k p b b o′ y′ Why.Fine
   unfolding bridgeAct joined
-  bridge-opens e eo = let q = eq-eqb (getD (t .opener) r 0) 0 (opened-free t r ex e) in
-      record { is = λ a i f. rw (q, kind-kept k); offsets = eo ∙ rw q; bonds = λ l. rw q l }
+  bridge-opens e eo ey = let q = eq-eqb (getD (t .opener) r 0) 0 (opened-free t r ex e) in
+      record { is = λ a i f. rw (q, kind-kept k); offsets = eo ∙ rw q; keys = ey ∙ rw q; bonds = λ l. rw q l }
 
   module _ {u : AtomId} {j : ℕ} (e : x ≡ Opening.At u j) (c : Closing) (h : Closes b (t .bonds) (u .0) (t .hub .0) j k c) where
     free? : eqb (getD (t .opener) r 0) 0 ≡ false
@@ -125,35 +124,41 @@ module _ (t : Steering) (r k p : ℕ) (b : List ℤ) {x : Opening} (ex : x ≡ o
     unfolding bridgeAct
     act-closes z a i f = rw (free?, kind-kept k, refusal-at, z)
 
-    pub bridge-closes : {y : Bond} {b′ : List ℤ} {o′ : List ℕ} → c ≡ Closing.Bond y → b′ ≡ putBond b (t .bonds) y → o′ ≡ set (t .offset) r 0 → Bridges t r k p b b′ o′ Why.Fine
+    -- there is room for its keys
+    pub closes-room : {y : Bond} → c ≡ Closing.Bond y → t .bonds < maxBonds
+    closes-room ec = subst (Closes b (t .bonds) (u .0) (t .hub .0) j k) ec h .1
+
+    pub bridge-closes : {y : Bond} {b′ : List ℤ} {o′ y′ : List ℕ} → c ≡ Closing.Bond y → b′ ≡ putBond b (t .bonds) y → o′ ≡ set (t .offset) r 0
+        → y′ ≡ pick (ltb (u .0) (t .hub .0)) (keyed (t .keys) (t .bonds) (getD (t .offset) r 0) p) (keyed (t .keys) (t .bonds) p (getD (t .offset) r 0)) → Bridges t r k p b b′ o′ y′ Why.Fine
     unfolding joined putBond
-    bridge-closes {y} {b′} ec eb eo =
+    bridge-closes {y} {b′} ec eb eo ey =
         let w = subst (Closes b (t .bonds) (u .0) (t .hub .0) j k) ec h in
         let v : b′ ≡ withBond b (t .bonds) (between (getD (t .opener) r 0 - 1) (t .hub .0) (meet (getD (t .symbol) r 0) k)) = eb ∙ rw (lt-ltb (t .bonds) maxBonds (w .1), w .2, opened-at t r ex e .1, opened-at t r ex e .2) in
         record {
           is = λ a i f. act-closes (w .0) a i f ∙ rw (kind-kept k, v);
           offsets = eo ∙ rw free?;
+          keys = ey ∙ rw (free?, opened-at t r ex e .1);
           bonds = λ l. rw free? (omega (arith, w .1));
         }
 
-    pub bridge-refused : {z : Refusal} (b′ : List ℤ) (o′ : List ℕ) → c ≡ Closing.Refused z → Bridges t r k p b b′ o′ (Why.Refused z p)
-    bridge-refused b′ o′ ec a i f = act-closes refl a i f ∙ subst (Closes b (t .bonds) (u .0) (t .hub .0) j k) ec h p (moved (joined t r k p) (bridgeBond r (memory t a b (kindPending k) i f)))
+    pub bridge-refused : {z : Refusal} (b′ : List ℤ) (o′ y′ : List ℕ) → c ≡ Closing.Refused z → Bridges t r k p b b′ o′ y′ (Why.Refused z p)
+    bridge-refused b′ o′ y′ ec a i f = act-closes refl a i f ∙ subst (Closes b (t .bonds) (u .0) (t .hub .0) j k) ec h p (moved (joined t r k p) (bridgeBond r (memory t a b (kindPending k) i f)))
 
 -- ---- the state after a bridge
 module _ (t : Steering) (r k p : ℕ) where
-  pub bounded-joined : Bounded t → joined t r k p .bonds ≤ maxBonds → Bounded (joined t r k p)
+  pub bounded-joined : Bounded t → p ≤ maxText → joined t r k p .bonds ≤ maxBonds → Bounded (joined t r k p)
   unfolding joined
-  bounded-joined g l = split (eqb (getD (t .opener) r 0) 0) refl
+  bounded-joined g lp l = split (eqb (getD (t .opener) r 0) 0) refl
     where
       split : (y : Bool) → eqb (getD (t .opener) r 0) 0 ≡ y → Bounded (joined t r k p)
-      split true q = rw q (record { atoms = g .atoms; bonds = g .bonds; depth = g .depth; hub = g .hub; stack = g .stack; opener = set-le (t .opener) r (t .hub .0 + 1) (maxAtoms + 1) (omega (arith, g .hub)) (g .opener) })
-      split false q = let m : t .bonds + 1 ≤ maxBonds = subst (λ (z : Bool). pick z (bridged t r (t .hub .0 + 1) k p (t .bonds)) (bridged t r 0 0 0 (t .bonds + 1)) .bonds ≤ maxBonds) q l in
-          rw q (record { atoms = g .atoms; bonds = m; depth = g .depth; hub = g .hub; stack = g .stack; opener = set-le (t .opener) r 0 (maxAtoms + 1) (omega arith) (g .opener) })
+      split true q = rw q (record { atoms = g .atoms; bonds = g .bonds; depth = g .depth; hub = g .hub; stack = g .stack; opener = set-le (t .opener) r (t .hub .0 + 1) (maxAtoms + 1) (omega (arith, g .hub)) (g .opener); offset = set-le (t .offset) r p maxText lp (g .offset) })
+      split false q = let m : t .bonds + 1 ≤ maxBonds = subst (λ (z : Bool). pick z (bridged t r (t .hub .0 + 1) k p (t .bonds) (t .keys)) (bridged t r 0 0 0 (t .bonds + 1) (keysAfter t r p)) .bonds ≤ maxBonds) q l in
+          rw q (record { atoms = g .atoms; bonds = m; depth = g .depth; hub = g .hub; stack = g .stack; opener = set-le (t .opener) r 0 (maxAtoms + 1) (omega arith) (g .opener); offset = set-le (t .offset) r 0 maxText (omega arith) (g .offset) })
 
   pub joined-deep : joined t r k p .depth ≡ t .depth
   unfolding joined
   joined-deep = split (eqb (getD (t .opener) r 0) 0)
     where
-      split : (y : Bool) → pick y (bridged t r (t .hub .0 + 1) k p (t .bonds)) (bridged t r 0 0 0 (t .bonds + 1)) .depth ≡ t .depth
+      split : (y : Bool) → pick y (bridged t r (t .hub .0 + 1) k p (t .bonds) (t .keys)) (bridged t r 0 0 0 (t .bonds + 1) (keysAfter t r p)) .depth ≡ t .depth
       split true = refl
       split false = refl

@@ -29,18 +29,22 @@ use Rattle.table.specs.Limits.{maxAtoms, HYDROGENS}
 use Rattle.table.specs.Cells.{atomPlace, element, selected}
 use Rattle.table.specs.Valid.{Valid, enough}
 use Rattle.table.specs.Sound.{lateCode}
+use Rattle.table.specs.Orders.{turnMarks}
+use Rattle.table.proofs.Orders.{ButMarks, turned-but, but-late, turned-length}
 use Rattle.table_graph.specs.Graph.{bondSum, matchable}
 use Rattle.table_graph.specs.Built.{Wired, Prepared}
 use Rattle.table_graph.proofs.Graph.{prepared}
+use Rattle.table_graph.proofs.Marks.{but-matchable}
 use Rattle.reading_state.specs.declared.Fields.{Fields}
 use Rattle.ids.specs.Limits.{maxText, maxDepth, bridges}
-use Rattle.reading_state.specs.State.{Steering, steering, started}
+use Rattle.reading_state.specs.State.{Steering, keyCount, steering, started}
 use Rattle.reading_state.specs.declared.State.{State}
 use Rattle.reading.specs.Memory.{Memory, nothing, blank}
 use Rattle.reading.specs.Act.{act, modeAct}
-use Rattle.reading.specs.Read.{ReadResult, zeros, refused, short, beginning, hydrogenate, hydrogenated, overfullAtoms, earlier, leftmost, ended, finished, readFrom, readOf}
+use Rattle.reading.specs.Read.{ReadResult, zeros, refused, short, beginning, hydrogenate, hydrogenated, overfullAtoms, earlier, leftmost, textRank, ended, finished, readFrom, readOf}
 use Rattle.reading.proofs.Hydrogens.{implied-small}
-use Rattle.reading.proofs.Valid.{sane-valid}
+use Rattle.reading.proofs.Sane.{Sane}
+use Rattle.reading.proofs.Valid.{sane-filled}
 use Rattle.reading.proofs.Claims.{read-sane}
 use Rattle.reading_fields.specs.Rest.{rest, memory}
 use Rattle.reading_fields.proofs.Rest.{rest-end, rest-down-stop}
@@ -49,6 +53,7 @@ use Rattle.reader.specs.declared.piece.Joint.{Joint}
 use Rattle.reader.specs.declared.bridge.Why.{Why}
 use Rattle.reader.specs.declared.ending.ReadAnswer as reply
 use Rattle.reader.specs.Outcome.{Bounded, Outcome, refusedAt, PastFine, Past, Goes, Stops, Sequenced}
+use Rattle.reader.specs.Ranks.{Rankable}
 use Rattle.reader.specs.Filled.{hydrogensBy, hydrogenatedBy, placedBy}
 use Rattle.reader.specs.Ending.{told, endedOf, answerOf, TextGoes, TextRead}
 use Rattle.reader.proofs.Branches.{close-down}
@@ -62,7 +67,7 @@ start-dot (x ∷ s) a b h = refl
 
 pub bounded-started : {u : Steering} → u ≡ started → Bounded u
 unfolding started
-bounded-started e = rw e (record { atoms = omega arith; bonds = omega arith; depth = omega arith; hub = omega arith; stack = zeros-le maxDepth maxAtoms; opener = zeros-le bridges (maxAtoms + 1) })
+bounded-started e = rw e (record { atoms = omega arith; bonds = omega arith; depth = omega arith; hub = omega arith; stack = zeros-le maxDepth maxAtoms; opener = zeros-le bridges (maxAtoms + 1); offset = zeros-le bridges maxText })
   where
     zeros-le : (k n i : ℕ) → getD (replicate k 0) i 0 ≤ n
     zeros-le zero n i = omega arith
@@ -70,8 +75,8 @@ bounded-started e = rw e (record { atoms = omega arith; bonds = omega arith; dep
     zeros-le (suc k) n (suc i) = zeros-le k n i
 
 -- a new state with arrays of zeros
-pub new-started : {st : State} {p x : List ℕ} → p ≡ replicate bridges 0 → x ≡ replicate maxAtoms 0 → steering st (replicate bridges 0) (replicate maxAtoms 0) ≡ started → steering st p x ≡ started
-new-started ep ex e = rw (ep, ex) e
+pub new-started : {st : State} {p x y : List ℕ} → p ≡ replicate bridges 0 → x ≡ replicate maxAtoms 0 → y ≡ replicate keyCount 0 → steering st (replicate bridges 0) (replicate maxAtoms 0) (replicate keyCount 0) ≡ started → steering st p x y ≡ started
+new-started ep ex ey e = rw (ep, ex, ey) e
 
 pub text-empty : (s : List ℕ) (a b : List ℤ) {u : Steering} → length s ≡ 0 → u ≡ started → TextRead s a b a b (record { why = Why.Fine; at = 0; st = u })
 unfolding answer read accepting
@@ -186,16 +191,36 @@ module _ (t : Steering) (a b : List ℤ) {p : ℕ} (e : p ≡ leftmost (t .opene
   unfolding ended
   ended-open h eo = rw (eo, ← e, lt-ltb p maxText h)
 
-  module _ (h : maxText ≤ p) {v : List ℤ} (ev : v ≡ hydrogenated (t .outside) b (t .bonds) (t .atoms) a) {o : ReadResult} where
-    pub ended-late : (r : Refusal) → codeOf r ≡ lateCode v b (t .atoms) (t .bonds) → o ≡ refused (codeOf r) 0 v b → o ≡ endedOf t a b
+  module _ (h : maxText ≤ p) {v : List ℤ} (ev : v ≡ hydrogenated (t .outside) b (t .bonds) (t .atoms) a) where
+    -- with the marks as they are stored: the late checks and matchings are the same
+    abbrev stored : List ℤ
+    stored = turnMarks (textRank (t .keys) b) b (t .bonds) (t .atoms) v
+
+    same-but : ButMarks stored v (t .atoms)
+    same-but = turned-but (textRank (t .keys) b) b (t .bonds) (t .atoms) (t .atoms) v
+
+    stored-zeros : zeros stored ≡ zeros v
+    stored-zeros = ap (λ (n : ℕ). replicate n (pos 0)) (turned-length (textRank (t .keys) b) b (t .bonds) (t .atoms) v)
+
+    pub ended-late : {o : ReadResult} (r : Refusal) → codeOf r ≡ lateCode v b (t .atoms) (t .bonds) → o ≡ refused (codeOf r) 0 v b → o ≡ endedOf t a b
     unfolding ended
     ended-late r l eo =
-        let n : eqb (lateCode v b (t .atoms) (t .bonds)) 0 ≡ false = ne-eqb (lateCode v b (t .atoms) (t .bonds)) 0 (λ z. omega (arith, code-range r .positive, l, z)) in
-        rw (eo, ← e, le-ltb p maxText h, ← ev, l, n)
+        let c : codeOf r ≡ lateCode stored b (t .atoms) (t .bonds) = l ∙ sym (but-late same-but b (t .bonds)) in
+        let n : eqb (lateCode stored b (t .atoms) (t .bonds)) 0 ≡ false = ne-eqb (lateCode stored b (t .atoms) (t .bonds)) 0 (λ z. omega (arith, code-range r .positive, c, z)) in
+        rw (eo, ← e, le-ltb p maxText h, ← ev, ← stored-zeros, c, n)
 
-    pub ended-placed : {x : Bool} {k : ℕ} → 0 ≡ lateCode v b (t .atoms) (t .bonds) → k ≡ overfullAtoms (t .outside) b (t .bonds) (t .atoms) a → x ≡ matchable v b (t .atoms) (t .bonds) → o ≡ placedBy x v b (t .atoms) (t .bonds) k → o ≡ endedOf t a b
+    pub ended-placed : {o : ReadResult} {x : Bool} {k : ℕ} → 0 ≡ lateCode v b (t .atoms) (t .bonds) → k ≡ overfullAtoms (t .outside) b (t .bonds) (t .atoms) a → x ≡ matchable v b (t .atoms) (t .bonds) → o ≡ placedBy x stored b (t .atoms) (t .bonds) k → o ≡ endedOf t a b
     unfolding ended
-    ended-placed l ek m eo = rw (eo, ← e, le-ltb p maxText h, ← ev, ← l, m, ek)
+    ended-placed l ek m eo = rw (eo, ← e, le-ltb p maxText h, ← ev, but-late same-but b (t .bonds), ← l, but-matchable same-but b (t .bonds), m, ek)
+
+-- ---- the molecule with its marks as they are stored, and 11
+module _ (f : ℕ → ℕ → ℕ) (v b : List ℤ) (n m k : ℕ) {w : Bool} where
+  pub placed-marks : {x : List ℤ} → w ≡ true → x ≡ turnMarks f b m n v
+      → told (reply.ReadAnswer.Molecule n m k) x b ≡ placedBy w (turnMarks f b m n v) b n m k
+  placed-marks h e = rw (e, h)
+
+  pub refused-marks : {o : ReadResult} → w ≡ false → o ≡ refused 11 0 v b → o ≡ placedBy w (turnMarks f b m n v) b n m k
+  refused-marks h e = rw (e, h, turned-length f b m n v)
 
 -- ---- the public call
 abbrev byAnswer : List ℤ → List ℤ → Verdict Memory → ReadResult
@@ -249,12 +274,25 @@ module _ (s : List ℕ) (a b : List ℤ) where
         pub text-bounded : Bounded (o .st)
         text-bounded = fine .2
 
-        pub text-valid : Valid (hydrogenated (o .st .outside) y (o .st .bonds) (o .st .atoms) x) y (o .st .atoms) (o .st .bonds)
+        text-sane : (σ : machine.MachineState) × Sane (length a) (length b) σ (length s) (memory (o .st) x y nothing (fine .0) (fine .1))
         unfolding answer
-        text-valid =
+        text-sane =
             let e : answerOf s (zeros a) (zeros b) ≡ good (memory (o .st) x y nothing (fine .0) (fine .1)) = rw (← ea, ← eb) (fine .3) in
             let r = good-going (length s) (read act 0 (going start (beginning (zeros a) (zeros b))) s) (memory (o .st) x y nothing (fine .0) (fine .1)) e in
-            sane-valid {σ = r .0} (read-sane s a b {σ = r .0} (record { room = h; short = l }) (r .1))
+            (r .0, read-sane s a b {σ = r .0} (record { room = h; short = l }) (r .1))
+
+        pub text-valid : Valid (hydrogenated (o .st .outside) y (o .st .bonds) (o .st .atoms) x) y (o .st .atoms) (o .st .bonds)
+        text-valid = sane-filled {σ = text-sane .0} (text-sane .1)
+
+        pub text-rankable : Rankable y (o .st .bonds) (o .st .keys)
+        text-rankable =
+            let w = text-sane .1 in
+            record {
+              few = w .tables .few-bonds;
+              second = λ b k. omega (arith, w .tables .bond-rows b k .second, w .tables .few-atoms);
+              room = w .steering .keys-length;
+              key = λ k. omega (arith, w .steering .keys k);
+            }
 
         pub told-fine : {z : ReadResult} → z ≡ endedOf (o .st) x y → z ≡ readOf s a b
         unfolding ended

@@ -5,3 +5,4 @@ pub mod Branches
 pub mod Turns
 pub mod Ends
 pub mod Filling
+pub mod Ranks

@@ -23,7 +23,7 @@ use Rattle.reading_grammar.specs.Machine.{next, resting, atomOr, bridgeOr}
 use Rattle.reading_grammar.specs.Fold.{keeps, refuses}
 use Rattle.reading_grammar.proofs.Ends.{each}
 use Rattle.reading_state.specs.declared.Fields.{Fields}
-use Rattle.reading_state.specs.State.{Steering, joined, bridged}
+use Rattle.reading_state.specs.State.{Steering, joined, keysAfter, bridged}
 use Rattle.kinds.specs.Kind.{elided, single, double, triple, up, down, symbolKind}
 use Rattle.reading.specs.Memory.{Memory, nothing, dotted, symbol, counting, moved, kindOf, closeRefusal}
 use Rattle.reading.specs.Bracket.{digit}
@@ -213,7 +213,7 @@ joined-depth : (t : Steering) (r k p : ℕ) → joined t r k p .depth ≡ t .dep
 unfolding joined
 joined-depth t r k p = split (eqb (getD (t .opener) r 0) 0)
   where
-    split : (x : Bool) → pick x (bridged t r (t .hub .0 + 1) k p (t .bonds)) (bridged t r 0 0 0 (t .bonds + 1)) .depth ≡ t .depth
+    split : (x : Bool) → pick x (bridged t r (t .hub .0 + 1) k p (t .bonds) (t .keys)) (bridged t r 0 0 0 (t .bonds + 1) (keysAfter t r p)) .depth ≡ t .depth
     split true = refl
     split false = refl
 

@@ -3,7 +3,7 @@ use Prim.Native.Nat.{ℕ, _≤_, _<_}
 use native.Mathlib.Omega.{arith}
 use mathlib.Core.Path.{_≡_, refl, ap, _∙_, subst, subst⁻¹}
 use mathlib.Core.Bool.{Bool, true, false}
-use mathlib.Core.List.{List}
+use mathlib.Core.List.{List, []}
 use lib.ListN.{length, getD, set}
 use lib.IntN.{ℤ}
 use lib.Dec.{eqb}
@@ -16,10 +16,10 @@ use Rattle.reading_grammar.specs.declared.Mode.{Mode}
 use Rattle.reading_grammar.specs.declared.Mode.the-variants.{Seq as seq, AtomNext as atomNext}
 use Rattle.reading_grammar.specs.Fold.{Verdict, bad}
 use Rattle.table.specs.Limits.{maxAtoms}
-use Rattle.reading_state.specs.State.{Steering, steering, withNextAtom, joined}
+use Rattle.reading_state.specs.State.{Steering, steering, withNextAtom, keysThen, joined}
 use Rattle.reading_state.specs.declared.State.{State}
 use Rattle.reading_state.specs.declared.Fields.{Fields}
-use Rattle.ids.specs.Limits.{bridges, maxDepth}
+use Rattle.ids.specs.Limits.{bridges, maxDepth, maxText}
 use Rattle.reading.specs.Memory.{Memory, Pending, nothing}
 use Rattle.reading.specs.Act.{bridgeAct}
 use Rattle.reading_fields.specs.Rest.{rest, memory}
@@ -29,18 +29,21 @@ use Rattle.reader.specs.declared.atom.Added.{Added}
 use Rattle.reader.specs.declared.bridge.Why.{Why}
 use Rattle.reader.specs.Piece.{pendingOf, kindPending, startMode, startPending, afterBridge, Seen, SeenAtom, SeenBridge, SeenBranch, SeenEnd, SeenWrong}
 use Rattle.reader.specs.Added.{Reaches, bondsAfter, Adds}
-use Rattle.reader.specs.Outcome.{Bounded, Outcome, refusedAt, GoesOn, Goes, PastFine, Past, Stops, Sequenced, Branched, Closable}
+use Rattle.reader.specs.Outcome.{Bounded, Outcome, refusedAt, Goes, PastFine, Past, Stops, Sequenced, Branched, Closable}
 use Rattle.reader.specs.Bridge.{BridgeJoins, Bridges}
 use Rattle.reader.proofs.Bridges.{bounded-joined, joined-deep}
 use Rattle.reader.proofs.Branches.{deep-refused}
 
--- bounded, whatever the arrays beside the state are
-pub bounded-beside : {st : State} {p x p′ x′ : List ℕ} → Bounded (steering st p x) → Bounded (steering st p′ x′)
-bounded-beside g = record { atoms = g .atoms; bonds = g .bonds; depth = g .depth; hub = g .hub; stack = g .stack; opener = g .opener }
+-- bounded, whatever the arrays beside the offsets are, and without any
+pub bounded-beside : {st : State} {p x y x′ y′ : List ℕ} → Bounded (steering st p x y) → Bounded (steering st p x′ y′)
+bounded-beside g = record { atoms = g .atoms; bonds = g .bonds; depth = g .depth; hub = g .hub; stack = g .stack; opener = g .opener; offset = g .offset }
 
-pub closable-beside : (w : Why) (st : State) (p x p′ x′ : List ℕ) → Closable w (steering st p x) → Closable w (steering st p′ x′)
-closable-beside Why.Fine st p x p′ x′ h = (h .0, bounded-beside (h .1))
-closable-beside (Why.Refused c e) st p x p′ x′ h = tt
+pub bounded-alone : {st : State} {p x y : List ℕ} → Bounded (steering st p x y) → Bounded (steering st [] [] [])
+bounded-alone g = record { atoms = g .atoms; bonds = g .bonds; depth = g .depth; hub = g .hub; stack = g .stack; opener = g .opener; offset = λ i. omega arith }
+
+pub closable-alone : (w : Why) (st : State) (p x y : List ℕ) → Closable w (steering st p x y) → Closable w (steering st [] [] [])
+closable-alone Why.Fine st p x y h = (h .0, bounded-alone (h .1))
+closable-alone (Why.Refused c e) st p x y h = tt
 
 -- the machine rests only where it is not fresh
 resting-older : (f : Bool) → startMode f ≡ seq plain → f ≡ false
@@ -115,7 +118,7 @@ module _ {s : List ℕ} {j : Joint} {p₀ : ℕ} {t : Steering} {a₀ b₀ : Lis
             within = atom-in;
             later = omega (arith, v .later, atom-later);
             moved = λ n. omega (arith, v .later, atom-later);
-            bounded = record { atoms = omega (arith, atom-room); bonds = w .bonds (v .bounded .bonds); depth = v .bounded .depth; hub = omega (arith, atom-room); stack = v .bounded .stack; opener = v .bounded .opener };
+            bounded = record { atoms = omega (arith, atom-room); bonds = w .bonds (v .bounded .bonds); depth = v .bounded .depth; hub = omega (arith, atom-room); stack = v .bounded .stack; opener = v .bounded .opener; offset = v .bounded .offset };
             deep = v .deep;
             long-a = ka ∙ v .long-a;
             long-b = kb ∙ v .long-b;
@@ -138,18 +141,18 @@ module _ {s : List ℕ} {j : Joint} {p₀ : ℕ} {t : Steering} {a₀ b₀ : Lis
       pub bridge-later : p < m
       bridge-later = omega (arith, bridge-seen .later, bridge-seen .long)
 
-      module _ (b′ : List ℤ) (o′ : List ℕ) (w : Why) (g : Bridges u n k q b b′ o′ w) where
-        bridge-joins : w ≡ Why.Fine → BridgeJoins u n k q b b′ o′
-        bridge-joins ew = subst (Bridges u n k q b b′ o′) ew g
+      module _ (b′ : List ℤ) (o′ y′ : List ℕ) (w : Why) (g : Bridges u n k q b b′ o′ y′ w) where
+        bridge-joins : w ≡ Why.Fine → BridgeJoins u n k q b b′ o′ y′
+        bridge-joins ew = subst (Bridges u n k q b b′ o′ y′) ew g
 
-        pub turn-bridge : w ≡ Why.Fine → {st : State} {x : List ℕ} → steering st (set (u .offset) n (pick (eqb (getD (u .opener) n 0) 0) q 0)) x ≡ joined u n k q → length b′ ≡ length b → Turn s j p₀ t a₀ b₀ m false (steering st o′ x) a b′
-        turn-bridge ew {st} {x} eu kb = let y = bridge-joins ew in
-            let e : steering st o′ x ≡ joined u n k q = ap (λ (z : List ℕ). steering st z x) (y .offsets) ∙ eu in rw e (record {
+        pub turn-bridge : w ≡ Why.Fine → length s ≤ maxText → {st : State} {x : List ℕ} → steering st (set (u .offset) n (pick (eqb (getD (u .opener) n 0) 0) q 0)) x (keysThen u n q) ≡ joined u n k q → length b′ ≡ length b → Turn s j p₀ t a₀ b₀ m false (steering st o′ x y′) a b′
+        turn-bridge ew ls {st} {x} eu kb = let y = bridge-joins ew in
+            let e : steering st o′ x y′ ≡ joined u n k q = ap (λ (z : List ℕ). steering st z x y′) (y .offsets) ∙ ap (steering st (set (u .offset) n (pick (eqb (getD (u .opener) n 0) 0) q 0)) x) (y .keys) ∙ eu in rw e (record {
               stands = λ i d. let z = bridge-stands i d in record { tens = z .0; draft = z .1; is = z .2 ∙ ap (afterBridge s m) (y .is a (z .0) (z .1)) };
               within = bridge-lies .2;
               later = omega (arith, v .later, bridge-later);
               moved = λ n. omega (arith, v .later, bridge-later);
-              bounded = bounded-joined u n k q (v .bounded) (y .bonds (v .bounded .bonds));
+              bounded = bounded-joined u n k q (v .bounded) (omega (arith, bridge-lies .1, bridge-lies .2)) (y .bonds (v .bounded .bonds));
               deep = joined-deep u n k q ∙ v .deep;
               long-a = v .long-a;
               long-b = kb ∙ v .long-b;
@@ -157,7 +160,7 @@ module _ {s : List ℕ} {j : Joint} {p₀ : ℕ} {t : Steering} {a₀ b₀ : Lis
 
         pub end-bridge : {c : Refusal} {x y : ℕ} {z : Steering} → w ≡ Why.Refused c x → Sequenced s p₀ j t a₀ b₀ a b′ (record { why = w; at = y; st = z })
         end-bridge {c} {x} {y} {z} ew = rw ew (record {
-          goes = λ i d. let z = bridge-stands i d in z .2 ∙ ap (afterBridge s m) (subst (Bridges u n k q b b′ o′) ew g a (z .0) (z .1));
+          goes = λ i d. let z = bridge-stands i d in z .2 ∙ ap (afterBridge s m) (subst (Bridges u n k q b b′ o′ y′) ew g a (z .0) (z .1));
           past = tt;
           stops = tt;
         })

@@ -9,7 +9,7 @@ use Rattle.loops.specs.Loop.{pick}
 use Rattle.refusal.specs.Code.{codeOf}
 use Rattle.reading_grammar.specs.Fold.{keeps, refuses}
 use Rattle.table.specs.Limits.{maxBonds}
-use Rattle.reading_state.specs.State.{Steering, joined}
+use Rattle.reading_state.specs.State.{Steering, keysThen, joined}
 use Rattle.reading_state.specs.declared.Fields.{Fields}
 use Rattle.kinds.specs.Kind.{meet}
 use Rattle.reading.specs.Memory.{Memory, nothing, between, closeRefusal}
@@ -24,12 +24,13 @@ abbrev pub Closes : List ℤ → ℕ → ℕ → ℕ → ℕ → ℕ → Closing
 Closes bonds m u h j k (Closing.Bond x) = (closeRefusal bonds m u h j k ≡ 0) × (m < maxBonds) × (x ≡ between u h (meet j k))
 Closes bonds m u h j k (Closing.Refused r) = (p : ℕ) (μ : Memory) → orRefuse (closeRefusal bonds m u h j k) p μ ≡ refuses (codeOf r) p
 
--- the bridge joins as the action says, whatever the atom table and the half-read fields are; o′: the offsets then
-pub record BridgeJoins (t : Steering) (r k p : ℕ) (b b′ : List ℤ) (o′ : List ℕ) : Type 0 where
+-- the bridge joins as the action says, whatever the atom table and the half-read fields are; o′, y′: the offsets and the keys then
+pub record BridgeJoins (t : Steering) (r k p : ℕ) (b b′ : List ℤ) (o′ y′ : List ℕ) : Type 0 where
   pub is : (a : List ℤ) (i : ℕ) (f : Fields) → bridgeAct r p (memory t a b (kindPending k) i f) ≡ keeps (memory (joined t r k p) a b′ nothing i f)
   pub offsets : o′ ≡ set (t .offset) r (pick (eqb (getD (t .opener) r 0) 0) p 0)
+  pub keys : y′ ≡ keysThen t r p
   pub bonds : t .bonds ≤ maxBonds → joined t r k p .bonds ≤ maxBonds
 
-abbrev pub Bridges : Steering → ℕ → ℕ → ℕ → List ℤ → List ℤ → List ℕ → Why → Type 0
-Bridges t r k p b b′ o′ Why.Fine = BridgeJoins t r k p b b′ o′
-Bridges t r k p b b′ o′ (Why.Refused c e) = (a : List ℤ) (i : ℕ) (f : Fields) → bridgeAct r p (memory t a b (kindPending k) i f) ≡ refuses (codeOf c) e
+abbrev pub Bridges : Steering → ℕ → ℕ → ℕ → List ℤ → List ℤ → List ℕ → List ℕ → Why → Type 0
+Bridges t r k p b b′ o′ y′ Why.Fine = BridgeJoins t r k p b b′ o′ y′
+Bridges t r k p b b′ o′ y′ (Why.Refused c e) = (a : List ℤ) (i : ℕ) (f : Fields) → bridgeAct r p (memory t a b (kindPending k) i f) ≡ refuses (codeOf c) e

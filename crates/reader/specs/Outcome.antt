@@ -16,7 +16,7 @@ use Rattle.reading_grammar.specs.Fold.{Verdict, bad}
 use Rattle.table.specs.Limits.{maxAtoms, maxBonds}
 use Rattle.reading_state.specs.State.{Steering, steering, closed}
 use Rattle.reading_state.specs.declared.Fields.{Fields}
-use Rattle.ids.specs.Limits.{maxDepth}
+use Rattle.ids.specs.Limits.{maxDepth, maxText}
 use Rattle.reading.specs.Memory.{Memory, Pending, nothing}
 use Rattle.reading_fields.specs.Rest.{rest, memory}
 use Rattle.reader.specs.declared.piece.Joint.{Joint}
@@ -25,7 +25,7 @@ use Rattle.reader.specs.declared.bridge.PartRead.{PartRead}
 use Rattle.reader.specs.Piece.{pendingOf}
 use Rattle.reader.specs.Added.{Reaches}
 
--- the counts are within the limits, and the atoms that the state holds are numbers of atoms
+-- the counts are within the limits, the atoms that the state holds are numbers of atoms, and the offsets lie in a text
 pub record Bounded (t : Steering) : Type 0 where
   pub atoms : t .atoms ≤ maxAtoms
   pub bonds : t .bonds ≤ maxBonds
@@ -33,6 +33,7 @@ pub record Bounded (t : Steering) : Type 0 where
   pub hub : t .hub .0 ≤ maxAtoms
   pub stack : (i : ℕ) → getD (t .stack) i 0 ≤ maxAtoms
   pub opener : (i : ℕ) → getD (t .opener) i 0 ≤ maxAtoms + 1
+  pub offset : (i : ℕ) → getD (t .offset) i 0 ≤ maxText
 
 -- how a part of a text went, the next offset, and what steers the reading from there
 pub record Outcome : Type 0 where
@@ -40,9 +41,9 @@ pub record Outcome : Type 0 where
   pub at : ℕ
   pub st : Steering
 
--- what the code hands back, and the two arrays that are lent beside its state
-abbrev pub outcome : PartRead → List ℕ → List ℕ → Outcome
-outcome o p x = record { why = o .why; at = o .at; st = steering (o .st) p x }
+-- what the code hands back, and the three arrays that are lent beside its state
+abbrev pub outcome : PartRead → List ℕ → List ℕ → List ℕ → Outcome
+outcome o p x y = record { why = o .why; at = o .at; st = steering (o .st) p x y }
 
 -- a refusal, at its offset
 abbrev pub refusedAt : Refusal → ℕ → Steering → Outcome

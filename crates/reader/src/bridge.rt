@@ -4,7 +4,9 @@ ghost use mathlib.Core.List.{List, []};
 ghost use Prim.Native.Nat.{ℕ, _≤_, _<_};
 ghost use Rattle.table.specs.Limits.{maxBonds};
 ghost use Rattle.ids.specs.Limits.{bridges, maxText};
-ghost use Rattle.reading_state.specs.State.{steering};
+ghost use lib.Dec.{ltb};
+ghost use Rattle.loops.specs.Loop.{pick};
+ghost use Rattle.reading_state.specs.State.{steering, keyed};
 ghost use Rattle.reading.specs.Memory.{joins, joinedAlready, between};
 ghost use Rattle.reader.specs.Outcome.{Bounded, outcome, refusedAt};
 ghost use Rattle.reader.specs.Bridge.{Closes, Bridges};
@@ -12,6 +14,7 @@ use crate::atom::bond_of;
 use ids::AtomId;
 use ids::BRIDGES;
 use ids::BondId;
+use reading_state::KEYS;
 use reading_state::Opening;
 use reading_state::State;
 use refusal::Refusal;
@@ -43,7 +46,7 @@ pub enum Closing {
 
 // internal: a refusal at an offset.
 pub fn refuse(r: Refusal, at: usize, st: State) -> PartRead
-    ensures { λ o. ⌜ ((p x : List ℕ) → outcome o p x ≡ refusedAt r at (steering st p x)) ⌝ }
+    ensures { λ o. ⌜ ((p x y : List ℕ) → outcome o p x y ≡ refusedAt r at (steering st p x y)) ⌝ }
 {
     let why = Why::Refused(r, at);
     PartRead { why, at, st }
@@ -109,7 +112,22 @@ fn close_at(bonds: &[i32], m: BondId, u: AtomId, hub: AtomId, j: u8, k: u8) -> C
     Closing::Bond(between(u, hub, kinds::meet(j, k)))
 }
 
-// internal: before a bridge joins, with its number, the kind of its symbol, and the offset of its digit or `%`: the offset of one that opens, the bond of one that closes, or its refusal.
+// Writes the keys of a bridge's bond, whose digits stand at p at the atom u and at q at the hub: the lower number first.
+fn put_keys(keys: &mut [u16; KEYS], b: BondId, u: AtomId, hub: AtomId, p: u16, q: u16)
+    requires { ⌜ (b .0 < maxBonds) × (p ≤ maxText) × (q ≤ maxText) ⌝ }
+    ensures { λ _. ⌜ now (keys .exit) ≡ pick (ltb (u .0) (hub .0)) (keyed (now (keys .entry)) (b .0) p q) (keyed (now (keys .entry)) (b .0) q p) ⌝ }
+{
+    let i = 2 * b.0;
+    if u.0 < hub.0 {
+        keys[i] = p + 1;
+        keys[i + 1] = q + 1;
+        return;
+    }
+    keys[i] = q + 1;
+    keys[i + 1] = p + 1;
+}
+
+// internal: before a bridge joins, with its number, the kind of its symbol, and the offset of its digit or `%`: the offset of one that opens, the bond and its keys of one that closes, or its refusal.
 pub fn bridge(
     st: State,
     number: usize,
@@ -117,22 +135,25 @@ pub fn bridge(
     at: usize,
     bonds: &mut [i32],
     offsets: &mut [u16; BRIDGES],
+    keys: &mut [u16; KEYS],
 ) -> Why
-    requires { ⌜ Bounded (steering st [] []) ⌝ }
+    requires { ⌜ Bounded (steering st (now offsets) [] []) ⌝ }
     requires { ⌜ number < bridges ⌝ }
     requires { ⌜ at ≤ maxText ⌝ }
-    ensures { λ r. ⌜ ((x : List ℕ) → Bridges (steering st (now (offsets .entry)) x) number kind at (now (bonds .entry)) (now (bonds .exit)) (now (offsets .exit)) r) ⌝ }
+    ensures { λ r. ⌜ ((x : List ℕ) → Bridges (steering st (now (offsets .entry)) x (now (keys .entry))) number kind at (now (bonds .entry)) (now (bonds .exit)) (now (offsets .exit)) (now (keys .exit)) r) ⌝ }
 {
     let opening = st.opening(number);
     let Opening::At(u, j) = opening else {
         offsets[number] = at as u16;
         return Why::Fine;
     };
+    let from = offsets[number];
     offsets[number] = 0;
     let m = BondId(st.bonds);
     match close_at(bonds, m, u, st.hub, j, kind) {
         Closing::Bond(x) => {
             put_bond(bonds, m, x);
+            put_keys(keys, m, u, st.hub, from, at as u16);
             Why::Fine
         }
         Closing::Refused(r) => Why::Refused(r, at),

@@ -1,30 +1,40 @@
-// After the last byte: open bridges, hydrogens, the late checks, and whether a matching exists.
+// After the last byte: open bridges, hydrogens, the late checks, whether a matching exists, and the marks.
 ghost use mathlib.Core.Path.{_≡_};
-ghost use mathlib.Core.Bool.{true};
+ghost use mathlib.Core.Bool.{true, not};
+ghost use lib.Dec.{eqb};
 ghost use lib.ListN.{length, getD, replicate};
-ghost use Rattle.ids.specs.Limits.{bridges};
+ghost use Rattle.ids.specs.Limits.{bridges, maxText};
+ghost use Rattle.loops.specs.Loop.{each};
 ghost use Rattle.ids.specs.Small.{small};
 ghost use Rattle.table_graph.specs.Built.{Room};
 ghost use Prim.Native.Nat.{ℕ, _≤_, _<_};
 ghost use Rattle.table.specs.Limits.{maxAtoms, maxBonds};
+ghost use Rattle.table.specs.Cells.{mark};
 ghost use Rattle.table.specs.Valid.{Valid};
+ghost use Rattle.table.specs.Sound.{noneUnfit};
+ghost use Rattle.table.specs.Orders.{turnMarks};
 ghost use Rattle.valence.specs.Valence.{valuesOf};
 ghost use Rattle.reading_state.specs.State.{steering};
 ghost use Rattle.refusal.specs.Code.{codeOf};
-ghost use Rattle.reading.specs.Read.{refused, earlier, leftmost, hydrogenated};
+ghost use Rattle.reading.specs.Read.{refused, earlier, leftmost, hydrogenated, textRank};
+ghost use Rattle.reader.specs.Ranks.{firstRank, secondRank, rankBonds, Rankable};
 ghost use Rattle.reader.specs.Filled.{AtomFilled, AtomsFilled, Completed, placedBy};
 ghost use Rattle.reader.specs.Ending.{told, endedOf};
 use ids::AtomId;
 use ids::BRIDGES;
+use ids::BondId;
 use ids::MAX_TEXT;
 use ids::SMALL;
+use reading_state::KEYS;
 use reading_state::State;
 use refusal::Refusal;
 use table::Check;
 use table::ELEMENT;
 use table::HYDROGENS;
+use table::MARK;
 use table::MAX_ATOMS;
 use table::MAX_BONDS;
+use table::SECOND;
 use table::SELECTED;
 use table::cell;
 use table_edits::clear;
@@ -249,11 +259,86 @@ fn refuse_whole(r: Refusal, p: usize, atoms: &mut [i32], bonds: &mut [i32]) -> R
     ReadAnswer::Refused(r, p)
 }
 
-// The molecule, or 11 where it has no matching.
-fn place(w: Whole, n: usize, m: usize, atoms: &mut [i32], bonds: &mut [i32]) -> ReadAnswer
-    ensures { λ t. ⌜ told t (now (atoms .exit)) (now (bonds .exit)) ≡ placedBy (w .matchable) (now (atoms .entry)) (now (bonds .entry)) n m (w .overfull) ⌝ }
+// Whether one of n atoms is marked.
+fn some_marked(atoms: &[i32], n: usize) -> bool
+    requires { ⌜ n ≤ maxAtoms ⌝ }
+    ensures { λ r. ⌜ r ≡ not (each (λ a. eqb (mark (now (atoms .entry)) a) 0) 0 n) ⌝ }
+{
+    let mut i = 0;
+    while i < n {
+        if cell::atom_number(atoms, AtomId(i), MARK) != 0 {
+            return true;
+        }
+        i += 1;
+    }
+    false
+}
+
+// The rank of a bond at its first end, by its key there and its second end.
+fn first_rank(key: u16, second: usize) -> u16
+    requires { ⌜ (key ≤ maxText) × (second < maxAtoms) ⌝ }
+    ensures { λ r. ⌜ r ≡ firstRank key second ⌝ }
+{
+    if key == 0 {
+        return (MAX_TEXT + 2 + second) as u16;
+    }
+    key + 1
+}
+
+// The rank of a bond at its second end, by its key there.
+fn second_rank(key: u16) -> u16
+    requires { ⌜ key ≤ maxText ⌝ }
+    ensures { λ r. ⌜ r ≡ secondRank key ⌝ }
+{
+    if 0 < key {
+        return key + 1;
+    }
+    0
+}
+
+// The ranks of m bonds in the text, in place of their keys.
+fn rank_bonds(bonds: &[i32], m: usize, keys: &mut [u16; KEYS])
+    requires { ⌜ Rankable (now bonds) m (now keys) ⌝ }
+    ensures { λ _. ⌜ now (keys .exit) ≡ rankBonds (now (bonds .entry)) m (now (keys .entry)) ⌝ }
+{
+    let mut i = 0;
+    while i < m {
+        let p = 2 * i;
+        let second = cell::bond_number(bonds, BondId(i), SECOND);
+        keys[p] = first_rank(keys[p], second);
+        keys[p + 1] = second_rank(keys[p + 1]);
+        i += 1;
+    }
+}
+
+// The marks of n atoms as they are stored, from the keys of m bonds, which are used up.
+fn store_marks(n: usize, m: usize, keys: &mut [u16; KEYS], atoms: &mut [i32], bonds: &[i32])
+    requires { ⌜ Valid (now atoms) (now bonds) n m ⌝ }
+    requires { ⌜ (noneUnfit (now atoms) (now bonds) n m ≡ true) × Rankable (now bonds) m (now keys) ⌝ }
+    ensures { λ _. ⌜ now (atoms .exit) ≡ turnMarks (textRank (now (keys .entry)) (now (bonds .entry))) (now (bonds .entry)) m n (now (atoms .entry)) ⌝ }
+{
+    if !some_marked(atoms, n) {
+        return;
+    }
+    rank_bonds(bonds, m, keys);
+    table_orders::turn_marks(atoms, bonds, n, m, keys);
+}
+
+// The molecule with its marks as they are stored, or 11 where it has no matching.
+fn place(
+    w: Whole,
+    n: usize,
+    m: usize,
+    keys: &mut [u16; KEYS],
+    atoms: &mut [i32],
+    bonds: &mut [i32],
+) -> ReadAnswer
+    requires { ⌜ Valid (now atoms) (now bonds) n m ⌝ }
+    requires { ⌜ (noneUnfit (now atoms) (now bonds) n m ≡ true) × Rankable (now bonds) m (now keys) ⌝ }
+    ensures { λ t. ⌜ told t (now (atoms .exit)) (now (bonds .exit)) ≡ placedBy (w .matchable) (turnMarks (textRank (now (keys .entry)) (now (bonds .entry))) (now (bonds .entry)) m n (now (atoms .entry))) (now (bonds .entry)) n m (w .overfull) ⌝ }
 {
     if w.matchable {
+        store_marks(n, m, keys, atoms, bonds);
         return ReadAnswer::Molecule(n, m, w.overfull);
     }
     refuse_whole(Refusal::Unmatchable, 0, atoms, bonds)
@@ -264,12 +349,14 @@ pub fn end(
     st: State,
     offsets: &[u16; BRIDGES],
     outsides: &[u8; MAX_ATOMS],
+    keys: &mut [u16; KEYS],
     atoms: &mut [i32],
     bonds: &mut [i32],
 ) -> ReadAnswer
     requires { ⌜ (st .atoms ≤ maxAtoms) × (st .bonds ≤ maxBonds) ⌝ }
     requires { ⌜ Valid (hydrogenated (now outsides) (now bonds) (st .bonds) (st .atoms) (now atoms)) (now bonds) (st .atoms) (st .bonds) ⌝ }
-    ensures { λ r. ⌜ told r (now (atoms .exit)) (now (bonds .exit)) ≡ endedOf (steering st (now (offsets .entry)) (now (outsides .entry))) (now (atoms .entry)) (now (bonds .entry)) ⌝ }
+    requires { ⌜ Rankable (now bonds) (st .bonds) (now keys) ⌝ }
+    ensures { λ r. ⌜ told r (now (atoms .exit)) (now (bonds .exit)) ≡ endedOf (steering st (now (offsets .entry)) (now (outsides .entry)) (now (keys .entry))) (now (atoms .entry)) (now (bonds .entry)) ⌝ }
 {
     let openers = st.openers;
     let p = leftmost(&openers, offsets);
@@ -280,7 +367,7 @@ pub fn end(
     let m = st.bonds;
     let w = complete(n, m, outsides, atoms, bonds);
     match table_validity::late::late_check(atoms, bonds, n, m) {
-        Check::Fine => place(w, n, m, atoms, bonds),
+        Check::Fine => place(w, n, m, keys, atoms, bonds),
         Check::Refused(r) => refuse_whole(r, 0, atoms, bonds),
     }
 }

@@ -4,6 +4,7 @@ ghost use Prim.Native.Nat.{_≤_};
 ghost use lib.ListN.{length, replicate};
 ghost use Rattle.table.specs.Limits.{maxAtoms};
 ghost use Rattle.ids.specs.Limits.{maxText, bridges};
+ghost use Rattle.reading_state.specs.State.{keyCount};
 ghost use Rattle.reading.specs.Read.{readOf};
 ghost use Rattle.reader.specs.Outcome.{outcome};
 ghost use Rattle.reader.specs.Ending.{told, TextRead};
@@ -16,6 +17,7 @@ use crate::piece::Start;
 use crate::sequence::sequence;
 use ids::BRIDGES;
 use ids::MAX_TEXT;
+use reading_state::KEYS;
 use reading_state::State;
 use refusal::Refusal;
 use table::MAX_ATOMS;
@@ -34,10 +36,11 @@ fn read_text(
     bonds: &mut [i32],
     outsides: &mut [u8; MAX_ATOMS],
     offsets: &mut [u16; BRIDGES],
+    keys: &mut [u16; KEYS],
 ) -> PartRead
     requires { ⌜ length (now text) ≤ maxText ⌝ }
-    requires { ⌜ (now offsets ≡ replicate bridges 0) × (now outsides ≡ replicate maxAtoms 0) ⌝ }
-    ensures { λ r. ⌜ TextRead (now (text .entry)) (now (atoms .entry)) (now (bonds .entry)) (now (atoms .exit)) (now (bonds .exit)) (outcome r (now (offsets .exit)) (now (outsides .exit))) ⌝ }
+    requires { ⌜ (now offsets ≡ replicate bridges 0) × (now outsides ≡ replicate maxAtoms 0) × (now keys ≡ replicate keyCount 0) ⌝ }
+    ensures { λ r. ⌜ TextRead (now (text .entry)) (now (atoms .entry)) (now (bonds .entry)) (now (atoms .exit)) (now (bonds .exit)) (outcome r (now (offsets .exit)) (now (outsides .exit)) (now (keys .exit))) ⌝ }
 {
     let st = State::new();
     if text.len() == 0 {
@@ -50,7 +53,7 @@ fn read_text(
     }
     let none = Joint::Elided;
     let start = Start { joint: none, at: 0 };
-    let o = sequence(text, start, st, atoms, bonds, outsides, offsets);
+    let o = sequence(text, start, st, atoms, bonds, outsides, offsets, keys);
     let w = o.why;
     let Why::Fine = w else {
         return o;
@@ -64,7 +67,7 @@ fn read_text(
 }
 
 // Reads a text: the counts of atoms, of bonds and of over-full atoms outside brackets, the tables holding their rows and zeros after them; or the refusal with its offset,
-// 1 to 11 in 01's order. A table that is too short (1) leaves both as they were; every other refusal leaves both zeroed.
+// 1 to 11 in 01's order, the late checks 20 to 23 before 11. A table that is too short (1) leaves both as they were; every other refusal leaves both zeroed.
 pub fn read(text: &[u8], atoms: &mut [i32], bonds: &mut [i32]) -> ReadAnswer
     ensures { λ r. ⌜ told r (now (atoms .exit)) (now (bonds .exit)) ≡ readOf (now (text .entry)) (now (atoms .entry)) (now (bonds .entry)) ⌝ }
 {
@@ -78,12 +81,13 @@ pub fn read(text: &[u8], atoms: &mut [i32], bonds: &mut [i32]) -> ReadAnswer
     }
     let mut outsides = [0u8; MAX_ATOMS];
     let mut offsets = [0u16; BRIDGES];
-    let o = read_text(text, atoms, bonds, &mut outsides, &mut offsets);
+    let mut keys = [0u16; KEYS];
+    let o = read_text(text, atoms, bonds, &mut outsides, &mut offsets, &mut keys);
     let w = o.why;
     match w {
         Why::Fine => {
             let st = o.st;
-            ending::end(st, &offsets, &outsides, atoms, bonds)
+            ending::end(st, &offsets, &outsides, &mut keys, atoms, bonds)
         }
         Why::Refused(r, p) => {
             clear(atoms);

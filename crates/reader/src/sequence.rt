@@ -19,6 +19,7 @@ use crate::piece::piece_at;
 use ids::BRIDGES;
 use ids::MAX_DEPTH;
 use reading_fields::byte::peek;
+use reading_state::KEYS;
 use reading_state::State;
 use refusal::Refusal;
 use table::MAX_ATOMS;
@@ -32,11 +33,12 @@ pub fn sequence(
     bonds: &mut [i32],
     outsides: &mut [u8; MAX_ATOMS],
     offsets: &mut [u16; BRIDGES],
+    keys: &mut [u16; KEYS],
 ) -> PartRead
-    requires { ⌜ Bounded (steering from [] []) ⌝ }
+    requires { ⌜ Bounded (steering from (now offsets) [] []) ⌝ }
     requires { ⌜ start .at ≤ length (now s) ⌝ }
     requires { ⌜ length (now s) ≤ maxText ⌝ }
-    ensures { λ r. ⌜ Sequenced (now (s .entry)) (start .at) (start .joint) (steering from (now (offsets .entry)) (now (outsides .entry))) (now (atoms .entry)) (now (bonds .entry)) (now (atoms .exit)) (now (bonds .exit)) (outcome r (now (offsets .exit)) (now (outsides .exit))) ⌝ }
+    ensures { λ r. ⌜ Sequenced (now (s .entry)) (start .at) (start .joint) (steering from (now (offsets .entry)) (now (outsides .entry)) (now (keys .entry))) (now (atoms .entry)) (now (bonds .entry)) (now (atoms .exit)) (now (bonds .exit)) (outcome r (now (offsets .exit)) (now (outsides .exit)) (now (keys .exit))) ⌝ }
 {
     let joint = start.joint;
     let mut at = start.at;
@@ -57,7 +59,7 @@ pub fn sequence(
                 Added::Refused(r, e) => return refuse(r, e, st),
             },
             Piece::Bridge(number, kind, q, p) => {
-                let why = bridge(st, number, kind, q, bonds, offsets);
+                let why = bridge(st, number, kind, q, bonds, offsets, keys);
                 let Why::Fine = why else {
                     return PartRead { why, at: q, st };
                 };
@@ -69,7 +71,7 @@ pub fn sequence(
                 if MAX_DEPTH <= st.depth {
                     return refuse(Refusal::DeepBranch, q, st);
                 }
-                let o = branch(s, q, st, atoms, bonds, outsides, offsets);
+                let o = branch(s, q, st, atoms, bonds, outsides, offsets, keys);
                 let t = o.st;
                 st = t;
                 at = o.at;
@@ -96,25 +98,26 @@ pub fn branch(
     bonds: &mut [i32],
     outsides: &mut [u8; MAX_ATOMS],
     offsets: &mut [u16; BRIDGES],
+    keys: &mut [u16; KEYS],
 ) -> PartRead
-    requires { ⌜ Bounded (steering st [] []) ⌝ }
+    requires { ⌜ Bounded (steering st (now offsets) [] []) ⌝ }
     requires { ⌜ st .depth < maxDepth ⌝ }
     requires { ⌜ at < length (now s) ⌝ }
     requires { ⌜ getD (now s) at 0 ≡ 40 ⌝ }
     requires { ⌜ length (now s) ≤ maxText ⌝ }
-    ensures { λ r. ⌜ Branched (now (s .entry)) at (steering st (now (offsets .entry)) (now (outsides .entry))) (now (atoms .entry)) (now (bonds .entry)) (now (atoms .exit)) (now (bonds .exit)) (outcome r (now (offsets .exit)) (now (outsides .exit))) ⌝ }
+    ensures { λ r. ⌜ Branched (now (s .entry)) at (steering st (now (offsets .entry)) (now (outsides .entry)) (now (keys .entry))) (now (atoms .entry)) (now (bonds .entry)) (now (atoms .exit)) (now (bonds .exit)) (outcome r (now (offsets .exit)) (now (outsides .exit)) (now (keys .exit))) ⌝ }
 {
     let inner = st.open();
     let start = joint_at(s, at + 1);
-    let o = sequence(s, start, inner, atoms, bonds, outsides, offsets);
+    let o = sequence(s, start, inner, atoms, bonds, outsides, offsets, keys);
     end_branch(s, o)
 }
 
 // The end of a branch: it closes at its `)`, and the hub is again what it was.
 fn end_branch(s: &[u8], o: PartRead) -> PartRead
     requires { ⌜ length (now s) ≤ maxText ⌝ }
-    requires { ⌜ Closable (o .why) (steering (o .st) [] []) ⌝ }
-    ensures { λ r. ⌜ ((p x : List ℕ) → outcome r p x ≡ branchEnded (now (s .entry)) (outcome o p x)) ⌝ }
+    requires { ⌜ Closable (o .why) (steering (o .st) [] [] []) ⌝ }
+    ensures { λ r. ⌜ ((p x y : List ℕ) → outcome r p x y ≡ branchEnded (now (s .entry)) (outcome o p x y)) ⌝ }
 {
     let w = o.why;
     let Why::Fine = w else {

@@ -14,13 +14,14 @@ use Rattle.element.specs.Lookup.{indexFrom, numberOf, selectedOf}
 use Rattle.reading_grammar.specs.Grammar.{nonzero, digits, several}
 use Rattle.reading_grammar.proofs.Ends.{each}
 use Rattle.table.specs.Cells.{number, inRange}
-use Rattle.table.specs.Valid.{selectable}
+use Rattle.table.specs.Valid.{maxMark, selectable, atomRowOk}
 use Rattle.reading_state.specs.declared.Fields.{Fields}
 use Rattle.reading.specs.Memory.{blank, rowOf, bareRow}
-use Rattle.reading.specs.Bracket.{digit, isotoped, elemented, symbolled, hydrogened, charged, signed, extended}
+use Rattle.reading.specs.Bracket.{digit, isotoped, elemented, symbolled, marked, hydrogened, charged, signed, extended}
 use Rattle.reading.proofs.Cases.{by-test}
 use Rattle.reading.proofs.Sane.{InRange, isotopeMost, extensionMost}
-use Rattle.reading.proofs.Rows.{within, rowOk}
+use Rattle.table.proofs.Valid.{range-of}
+use Rattle.reading.proofs.Rows.{rowOk}
 
 -- ---- digits
 pub any-digit : (b : ℕ) → among b digits ≡ true → digit b ≤ 9
@@ -62,17 +63,17 @@ selected-fine b = split (eqb b 99) (eqb b 110) (eqb b 111) (eqb b 112) (eqb b 11
 -- ---- the fields
 pub blank-range : (a e : ℕ) → InRange a e blank
 unfolding inRange
-blank-range a e = record { element = omega arith; selected = omega arith; selectable = refl; isotope = omega arith; hydrogens = omega arith; charge = refl; extension = omega arith }
+blank-range a e = record { element = omega arith; selected = omega arith; selectable = refl; isotope = omega arith; hydrogens = omega arith; charge = refl; extension = omega arith; mark = omega arith }
 
 pub wider : {a e : ℕ} {f : Fields} → InRange a e f → (c g : ℕ) → a ≤ c → e ≤ g → InRange c g f
-wider r c g ac eg = record { element = r .element; selected = r .selected; selectable = r .selectable; isotope = omega arith; hydrogens = r .hydrogens; charge = r .charge; extension = omega arith }
+wider r c g ac eg = record { element = r .element; selected = r .selected; selectable = r .selectable; isotope = omega arith; hydrogens = r .hydrogens; charge = r .charge; extension = omega arith; mark = r .mark }
 
 module _ {a e : ℕ} {f : Fields} (r : InRange a e f) where
   pub isotoped-range : (b c : ℕ) → 10 * f .isotope + digit b ≤ c → InRange c e (isotoped b f)
-  isotoped-range b c h = record { element = r .element; selected = r .selected; selectable = r .selectable; isotope = h; hydrogens = r .hydrogens; charge = r .charge; extension = r .extension }
+  isotoped-range b c h = record { element = r .element; selected = r .selected; selectable = r .selectable; isotope = h; hydrogens = r .hydrogens; charge = r .charge; extension = r .extension; mark = r .mark }
 
   pub elemented-range : (n s : ℕ) → n ≤ 118 → s ≤ 1 → (eqb s 0 || selectable n) ≡ true → InRange a e (elemented n s f)
-  elemented-range n s hn hs h = record { element = hn; selected = hs; selectable = h; isotope = r .isotope; hydrogens = r .hydrogens; charge = r .charge; extension = r .extension }
+  elemented-range n s hn hs h = record { element = hn; selected = hs; selectable = h; isotope = r .isotope; hydrogens = r .hydrogens; charge = r .charge; extension = r .extension; mark = r .mark }
 
   pub symbolled-range : (b : ℕ) → InRange a e (symbolled b f)
   unfolding symbolled
@@ -81,19 +82,22 @@ module _ {a e : ℕ} {f : Fields} (r : InRange a e f) where
       (λ q. elemented-range (numberOf (b ∷ [])) 0 (number-small (b ∷ [])) (omega arith) refl)
       (λ q. let z = selected-fine b q in elemented-range (selectedOf b) 1 (z .1) (omega arith) (z .0))
 
+  pub marked-range : (k : ℕ) → k ≤ maxMark → InRange a e (marked k f)
+  marked-range k h = record { element = r .element; selected = r .selected; selectable = r .selectable; isotope = r .isotope; hydrogens = r .hydrogens; charge = r .charge; extension = r .extension; mark = h }
+
   pub hydrogened-range : (h : ℕ) → h ≤ 9 → InRange a e (hydrogened h f)
-  hydrogened-range h l = record { element = r .element; selected = r .selected; selectable = r .selectable; isotope = r .isotope; hydrogens = l; charge = r .charge; extension = r .extension }
+  hydrogened-range h l = record { element = r .element; selected = r .selected; selectable = r .selectable; isotope = r .isotope; hydrogens = l; charge = r .charge; extension = r .extension; mark = r .mark }
 
   pub charged-range : (t : Bool) (n : ℕ) → 1 ≤ n → n ≤ 9 → InRange a e (charged (signed t n) f)
   unfolding inRange
-  charged-range t n l h = record { element = r .element; selected = r .selected; selectable = r .selectable; isotope = r .isotope; hydrogens = r .hydrogens; charge = sized t; extension = r .extension }
+  charged-range t n l h = record { element = r .element; selected = r .selected; selectable = r .selectable; isotope = r .isotope; hydrogens = r .hydrogens; charge = sized t; extension = r .extension; mark = r .mark }
     where
       sized : (t : Bool) → inRange (signed t n) (negsuc 8) (pos 9) ≡ true
       sized true = le-leb n 9 h
       sized false = rw (le-leb (n - 1) 8 (omega arith))
 
   pub extended-range : (b g : ℕ) → 10 * f .extension + digit b ≤ g → InRange a g (extended b f)
-  extended-range b g h = record { element = r .element; selected = r .selected; selectable = r .selectable; isotope = r .isotope; hydrogens = r .hydrogens; charge = r .charge; extension = h }
+  extended-range b g h = record { element = r .element; selected = r .selected; selectable = r .selectable; isotope = r .isotope; hydrogens = r .hydrogens; charge = r .charge; extension = h; mark = r .mark }
 
 -- one digit more
 pub isotope-digit : (k : ℕ) {e : ℕ} {f : Fields} → suc k ≤ 2 → InRange (isotopeMost (suc k)) e f → (b : ℕ) → digit b ≤ 9 → InRange (isotopeMost k) e (isotoped b f)
@@ -120,14 +124,14 @@ extension-most (suc (suc (suc k))) = omega arith
 
 -- ---- the rows
 pub row-of-fields : {f : Fields} → InRange 999 9999 f → rowOk (rowOf f) ≡ true
-unfolding rowOk number
+unfolding atomRowOk number
 row-of-fields {f} r =
-    rw (within (f .element) 118 (r .element), within (f .isotope) 999 (r .isotope), within (f .hydrogens) 9 (r .hydrogens), r .charge, within (f .extension) 9999 (r .extension), within (f .selected) 1 (r .selected), r .selectable)
+    rw (range-of (f .element) 118 (r .element), range-of (f .isotope) 999 (r .isotope), range-of (f .hydrogens) 9 (r .hydrogens), r .charge, range-of (f .extension) 9999 (r .extension), range-of (f .mark) maxMark (r .mark), range-of (f .selected) 1 (r .selected), r .selectable)
 
 pub bare-row : (e : ℕ) → e ≤ 118 → rowOk (bareRow e 0) ≡ true
-unfolding rowOk number inRange
+unfolding atomRowOk number inRange
 bare-row e h = rw (le-leb 0 e (omega arith), le-leb e 118 h)
 
 pub selected-row : (e : ℕ) → e ≤ 118 → selectable e ≡ true → rowOk (bareRow e 1) ≡ true
-unfolding rowOk number inRange
+unfolding atomRowOk number inRange
 selected-row e h s = rw (le-leb 0 e (omega arith), le-leb e 118 h, s)

@@ -10,8 +10,8 @@ use borrow.Author.Tests.{ne-eqb, le-leb, le-ltb, lt-ltb}
 use Rattle.ids.specs.Limits.{maxText}
 use Rattle.reading.specs.Read.{ReadResult, refused, short, leftmost, ended, readFrom, readOf}
 use Rattle.table.specs.Marks.{CrowdedEnd, StrayMark}
-use Rattle.table.specs.Sound.{LooseAtom}
-use Rattle.table.proofs.Sound.{crowded-late, stray-late, loose-late}
+use Rattle.table.specs.Sound.{LooseAtom, UnfitAtom}
+use Rattle.table.proofs.Sound.{crowded-late, stray-late, loose-late, unfit-late}
 use Rattle.reading.specs.Conditions.{atomsOf, Unclosed, Late, Unmatched}
 use Rattle.reading.proofs.Leftmost.{closed-none, leftmost-open, none-open, opening-leftmost}
 use Rattle.reading.proofs.Outcome.{Outcome, outcome}
@@ -117,6 +117,11 @@ module _ (s : List ℕ) (atoms bonds : List ℤ) where
   pub loose-read : readOf s atoms bonds .code ≡ 22
       → (u : Late s atoms bonds 22) × ((¬ CrowdedEnd (u .memory .bonds) (u .memory .st .bonds)) × (¬ StrayMark (u .memory .bonds) (u .memory .st .bonds)) × LooseAtom (atomsOf (u .memory)) (u .memory .bonds) (u .memory .st .atoms) (u .memory .st .bonds))
   loose-read e = let u = read-late (omega arith) e in (u, loose-late (atomsOf (u .memory)) (u .memory .bonds) (u .memory .st .atoms) (u .memory .st .bonds) .0 (u .fails))
+
+  -- 23 where none of these, and a marked atom has not four neighbours with at most one hydrogen
+  pub unfit-read : readOf s atoms bonds .code ≡ 23
+      → (u : Late s atoms bonds 23) × ((¬ CrowdedEnd (u .memory .bonds) (u .memory .st .bonds)) × (¬ StrayMark (u .memory .bonds) (u .memory .st .bonds)) × (¬ LooseAtom (atomsOf (u .memory)) (u .memory .bonds) (u .memory .st .atoms) (u .memory .st .bonds)) × UnfitAtom (atomsOf (u .memory)) (u .memory .bonds) (u .memory .st .atoms) (u .memory .st .bonds))
+  unfit-read e = let u = read-late (omega arith) e in (u, unfit-late (atomsOf (u .memory)) (u .memory .bonds) (u .memory .st .atoms) (u .memory .st .bonds) .0 (u .fails))
 
   pub unclosed-read : {p : ℕ} (u : Unclosed s atoms bonds p) → readOf s atoms bonds ≡ refused 10 p (u .memory .atoms) (u .memory .bonds)
   unfolding readOf readFrom ended

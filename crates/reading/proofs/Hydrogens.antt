@@ -3,28 +3,29 @@ use Prim.Native.Nat.{ℕ, zero, suc, _+_, _-_, _*_, _≤_, _<_}
 use native.Mathlib.Omega.{arith}
 use native.Mathlib.Decide.{ℕ-discrete}
 use mathlib.Core.Path.{_≡_, refl, sym, ap, subst, _∙_}
-use mathlib.Core.Bool.{Bool, true, false, _&&_, _||_}
-use mathlib.Core.List.{List, [], _∷_}
+use mathlib.Core.Bool.{Bool, true, false, _&&_}
+use mathlib.Core.List.{List}
 use lib.ListN.{length, getD, set, length-set}
 use lib.Seq.{getD-set-same, getD-set-other}
 use lib.IntN.{ℤ, pos, negsuc}
-use lib.Dec.{eqb, leb}
-use borrow.Author.Tests.{eq-eqb, eqb-true, leb-true}
-use Rattle.loops.specs.Loop.{pick, run}
-use Rattle.loops.proofs.Loops.{and-left, and-right}
+use lib.Dec.{eqb}
+use borrow.Author.Tests.{eq-eqb, eqb-true}
+use Rattle.loops.specs.Loop.{run}
 use Rattle.reading_grammar.proofs.Ends.{never}
 use Rattle.valence.specs.Valence.{implied}
 use Rattle.valence.proofs.Count.{implied-within}
 use Rattle.table.specs.declared.Atom.{Atom}
-use Rattle.table.specs.Limits.{atomCells, ELEMENT, SELECTED, ISOTOPE, HYDROGENS, CHARGE, EXTENSION}
-use Rattle.table.specs.Cells.{number, inRange, atomPlace, atomCell, element, selected}
+use Rattle.table.specs.Limits.{atomCells, ELEMENT, SELECTED, ISOTOPE, HYDROGENS, CHARGE, EXTENSION, MARK}
+use Rattle.table.specs.Cells.{inRange, atomPlace, atomCell, element, selected}
 use Rattle.table.specs.Rows.{atomRow}
-use Rattle.table.specs.Valid.{atomOk, selectable}
+use Rattle.table.specs.Valid.{atomOk, maxMark, selectionOk, atomRowOk}
 use Rattle.table_graph.specs.Graph.{bondSum}
 use Rattle.reading.specs.Read.{hydrogenate, hydrogenated}
 use Rattle.reading.specs.Claims.{withHydrogens}
 use Rattle.reading.proofs.Cases.{by-test}
-use Rattle.reading.proofs.Rows.{same-atom-row, within, rowOk, atom-ok-row}
+use Rattle.table.proofs.Rows.{same-atom-row}
+use Rattle.table.proofs.Valid.{range-of}
+use Rattle.reading.proofs.Rows.{rowOk, atom-ok-row}
 
 module _ (outside : List ℕ) (bonds : List ℤ) (m : ℕ) where
   -- ---- one atom
@@ -89,19 +90,19 @@ pub implied-small : (e selected sum : ℕ) → implied e selected sum ≤ 9
 implied-small e selected sum = omega (arith, implied-within e selected sum)
 
 -- ---- a valid row stays valid
-swap : (a b h k c d e : Bool) → (a && b && h && c && d && e) ≡ true → k ≡ true → (a && b && k && c && d && e) ≡ true
-swap true true true true c d e p q = p
-swap true true true false c d e p q = never q
-swap true true false k c d e p q = never p
-swap true false h k c d e p q = never p
-swap false b h k c d e p q = never p
+swap : (a b h k c d f e : Bool) → (a && b && h && c && d && f && e) ≡ true → k ≡ true → (a && b && k && c && d && f && e) ≡ true
+swap true true true true c d f e p q = p
+swap true true true false c d f e p q = never q
+swap true true false k c d f e p q = never p
+swap true false h k c d f e p q = never p
+swap false b h k c d f e p q = never p
 
 with-hydrogens : (x : Atom) (h : ℕ) → rowOk x ≡ true → h ≤ 9 → rowOk (withHydrogens x (pos h)) ≡ true
-unfolding rowOk
+unfolding atomRowOk
 with-hydrogens x h ok l =
     swap (inRange (x .element) (pos 0) (pos 118)) (inRange (x .isotope) (pos 0) (pos 999)) (inRange (x .hydrogens) (pos 0) (pos 9)) (inRange (pos h) (pos 0) (pos 9))
-    (inRange (x .charge) (negsuc 8) (pos 9)) (inRange (x .extension) (pos 0) (pos 9999))
-    (inRange (x .selected) (pos 0) (pos 1) && (eqb (number (x .selected)) 0 || selectable (number (x .element)))) ok (within h 9 l)
+    (inRange (x .charge) (negsuc 8) (pos 9)) (inRange (x .extension) (pos 0) (pos 9999)) (inRange (x .mark) (pos 0) (pos maxMark))
+    (selectionOk (x .element) (x .selected)) ok (range-of h 9 l)
 
 -- the row of an atom that got its hydrogens, and of another
 pub row-given : (outside : List ℕ) (bonds : List ℤ) (m n : ℕ) (t : List ℤ) (a : ℕ) → a < n → atomCells * a + atomCells ≤ length t → getD outside a 0 ≡ 1
@@ -114,13 +115,14 @@ row-given outside bonds m n t a l r e =
       hydrogenated-given outside bonds m n t a l e (omega arith),
       hydrogenated-other outside bonds m n t (atomPlace a CHARGE) (λ x lx ex jx. omega arith),
       hydrogenated-other outside bonds m n t (atomPlace a EXTENSION) (λ x lx ex jx. omega arith),
+      hydrogenated-other outside bonds m n t (atomPlace a MARK) (λ x lx ex jx. omega arith),
     )
 
 pub row-kept : (outside : List ℕ) (bonds : List ℤ) (m n : ℕ) (t : List ℤ) (a : ℕ) → (getD outside a 0 ≡ 1 → ⊥) → atomRow (hydrogenated outside bonds m n t) a ≡ atomRow t a
-row-kept outside bonds m n t a f = same-atom-row (hydrogenated outside bonds m n t) t a (λ k l h. hydrogenated-other outside bonds m n t k (other k l h))
+row-kept outside bonds m n t a f = same-atom-row (hydrogenated outside bonds m n t) t a (λ g h. hydrogenated-other outside bonds m n t (atomPlace a g) (other g h))
   where
-    other : (k : ℕ) → atomCells * a ≤ k → k < atomCells * a + atomCells → (x : ℕ) → x < n → getD outside x 0 ≡ 1 → k ≡ atomPlace x HYDROGENS → ⊥
-    other k l h x lx ex jx = let q : x ≡ a = omega arith in f (rw q at ex)
+    other : (g : ℕ) → g < atomCells → (x : ℕ) → x < n → getD outside x 0 ≡ 1 → atomPlace a g ≡ atomPlace x HYDROGENS → ⊥
+    other g h x lx ex jx = let q : x ≡ a = omega arith in f (rw q at ex)
 
 pub hydrogenated-ok : (outside : List ℕ) (bonds : List ℤ) (m n : ℕ) (t : List ℤ) (a : ℕ) → a < n → atomCells * a + atomCells ≤ length t → atomOk t a ≡ true → atomOk (hydrogenated outside bonds m n t) a ≡ true
 hydrogenated-ok outside bonds m n t a l r ok = split (ℕ-discrete (getD outside a 0) 1)

@@ -11,7 +11,8 @@ use Rattle.element.specs.Symbols.{among, listed, symbols, starts, marks}
 use Rattle.element.specs.Lookup.{numberOf}
 use Rattle.reading_grammar.specs.Grammar.{nonzero, digits, several, signs}
 use Rattle.reading_grammar.specs.declared.Last.the-variants.{Plain as plain}
-use Rattle.reading_grammar.specs.declared.Mode.the-variants.{Seq as seq, Bracket as bracket, Isotope as isotope, Symbol1 as symbol1, Symbolled as symbolled, Hydrogen as hydrogen, Hydrogens as hydrogens, Sign as sign, Charged as charged, Colon as colon, Extension as extension}
+use Rattle.reading_grammar.specs.declared.Mode.{Mode}
+use Rattle.reading_grammar.specs.declared.Mode.the-variants.{Seq as seq, Bracket as bracket, Isotope as isotope, Symbol1 as symbol1, Symbolled as symbolled, At1 as at1, At2 as at2, Hydrogen as hydrogen, Hydrogens as hydrogens, Sign as sign, Charged as charged, Colon as colon, Extension as extension}
 use Rattle.reading_grammar.specs.declared.Move.{Move}
 use Rattle.reading_grammar.specs.declared.Move.the-variants.{Stop as stop, To as to}
 use Rattle.reading_grammar.specs.declared.MachineState.{MachineState}
@@ -20,12 +21,13 @@ use Rattle.reading_grammar.specs.Machine.{alive, turn, symbolOr, next}
 use Rattle.reading_grammar.specs.Machine as machine
 use Rattle.reading_grammar.specs.Fold.{keeps}
 use Rattle.reading_grammar.proofs.Ends.{never}
+use Rattle.table.specs.Valid.{maxMark}
 use Rattle.reading.specs.Memory.{Memory, rowOf, described, drafted}
-use Rattle.reading.specs.Bracket.{digit, isotoped, elemented, hydrogened, signed, positive}
+use Rattle.reading.specs.Bracket.{digit, isotoped, elemented, marked, hydrogened, signed, positive}
 use Rattle.reading.specs.Bracket as fields
-use Rattle.reading.specs.Act.{Acts, closeAct, chargeAct, hydrogenAct, isotopeAct, modeAct}
-use Rattle.reading.proofs.Sane.{InRange, SaneAct, isotopeMost, extensionMost}
-use Rattle.reading.proofs.Draft.{any-digit, nonzero-digit, several-digit, number-small, wider, isotoped-range, elemented-range, symbolled-range, hydrogened-range, charged-range, extended-range, isotope-digit, extension-digit, isotope-most, extension-most, row-of-fields}
+use Rattle.reading.specs.Act.{Acts, closeAct, chargeAct, hydrogenAct, markAct, isotopeAct, modeAct}
+use Rattle.reading.proofs.Sane.{InRange, HalfRead, SaneAct, isotopeMost, extensionMost}
+use Rattle.reading.proofs.Draft.{any-digit, nonzero-digit, several-digit, number-small, wider, isotoped-range, elemented-range, symbolled-range, marked-range, hydrogened-range, charged-range, extended-range, isotope-digit, extension-digit, isotope-most, extension-most, row-of-fields}
 use Rattle.reading.proofs.Letters.{digit-no-symbol, digit-closes-not, nonzero-is-digit}
 use Rattle.reading.proofs.Atoms.{Held, sane-of, held-later, held-drafted, held-described}
 
@@ -67,6 +69,22 @@ module _ {p q d i : ℕ} {μ : Memory} (h : Held p q d i μ) where
       split : (t : Bool) → Follows p q i (turn (pick t (to hydrogen) (machine.charging b)) d) (pick t (keeps (drafted (hydrogened 1 (μ .draft)) μ)) (chargeAct b μ))
       split true v = sane-of hydrogen (held-drafted (hydrogened 1 (μ .draft)) h) (hydrogened-range r 1 (omega arith))
       split false v = charge-act r b v
+
+  -- `@`, after which the mark is k and the mode m
+  pub mark-act : InRange 999 0 (μ .draft) → (k : ℕ) (m : Mode) → k ≤ maxMark → ((ν : Memory) → InRange 999 0 (ν .draft) → HalfRead m ν) → (b : ℕ) → Follows p q i (turn (pick (eqb b 64) (to m) (machine.hydrating b)) d) (markAct k b μ)
+  mark-act r k m l half b = split (eqb b 64)
+    where
+      split : (t : Bool) → Follows p q i (turn (pick t (to m) (machine.hydrating b)) d) (pick t (keeps (drafted (marked k (μ .draft)) μ)) (hydrogenAct b μ))
+      split true v = sane-of m (held-drafted (marked k (μ .draft)) h) (half (drafted (marked k (μ .draft)) μ) (marked-range r k l))
+      split false v = hydrate-act r b v
+
+  pub first-mark : InRange 999 0 (μ .draft) → (b : ℕ) → Follows p q i (turn (machine.marking b) d) (markAct 1 b μ)
+  unfolding machine.marking
+  first-mark r b = mark-act r 1 at1 (omega arith) (λ ν w. w) b
+
+  pub second-mark : InRange 999 0 (μ .draft) → (b : ℕ) → Follows p q i (turn (next at1 b) d) (markAct 2 b μ)
+  unfolding next
+  second-mark r b = mark-act r 2 at2 (omega arith) (λ ν w. w) b
 
   -- ---- a symbol, or a digit of the isotope before it
   symbol-act : InRange 999 0 (μ .draft) → (b : ℕ) (k : Move) → alive (turn k d) ≡ false → Follows p q i (turn (symbolOr b k) d) (keeps (drafted (fields.symbolled b (μ .draft)) μ))
@@ -120,9 +138,9 @@ module _ {p q d i : ℕ} {μ : Memory} (h : Held p q d i μ) where
   unfolding next modeAct
   symbol-step a r b = split (listed (a ∷ b ∷ []) symbols) (listed (a ∷ []) symbols)
     where
-      split : (t u : Bool) → Follows p q i (turn (pick t (to symbolled) (pick u (machine.hydrating b) stop)) d) (pick t (keeps (drafted (elemented (numberOf (a ∷ b ∷ [])) 0 (μ .draft)) μ)) (hydrogenAct b μ))
+      split : (t u : Bool) → Follows p q i (turn (pick t (to symbolled) (pick u (machine.marking b) stop)) d) (pick t (keeps (drafted (elemented (numberOf (a ∷ b ∷ [])) 0 (μ .draft)) μ)) (markAct 1 b μ))
       split true u v = sane-of symbolled (held-drafted (elemented (numberOf (a ∷ b ∷ [])) 0 (μ .draft)) h) (elemented-range r (numberOf (a ∷ b ∷ [])) 0 (number-small (a ∷ b ∷ [])) (omega arith) refl)
-      split false true v = hydrate-act r b v
+      split false true v = first-mark r b v
       split false false v = never v
 
   -- ---- after the symbol

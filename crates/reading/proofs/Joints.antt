@@ -25,9 +25,9 @@ use Rattle.reading.proofs.Sane.{Tables, Sane, SaneAct}
 use lib.ListN.{getD}
 use Rattle.table.specs.Rows.{withBond}
 use Rattle.ids.specs.Limits.{maxDepth, bridges}
-use Rattle.reading_state.specs.State.{opened, closed, bridged, joined}
+use Rattle.reading_state.specs.State.{opened, closed, keysAfter, bridged, joined}
 use Rattle.reading.proofs.Tables.{bond-added}
-use Rattle.reading.proofs.Steering.{later, opened-steering, closed-steering, closed-hub, bridged-steering}
+use Rattle.reading.proofs.Steering.{later, opened-steering, closed-steering, closed-hub, keys-after-length, keys-after, bridged-steering}
 use Rattle.reading.proofs.Atoms.{Held}
 
 -- ---- a bridge
@@ -87,13 +87,13 @@ module _ {p q d i : ℕ} {μ : Memory} (h : Held p q d i μ) where
 
       split : (t : Bool) → eqb (getD (μ .st .opener) r 0) 0 ≡ t
           → SaneAct p q (at (seq plain) d) (suc i)
-          (pick t (keeps (moved (pick t (bridged (μ .st) r (μ .st .hub .0 + 1) k o (μ .st .bonds)) (bridged (μ .st) r 0 0 0 (μ .st .bonds + 1))) μ))
+          (pick t (keeps (moved (pick t (bridged (μ .st) r (μ .st .hub .0 + 1) k o (μ .st .bonds) (μ .st .keys)) (bridged (μ .st) r 0 0 0 (μ .st .bonds + 1) (keysAfter (μ .st) r o))) μ))
           (orRefuse (closeRefusal (μ .bonds) (μ .st .bonds) u (μ .st .hub .0) (getD (μ .st .symbol) r 0) k) o
-          (moved (pick t (bridged (μ .st) r (μ .st .hub .0 + 1) k o (μ .st .bonds)) (bridged (μ .st) r 0 0 0 (μ .st .bonds + 1))) (bridgeBond r μ))))
+          (moved (pick t (bridged (μ .st) r (μ .st .hub .0 + 1) k o (μ .st .bonds) (μ .st .keys)) (bridged (μ .st) r 0 0 0 (μ .st .bonds + 1) (keysAfter (μ .st) r o))) (bridgeBond r μ))))
       split true e =
           record {
             tables = h .tables;
-            steering = bridged-steering (h .steering) r (μ .st .hub .0 + 1) k o (μ .st .bonds) hr (omega (arith, h .hub)) (h .kind) ho;
+            steering = bridged-steering (h .steering) r (μ .st .hub .0 + 1) k o (μ .st .bonds) (μ .st .keys) hr (omega (arith, h .hub)) (h .kind) ho (h .steering .keys-length) (λ c. omega (arith, h .steering .keys c));
             kind = omega arith;
             stands = record { hub = h .hub; depth = h .depth; half = tt };
           }
@@ -103,11 +103,13 @@ module _ {p q d i : ℕ} {μ : Memory} (h : Held p q d i μ) where
           below = omega (arith, h .steering .opener r, h .hub)
 
           refusal : (c : ℕ) → closeRefusal (μ .bonds) (μ .st .bonds) u (μ .st .hub .0) (getD (μ .st .symbol) r 0) k ≡ c
-              → SaneAct p q (at (seq plain) d) (suc i) (orRefuse c o (moved (bridged (μ .st) r 0 0 0 (μ .st .bonds + 1)) (bridgeBond r μ)))
+              → SaneAct p q (at (seq plain) d) (suc i) (orRefuse c o (moved (bridged (μ .st) r 0 0 0 (μ .st .bonds + 1) (keysAfter (μ .st) r o)) (bridgeBond r μ)))
           refusal zero z =
+              let a = allowed (μ .bonds) (μ .st .bonds) u (μ .st .hub .0) (getD (μ .st .symbol) r 0) k z in
+              let open? : 0 < getD (μ .st .opener) r 0 = omega (arith, eqb-false (getD (μ .st .opener) r 0) 0 e) in
               record {
-                tables = bridge-tables u (μ .st .hub .0) (meet (getD (μ .st .symbol) r 0) k) (h .tables) (allowed (μ .bonds) (μ .st .bonds) u (μ .st .hub .0) (getD (μ .st .symbol) r 0) k z) below (h .hub) (meet-small (getD (μ .st .symbol) r 0) k (h .steering .symbol r) (h .kind));
-                steering = bridged-steering (h .steering) r 0 0 0 (μ .st .bonds + 1) hr (omega arith) (omega arith) (omega arith);
+                tables = bridge-tables u (μ .st .hub .0) (meet (getD (μ .st .symbol) r 0) k) (h .tables) a below (h .hub) (meet-small (getD (μ .st .symbol) r 0) k (h .steering .symbol r) (h .kind));
+                steering = bridged-steering (h .steering) r 0 0 0 (μ .st .bonds + 1) (keysAfter (μ .st) r o) hr (omega arith) (omega arith) (omega arith) (keys-after-length (h .steering) r o) (keys-after (h .steering) r o (a .few) open? ho);
                 kind = omega arith;
                 stands = record { hub = h .hub; depth = h .depth; half = tt };
               }

@@ -15,7 +15,7 @@ use Rattle.reading_grammar.specs.Grammar.{nonzero, digits, several, signs}
 use Rattle.reading_grammar.specs.declared.Last.{Last}
 use Rattle.reading_grammar.specs.declared.Last.the-variants.{Plain as plain, AfterC as afterC, AfterB as afterB}
 use Rattle.reading_grammar.specs.declared.Mode.{Mode}
-use Rattle.reading_grammar.specs.declared.Mode.the-variants.{Seq as seq, Bond as bond, AtomNext as atomNext, Inside as inside, Percent as percent, Percent1 as percent1, LetterA as letterA, LetterT as letterT, Bracket as bracket, Isotope as isotope, Symbol1 as symbol1, Symbolled as symbolled, Hydrogen as hydrogen, Hydrogens as hydrogens, Sign as sign, Charged as charged, Colon as colon, Extension as extension}
+use Rattle.reading_grammar.specs.declared.Mode.the-variants.{Seq as seq, Bond as bond, AtomNext as atomNext, Inside as inside, Percent as percent, Percent1 as percent1, LetterA as letterA, LetterT as letterT, Bracket as bracket, Isotope as isotope, Symbol1 as symbol1, Symbolled as symbolled, At1 as at1, At2 as at2, Hydrogen as hydrogen, Hydrogens as hydrogens, Sign as sign, Charged as charged, Colon as colon, Extension as extension}
 use Rattle.reading_grammar.specs.declared.MachineState.{MachineState}
 use Rattle.reading_grammar.specs.declared.MachineState.the-variants.{Start as start, At as at}
 use Rattle.reading_grammar.specs.Machine.{alive, step, next, symbolOr}
@@ -25,14 +25,16 @@ use Rattle.reading_grammar.proofs.Ends.{never}
 use Rattle.reading_grammar.proofs.Complete.{no-second}
 use Rattle.reading_grammar.proofs.Fold.{Goes, goes, read-append, prefix-goes}
 use Rattle.table.specs.Limits.{atomCells}
+use Rattle.table.specs.declared.Atom.{Atom}
+use Rattle.table.specs.Cells.{number}
 use Rattle.table.specs.Rows.{atomRow, bondRow}
 use Rattle.reading.specs.Memory.{Memory, rowOf, bareRow, begun, described}
-use Rattle.reading.specs.Act.{firstByte, closeAct, chargeAct, hydrogenAct, modeAct, act}
+use Rattle.reading.specs.Act.{firstByte, modeAct, act}
 use Rattle.reading.specs.Read.{zeros, beginning, readOf}
 use Rattle.reading.specs.Conditions.{bytesRead, Fits}
-use Rattle.reading.specs.Claims.{withHydrogens, impliedAt, Given, Accepted}
+use Rattle.reading.specs.Claims.{withHydrogens, withMark, impliedAt, storedMark, Given, Accepted}
 use Rattle.reading.proofs.Sane.{Sane}
-use Rattle.reading.proofs.Rows.{with-atom-row}
+use Rattle.table.proofs.Rows.{with-atom-row}
 use Rattle.reading.proofs.Step.{sane-beginning, sane-going}
 use Rattle.reading.proofs.Dispatch.{Second}
 use Rattle.reading.proofs.Stays.{half-bracket, writing, After, Complete, Left, stays, Same, counted, letter-stays}
@@ -46,7 +48,7 @@ record Shuts (m : Mode) (d k : ℕ) (μ : Memory) : Type 0 where
   pub memory : act (at m d) 93 k μ ≡ keeps (described (rowOf (μ .draft)) μ)
 
 shuts : (m : Mode) (d k : ℕ) (μ : Memory) → writing m ≡ half-bracket → alive (step (at m d) 93) ≡ true → Shuts m d k μ
-unfolding step next act modeAct symbolOr starts symbols among marks nonzero digits several signs machine.hydrating machine.charging machine.extending machine.closing
+unfolding step next act modeAct symbolOr starts symbols among marks nonzero digits several signs machine.marking machine.hydrating machine.charging machine.extending machine.closing
 shuts (seq plain) d k μ w v = absurd (let z : _≡_ {A = ℕ} 0 1 = cc in omega arith)
 shuts (seq afterC) d k μ w v = absurd (let z : _≡_ {A = ℕ} 0 1 = cc in omega arith)
 shuts (seq afterB) d k μ w v = absurd (let z : _≡_ {A = ℕ} 0 1 = cc in omega arith)
@@ -66,6 +68,8 @@ shuts (symbol1 a) d k μ w v = known (listed (a ∷ []) symbols) refl (no-second
     known true e n = record { state = rw (n, e); memory = rw n }
     known false e n = never (rw (n, e) at v)
 shuts symbolled d k μ w v = record { state = refl; memory = refl }
+shuts at1 d k μ w v = record { state = refl; memory = refl }
+shuts at2 d k μ w v = record { state = refl; memory = refl }
 shuts hydrogen d k μ w v = record { state = refl; memory = refl }
 shuts hydrogens d k μ w v = record { state = refl; memory = refl }
 shuts sign d k μ w v = record { state = refl; memory = refl }
@@ -111,22 +115,23 @@ module _ (s : List ℕ) (atoms bonds : List ℤ) where
       goes-not-halted (prefix-goes act (take k s) (drop k s) 0 (going start (beginning (zeros atoms) (zeros bonds))) f) h
 
   module _ (ok : readOf s atoms bonds .code ≡ 0) (k : ℕ) {σ : MachineState} {μ : Memory} (reached : bytesRead (take k s) atoms bonds ≡ going σ μ) where
-    told : Accepted s atoms bonds (readOf s atoms bonds)
+    abbrev told : Accepted s atoms bonds (readOf s atoms bonds)
     told = read-accepted s atoms bonds ok
 
     left : (n : ℕ) → Complete n σ μ → Left n (μ .st .bonds) μ (told .state) (told .memory)
     left n c = stays n (drop k s) (sane-before k (told .fits) reached) c (sym (rest k reached) ∙ told .reached)
 
-    given-same : (n a : ℕ) → a < n → n ≤ told .memory .st .atoms → Same n (μ .st .bonds) μ (told .memory) → Given μ (readOf s atoms bonds) a
+    given-same : (n a : ℕ) → a < n → n ≤ told .memory .st .atoms → Same n (μ .st .bonds) μ (told .memory) → Given μ (told .memory .st .keys) (readOf s atoms bonds) a
     given-same n a l h w =
+        let t = readOf s atoms bonds in
         let g = told .rows a (omega (arith, told .counts .0)) in
         record {
-          outside = λ e. g .outside (w .flags a l ∙ e) ∙ ap (λ x. withHydrogens x (impliedAt (readOf s atoms bonds) a)) (w .rows a l);
-          bracket = λ f. g .bracket (λ e. f (sym (w .flags a l) ∙ e)) ∙ w .rows a l;
+          outside = λ e. g .outside (w .flags a l ∙ e) ∙ ap (λ (x : Atom). withMark (withHydrogens x (impliedAt t a)) (storedMark (told .memory .st .keys) t a (number (x .mark)))) (w .rows a l);
+          bracket = λ f. g .bracket (λ e. f (sym (w .flags a l) ∙ e)) ∙ ap (λ (x : Atom). withMark x (storedMark (told .memory .st .keys) t a (number (x .mark)))) (w .rows a l);
         }
 
-    -- the row of each atom that is complete after k bytes is what stands there, with hydrogens if it stands outside brackets
-    pub atom-kept : (n : ℕ) → Complete n σ μ → (a : ℕ) → a < n → Given μ (readOf s atoms bonds) a
+    -- the row of each atom that is complete after k bytes is what stands there, with hydrogens if it stands outside brackets, and with its mark as it is stored
+    pub atom-kept : (n : ℕ) → Complete n σ μ → (a : ℕ) → a < n → Given μ (read-accepted s atoms bonds ok .memory .st .keys) (readOf s atoms bonds) a
     atom-kept n c a l = let w = left n c in given-same n a l (counted n (told .state) (told .memory) (told .ends) (w .complete)) (w .same)
 
     -- and each bond is the bond that stood there
@@ -135,17 +140,17 @@ module _ (s : List ℕ) (atoms bonds : List ℤ) where
 
   -- the same of every atom, outside brackets, where the next byte is not a second letter
   pub letter-kept : (ok : readOf s atoms bonds .code ≡ 0) (k : ℕ) {x : Last} {d : ℕ} {μ : Memory} (reached : bytesRead (take k s) atoms bonds ≡ going (at (seq x) d) μ) → (Second x (getD s k 0) → ⊥)
-      → (a : ℕ) → a < μ .st .atoms → Given μ (readOf s atoms bonds) a
+      → (a : ℕ) → a < μ .st .atoms → Given μ (read-accepted s atoms bonds ok .memory .st .keys) (readOf s atoms bonds) a
   letter-kept ok k {x} {d} {μ} reached n a l =
       let acc = told ok k reached in
       let first : getD (drop k s) 0 0 ≡ getD s k 0 = getD-drop k s 0 0 ∙ ap (λ (j : ℕ). getD s j 0) (add-zero k) in
       let w = letter-stays (drop k s) (sane-before k (acc .fits) reached) (λ z. n (subst (Second x) first z)) (sym (rest k reached) ∙ acc .reached) in
       given-same ok k reached (μ .st .atoms) a l (w .count (acc .ends)) (w .same)
 
-  -- a bracket atom has what is written: the row of the fields that stood before its `]`
-  pub bracket-kept : readOf s atoms bonds .code ≡ 0 → (k : ℕ) {m : Mode} {d : ℕ} {μ : Memory} → k < length s → bytesRead (take k s) atoms bonds ≡ going (at m d) μ → writing m ≡ half-bracket → getD s k 0 ≡ 93
-      → atomRow (readOf s atoms bonds .atoms) (μ .st .hub .0) ≡ rowOf (μ .draft)
-  unfolding feed
+  -- a bracket atom has what is written: the row of the fields that stood before its `]`, with its mark as it is stored
+  pub bracket-kept : (ok : readOf s atoms bonds .code ≡ 0) (k : ℕ) {m : Mode} {d : ℕ} {μ : Memory} → k < length s → bytesRead (take k s) atoms bonds ≡ going (at m d) μ → writing m ≡ half-bracket → getD s k 0 ≡ 93
+      → atomRow (readOf s atoms bonds .atoms) (μ .st .hub .0) ≡ withMark (rowOf (μ .draft)) (storedMark (read-accepted s atoms bonds ok .memory .st .keys) (readOf s atoms bonds) (μ .st .hub .0) (μ .draft .mark))
+  unfolding feed number
   bracket-kept ok k {m} {d} {μ} l e w b = split (alive (step (at m d) 93)) refl
     where
       acc : Accepted s atoms bonds (readOf s atoms bonds)
@@ -161,12 +166,12 @@ module _ (s : List ℕ) (atoms bonds : List ℤ) where
       unflagged : getD (μ .st .outside) (μ .st .hub .0) 0 ≡ 0
       unflagged = flag-of m d μ w (complete-0 k (acc .fits) e)
 
-      final : bytesRead (take (suc k) s) atoms bonds ≡ going (at (seq plain) d) (described (rowOf (μ .draft)) μ) → atomRow (readOf s atoms bonds .atoms) (μ .st .hub .0) ≡ rowOf (μ .draft)
+      final : bytesRead (take (suc k) s) atoms bonds ≡ going (at (seq plain) d) (described (rowOf (μ .draft)) μ) → atomRow (readOf s atoms bonds .atoms) (μ .st .hub .0) ≡ withMark (rowOf (μ .draft)) (storedMark (acc .memory .st .keys) (readOf s atoms bonds) (μ .st .hub .0) (μ .draft .mark))
       final f =
           atom-kept ok (suc k) f (μ .st .atoms) (omega arith, tt) (μ .st .hub .0) (sane .stands .hub) .bracket (λ z. omega (arith, unflagged))
-          ∙ with-atom-row (μ .atoms) (μ .st .hub .0) (rowOf (μ .draft)) (omega (arith, sane .tables .atom-length, sane .tables .atom-room, sane .tables .few-atoms, sane .stands .hub))
+          ∙ ap (λ (x : Atom). withMark x (storedMark (acc .memory .st .keys) (readOf s atoms bonds) (μ .st .hub .0) (number (x .mark)))) (with-atom-row (μ .atoms) (μ .st .hub .0) (rowOf (μ .draft)) (omega (arith, sane .tables .atom-length, sane .tables .atom-room, sane .tables .few-atoms, sane .stands .hub)))
 
-      split : (t : Bool) → alive (step (at m d) 93) ≡ t → atomRow (readOf s atoms bonds .atoms) (μ .st .hub .0) ≡ rowOf (μ .draft)
+      split : (t : Bool) → alive (step (at m d) 93) ≡ t → atomRow (readOf s atoms bonds .atoms) (μ .st .hub .0) ≡ withMark (rowOf (μ .draft)) (storedMark (acc .memory .st .keys) (readOf s atoms bonds) (μ .st .hub .0) (μ .draft .mark))
       split true v = let x = shuts m d (0 + length (take k s)) μ w v in final (fed ∙ rw (v, x .state, x .memory))
       split false v =
           let h : bytesRead (take (suc k) s) atoms bonds ≡ halted 3 (0 + length (take k s)) = fed ∙ rw v in

@@ -28,3 +28,4 @@ pub mod First
 pub mod Stays
 pub mod Kept
 pub mod Claims
+mod Stored

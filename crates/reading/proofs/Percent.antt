@@ -12,12 +12,12 @@ use Rattle.reading_grammar.specs.Grammar.{nonzero, digits, several, bondSymbols
 use Rattle.reading_grammar.specs.declared.Last.{Last}
 use Rattle.reading_grammar.specs.declared.Last.the-variants.{Plain as plain, AfterC as afterC, AfterB as afterB}
 use Rattle.reading_grammar.specs.declared.Mode.{Mode}
-use Rattle.reading_grammar.specs.declared.Mode.the-variants.{Seq as seq, Bond as bond, AtomNext as atomNext, Inside as inside, Percent as percent, Percent1 as percent1, LetterA as letterA, LetterT as letterT, Bracket as bracket, Isotope as isotope, Symbol1 as symbol1, Symbolled as symbolled, Hydrogen as hydrogen, Hydrogens as hydrogens, Sign as sign, Charged as charged, Colon as colon, Extension as extension}
+use Rattle.reading_grammar.specs.declared.Mode.the-variants.{Seq as seq, Bond as bond, AtomNext as atomNext, Inside as inside, Percent as percent, Percent1 as percent1, LetterA as letterA, LetterT as letterT, Bracket as bracket, Isotope as isotope, Symbol1 as symbol1, Symbolled as symbolled, At1 as at1, At2 as at2, Hydrogen as hydrogen, Hydrogens as hydrogens, Sign as sign, Charged as charged, Colon as colon, Extension as extension}
 use Rattle.reading_grammar.specs.declared.Move.{Move}
 use Rattle.reading_grammar.specs.declared.Move.the-variants.{Stop as stop, To as to, Up as up, Down as down}
 use Rattle.reading_grammar.specs.declared.MachineState.{MachineState}
 use Rattle.reading_grammar.specs.declared.MachineState.the-variants.{Dead as dead, Start as start, At as at}
-use Rattle.reading_grammar.specs.Machine.{turn, step, next, atomOr, bridgeOr, symbolOr, closing, extending, charging, hydrating, goesOn}
+use Rattle.reading_grammar.specs.Machine.{turn, step, next, atomOr, bridgeOr, symbolOr, closing, extending, charging, hydrating, marking, goesOn}
 use Rattle.reading_grammar.specs.Fold.{keeps}
 use Rattle.reading.specs.Memory.{Memory, counting}
 use Rattle.reading.specs.Bracket.{digit}
@@ -39,6 +39,8 @@ sort bracket = 0
 sort (isotope n) = 0
 sort (symbol1 a) = 0
 sort symbolled = 0
+sort at1 = 0
+sort at2 = 0
 sort hydrogen = 0
 sort hydrogens = 0
 sort sign = 0
@@ -89,6 +91,10 @@ module _ (P : ℕ → Type 0) (z : P 0) (b : ℕ) where
   unfolding hydrating
   hydrate-leads = by-test Leads (eqb b 72) _ _ (λ e. z) (λ e. charge-leads)
 
+  mark-leads : Leads (marking b)
+  unfolding marking
+  mark-leads = by-test Leads (eqb b 64) _ _ (λ e. z) (λ e. hydrate-leads)
+
   bridge-leads : (k : Move) → (b ≡ 37 → P 1) → Leads k → Leads (bridgeOr b k)
   unfolding bridgeOr
   bridge-leads k w h = by-test Leads (among b nonzero) _ _ (λ e. z) (λ e. by-test Leads (eqb b 37) _ _ (λ f. w (eqb-true b 37 f)) (λ f. h))
@@ -134,8 +140,10 @@ module _ (b : ℕ) where
   led (symbol1 a) =
       let z = elsewhere (symbol1 a) in
       by-test (Leads (Led (symbol1 a)) z b) (listed (a ∷ b ∷ []) symbols) _ _ (λ e. z) (λ e.
-      by-test (Leads (Led (symbol1 a)) z b) (listed (a ∷ []) symbols) _ _ (λ e. hydrate-leads (Led (symbol1 a)) z b) (λ e. z))
-  led symbolled = hydrate-leads (Led symbolled) (elsewhere symbolled) b
+      by-test (Leads (Led (symbol1 a)) z b) (listed (a ∷ []) symbols) _ _ (λ e. mark-leads (Led (symbol1 a)) z b) (λ e. z))
+  led symbolled = mark-leads (Led symbolled) (elsewhere symbolled) b
+  led at1 = let z = elsewhere at1 in by-test (Leads (Led at1) z b) (eqb b 64) _ _ (λ e. z) (λ e. hydrate-leads (Led at1) z b)
+  led at2 = hydrate-leads (Led at2) (elsewhere at2) b
   led hydrogen = let z = elsewhere hydrogen in by-test (Leads (Led hydrogen) z b) (among b several) _ _ (λ e. z) (λ e. charge-leads (Led hydrogen) z b)
   led hydrogens = charge-leads (Led hydrogens) (elsewhere hydrogens) b
   led sign = let z = elsewhere sign in by-test (Leads (Led sign) z b) (among b several) _ _ (λ e. z) (λ e. extend-leads (Led sign) z b)

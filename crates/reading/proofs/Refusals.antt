@@ -17,7 +17,7 @@ use Rattle.reading_grammar.specs.Grammar.{nonzero, digits, several, bondSymbols
 use Rattle.reading_grammar.specs.declared.Last.{Last}
 use Rattle.reading_grammar.specs.declared.Last.the-variants.{Plain as plain, AfterC as afterC, AfterB as afterB}
 use Rattle.reading_grammar.specs.declared.Mode.{Mode}
-use Rattle.reading_grammar.specs.declared.Mode.the-variants.{Seq as seq, Bond as bond, AtomNext as atomNext, Inside as inside, Percent as percent, Percent1 as percent1, LetterA as letterA, LetterT as letterT, Bracket as bracket, Isotope as isotope, Symbol1 as symbol1, Symbolled as symbolled, Hydrogen as hydrogen, Hydrogens as hydrogens, Sign as sign, Charged as charged, Colon as colon, Extension as extension}
+use Rattle.reading_grammar.specs.declared.Mode.the-variants.{Seq as seq, Bond as bond, AtomNext as atomNext, Inside as inside, Percent as percent, Percent1 as percent1, LetterA as letterA, LetterT as letterT, Bracket as bracket, Isotope as isotope, Symbol1 as symbol1, Symbolled as symbolled, At1 as at1, At2 as at2, Hydrogen as hydrogen, Hydrogens as hydrogens, Sign as sign, Charged as charged, Colon as colon, Extension as extension}
 use Rattle.reading_grammar.specs.declared.Move.{Move}
 use Rattle.reading_grammar.specs.declared.Move.the-variants.{Stop as stop}
 use Rattle.reading_grammar.specs.declared.MachineState.{MachineState}
@@ -31,7 +31,7 @@ use Rattle.reading_state.specs.State.{opened, joined}
 use Rattle.kinds.specs.Kind.{clash}
 use Rattle.reading.specs.Memory.{Memory, kindOf, bonded, moved, joinedAlready, closeRefusal}
 use Rattle.reading.specs.Bracket.{digit}
-use Rattle.reading.specs.Act.{Acts, bridgeBond, chargeAct, hydrogenAct, jointAct, orAtom, atomAct, orRefuse, bridgeAct, branchAct, letterAct, modeAct, act}
+use Rattle.reading.specs.Act.{Acts, bridgeBond, chargeAct, hydrogenAct, markAct, jointAct, orAtom, atomAct, orRefuse, bridgeAct, branchAct, letterAct, modeAct, act}
 use Rattle.reading.specs.Conditions.{AtomMayBegin, BridgeMayStand, Open, openerOf}
 use Rattle.reading.proofs.Cases.{by-test}
 use Rattle.reading.proofs.Letters.{Begins, begins}
@@ -129,6 +129,9 @@ module _ (d b i : ℕ) (μ : Memory) where
   hydrate-why : (m : Mode) → Explained (at m d) b i μ (hydrogenAct b μ)
   hydrate-why m = by-test (Explained (at m d) b i μ) (eqb b 72) _ _ (λ e. tt) (λ e. charge-why m)
 
+  mark-why : (k : ℕ) (m : Mode) → Explained (at m d) b i μ (markAct k b μ)
+  mark-why k m = by-test (Explained (at m d) b i μ) (eqb b 64) _ _ (λ e. tt) (λ e. hydrate-why m)
+
   digit-why : (σ : MachineState) → BridgeMayStand σ → among b nonzero ≡ true → Explained σ b i μ (bridgeAct (digit b) i μ)
   digit-why σ w e = bridge-why σ b i μ (digit b) i (Completes.by-digit w e)
 
@@ -151,8 +154,10 @@ module _ (d b i : ℕ) (μ : Memory) where
   mode-why letterT = tt
   mode-why bracket = tt
   mode-why (isotope n) = tt
-  mode-why (symbol1 a) = by-test (Explained (at (symbol1 a) d) b i μ) (listed (a ∷ b ∷ []) symbols) _ _ (λ e. tt) (λ e. hydrate-why (symbol1 a))
-  mode-why symbolled = hydrate-why symbolled
+  mode-why (symbol1 a) = by-test (Explained (at (symbol1 a) d) b i μ) (listed (a ∷ b ∷ []) symbols) _ _ (λ e. tt) (λ e. mark-why 1 (symbol1 a))
+  mode-why symbolled = mark-why 1 symbolled
+  mode-why at1 = mark-why 2 at1
+  mode-why at2 = hydrate-why at2
   mode-why hydrogen = by-test (Explained (at hydrogen d) b i μ) (among b several) _ _ (λ e. tt) (λ e. charge-why hydrogen)
   mode-why hydrogens = charge-why hydrogens
   mode-why sign = by-test (Explained (at sign d) b i μ) (among b several) _ _ (λ e. tt) (λ e. tt)

@@ -15,9 +15,8 @@ use Rattle.reading.specs.Memory.{Memory}
 use Rattle.reading.specs.Read.{ReadResult, zeros, refused, readOf}
 use Rattle.reading.specs.Conditions.{atomsOf}
 use Rattle.reading.proofs.Sane.{Sane}
-use Rattle.reading.proofs.Hydrogens.{hydrogenated-length}
 use Rattle.reading.proofs.Outcome.{Outcome, outcome}
-use Rattle.reading.proofs.Accepted.{halt-code, read-sane}
+use Rattle.reading.proofs.Accepted.{halt-code, read-sane, atoms-length}
 
 module _ (s : List ℕ) (atoms bonds : List ℤ) where
   -- 1 exactly where a table is too short
@@ -68,7 +67,7 @@ module _ (s : List ℕ) (atoms bonds : List ℤ) where
       go t (Outcome.unfinished f e a) n m = refl
       go t (Outcome.unclosed {σ} {μ} f e a l) n m = same-zeros _ _ (μ .atoms) (read-sane s atoms bonds f e) refl
       go t (Outcome.late {σ} {μ} f e a l p) n m =
-          same-zeros _ _ (atomsOf μ) (read-sane s atoms bonds f e) (hydrogenated-length (μ .st .outside) (μ .bonds) (μ .st .bonds) (μ .st .atoms) (μ .atoms))
+          same-zeros _ _ (atomsOf μ) (read-sane s atoms bonds f e) (atoms-length s atoms bonds μ)
       go t (Outcome.unmatched {σ} {μ} f e a l p x) n m =
-          same-zeros _ _ (atomsOf μ) (read-sane s atoms bonds f e) (hydrogenated-length (μ .st .outside) (μ .bonds) (μ .st .bonds) (μ .st .atoms) (μ .atoms))
+          same-zeros _ _ (atomsOf μ) (read-sane s atoms bonds f e) (atoms-length s atoms bonds μ)
       go t (Outcome.accepts f e a l p m) n k = absurd (n refl)

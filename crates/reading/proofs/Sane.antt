@@ -9,15 +9,15 @@ use lib.Signed.{leZ}
 use lib.Dec.{eqb}
 use Rattle.kinds.specs.Kind.{maxKind}
 use Rattle.reading_grammar.specs.declared.Mode.{Mode}
-use Rattle.reading_grammar.specs.declared.Mode.the-variants.{Seq as seq, Bond as bond, AtomNext as atomNext, Inside as inside, Percent as percent, Percent1 as percent1, LetterA as letterA, LetterT as letterT, Bracket as bracket, Isotope as isotope, Symbol1 as symbol1, Symbolled as symbolled, Hydrogen as hydrogen, Hydrogens as hydrogens, Sign as sign, Charged as charged, Colon as colon, Extension as extension}
+use Rattle.reading_grammar.specs.declared.Mode.the-variants.{Seq as seq, Bond as bond, AtomNext as atomNext, Inside as inside, Percent as percent, Percent1 as percent1, LetterA as letterA, LetterT as letterT, Bracket as bracket, Isotope as isotope, Symbol1 as symbol1, Symbolled as symbolled, At1 as at1, At2 as at2, Hydrogen as hydrogen, Hydrogens as hydrogens, Sign as sign, Charged as charged, Colon as colon, Extension as extension}
 use Rattle.reading_grammar.specs.declared.MachineState.{MachineState}
 use Rattle.reading_grammar.specs.declared.MachineState.the-variants.{Dead as dead, Start as start, At as at}
 use Rattle.reading_grammar.specs.Fold.{Reading, going, halted, Act, keeps, refuses}
 use Rattle.table.specs.Limits.{maxAtoms, maxBonds, atomCells, bondCells, FIRST}
 use Rattle.table.specs.Cells.{inRange, bondCell, end1, end2}
-use Rattle.table.specs.Valid.{atomOk, kindOk, selectable}
+use Rattle.table.specs.Valid.{atomOk, kindOk, maxMark, selectable}
 use Rattle.ids.specs.Limits.{maxDepth, bridges}
-use Rattle.reading_state.specs.State.{Steering}
+use Rattle.reading_state.specs.State.{Steering, keyCount}
 use Rattle.reading_state.specs.declared.Fields.{Fields}
 use Rattle.reading.specs.Memory.{Memory, kindOf}
 
@@ -53,11 +53,13 @@ pub record Steers (i : ℕ) (s : Steering) : Type 0 where
   pub symbol-length : length (s .symbol) ≡ bridges
   pub offset-length : length (s .offset) ≡ bridges
   pub outside-length : length (s .outside) ≡ maxAtoms
+  pub keys-length : length (s .keys) ≡ keyCount
   pub depth : s .depth ≤ maxDepth
   pub stack : (k : ℕ) → k < s .depth → getD (s .stack) k 0 < s .atoms
   pub opener : (r : ℕ) → getD (s .opener) r 0 ≤ s .atoms
   pub symbol : (r : ℕ) → getD (s .symbol) r 0 ≤ maxKind
   pub offset : (r : ℕ) → 0 < getD (s .opener) r 0 → getD (s .offset) r 0 < i
+  pub keys : (k : ℕ) → getD (s .keys) k 0 ≤ i
 
 -- ---- the bracket being read
 
@@ -70,6 +72,7 @@ pub record InRange (most-isotope most-extension : ℕ) (f : Fields) : Type 0 whe
   pub hydrogens : f .hydrogens ≤ 9
   pub charge : inRange (f .charge) (negsuc 8) (pos 9) ≡ true
   pub extension : f .extension ≤ most-extension
+  pub mark : f .mark ≤ maxMark
 
 -- the largest isotope and extension while k more digits may come
 abbrev pub isotopeMost : ℕ → ℕ
@@ -97,6 +100,8 @@ HalfRead bracket μ = InRange 0 0 (μ .draft)
 HalfRead (isotope k) μ = (k ≤ 2) × InRange (isotopeMost k) 0 (μ .draft)
 HalfRead (symbol1 a) μ = InRange 999 0 (μ .draft)
 HalfRead symbolled μ = InRange 999 0 (μ .draft)
+HalfRead at1 μ = InRange 999 0 (μ .draft)
+HalfRead at2 μ = InRange 999 0 (μ .draft)
 HalfRead hydrogen μ = InRange 999 0 (μ .draft)
 HalfRead hydrogens μ = InRange 999 0 (μ .draft)
 HalfRead sign μ = InRange 999 0 (μ .draft)

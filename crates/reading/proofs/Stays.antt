@@ -1,11 +1,11 @@
 -- What was read stays: no later byte changes the row of an atom that is complete, or of a bond. Assumes nothing.
-use Prim.Native.Nat.{ℕ, zero, suc, _+_, _-_, _*_, _≤_, _<_}
+use Prim.Native.Nat.{ℕ, zero, suc, _+_, _-_, _≤_, _<_}
 use native.Mathlib.Omega.{arith}
 use mathlib.Core.Path.{_≡_, refl, sym, ap, subst, _∙_}
 use mathlib.Core.Bool.{Bool, true, false}
 use mathlib.Core.Logic.{inl}
 use mathlib.Core.List.{List, [], _∷_}
-use lib.ListN.{length, getD}
+use lib.ListN.{getD}
 use lib.Seq.{getD-set-same, getD-set-other}
 use lib.IntN.{ℤ}
 use lib.Dec.{eqb, leb}
@@ -18,7 +18,7 @@ use Rattle.reading_grammar.specs.Grammar.{digits, several, signs}
 use Rattle.reading_grammar.specs.declared.Last.{Last}
 use Rattle.reading_grammar.specs.declared.Last.the-variants.{Plain as plain, AfterC as afterC, AfterB as afterB}
 use Rattle.reading_grammar.specs.declared.Mode.{Mode}
-use Rattle.reading_grammar.specs.declared.Mode.the-variants.{Seq as seq, Bond as bond, AtomNext as atomNext, Inside as inside, Percent as percent, Percent1 as percent1, LetterA as letterA, LetterT as letterT, Bracket as bracket, Isotope as isotope, Symbol1 as symbol1, Symbolled as symbolled, Hydrogen as hydrogen, Hydrogens as hydrogens, Sign as sign, Charged as charged, Colon as colon, Extension as extension}
+use Rattle.reading_grammar.specs.declared.Mode.the-variants.{Seq as seq, Bond as bond, AtomNext as atomNext, Inside as inside, Percent as percent, Percent1 as percent1, LetterA as letterA, LetterT as letterT, Bracket as bracket, Isotope as isotope, Symbol1 as symbol1, Symbolled as symbolled, At1 as at1, At2 as at2, Hydrogen as hydrogen, Hydrogens as hydrogens, Sign as sign, Charged as charged, Colon as colon, Extension as extension}
 use Rattle.reading_grammar.specs.declared.Move.{Move}
 use Rattle.reading_grammar.specs.declared.MachineState.{MachineState}
 use Rattle.reading_grammar.specs.declared.MachineState.the-variants.{Dead as dead, Start as start, At as at}
@@ -27,15 +27,16 @@ use Rattle.reading_grammar.specs.Fold.{keeps, refuses, Reading, going, halted, 
 use Rattle.reading_grammar.proofs.Ends.{never}
 use Rattle.table.specs.declared.Atom.{Atom}
 use Rattle.table.specs.declared.Bond.{Bond}
-use Rattle.table.specs.Limits.{maxAtoms, maxBonds, atomCells, bondCells}
+use Rattle.table.specs.Limits.{maxAtoms, maxBonds}
+use Rattle.table.specs.Cells.{atomPlace, bondPlace}
 use Rattle.table.specs.Rows.{atomRow, bondRow, withAtom, withBond}
+use Rattle.table.proofs.Rows.{with-atom-other, same-atom-row, with-bond-other, same-bond-row}
 use Rattle.ids.specs.Limits.{maxDepth}
-use Rattle.reading_state.specs.State.{opened, closed, bridged, joined}
+use Rattle.reading_state.specs.State.{opened, closed, keysAfter, bridged, joined}
 use Rattle.reading.specs.Memory.{Memory, kindOf, rowOf, bareRow, bonded, begun, described, moved, drafted, closeRefusal}
-use Rattle.reading.specs.Act.{Acts, firstByte, atomAct, bridgeBond, orRefuse, bridgeAct, branchAct, closeAct, chargeAct, hydrogenAct, modeAct, act}
+use Rattle.reading.specs.Act.{Acts, firstByte, atomAct, bridgeBond, orRefuse, bridgeAct, branchAct, closeAct, chargeAct, hydrogenAct, markAct, modeAct, act}
 use Rattle.reading.proofs.Cases.{by-test}
 use Rattle.reading.proofs.Sane.{Tables, Sane, SaneReading}
-use Rattle.reading.proofs.Rows.{with-atom-other, same-atom-row, with-bond-other, same-bond-row}
 use Rattle.reading.proofs.Letters.{Begins}
 use Rattle.reading.proofs.Atoms.{Ready, Held, ready, ready-start, held-of, bond-room}
 use Rattle.reading.proofs.Joints.{allowed}
@@ -65,6 +66,8 @@ writing bracket = half-bracket
 writing (isotope k) = half-bracket
 writing (symbol1 a) = half-bracket
 writing symbolled = half-bracket
+writing at1 = half-bracket
+writing at2 = half-bracket
 writing hydrogen = half-bracket
 writing hydrogens = half-bracket
 writing sign = half-bracket
@@ -110,16 +113,16 @@ abbrev Leaves : ℕ → ℕ → Memory → MachineState → Acts → Type 0
 Leaves n k μ τ a = alive τ ≡ true → LeftAct n k μ τ a
 
 -- ---- writes behind the first n atoms and the first k bonds
-row-before : (t : List ℤ) (a : ℕ) (x : Atom) → atomCells * a + atomCells ≤ length t → (c : ℕ) → c < a → atomRow (withAtom t a x) c ≡ atomRow t c
-row-before t a x r c l = same-atom-row (withAtom t a x) t c (λ j s u. with-atom-other t a x r j (inl (omega arith)))
+row-before : (t : List ℤ) (a : ℕ) (x : Atom) (c : ℕ) → c < a → atomRow (withAtom t a x) c ≡ atomRow t c
+row-before t a x c l = same-atom-row (withAtom t a x) t c (λ f h. with-atom-other t a x (atomPlace c f) (inl (omega arith)))
 
-bond-before : (t : List ℤ) (b : ℕ) (x : Bond) → bondCells * b + bondCells ≤ length t → (c : ℕ) → c < b → bondRow (withBond t b x) c ≡ bondRow t c
-bond-before t b x r c l = same-bond-row (withBond t b x) t c (λ j s u. with-bond-other t b x r j (inl (omega arith)))
+bond-before : (t : List ℤ) (b : ℕ) (x : Bond) (c : ℕ) → c < b → bondRow (withBond t b x) c ≡ bondRow t c
+bond-before t b x c l = same-bond-row (withBond t b x) t c (λ f h. with-bond-other t b x (bondPlace c f) (inl (omega arith)))
 
 described-same : {p q n k m : ℕ} {μ : Memory} (x : Atom) → Tables p q (μ .st .atoms) m (μ .atoms) (μ .bonds) → n ≤ μ .st .hub .0 → μ .st .hub .0 < μ .st .atoms → Same n k μ (described x μ)
 described-same {μ = μ} x w l h =
     record {
-      rows = λ a s. row-before (μ .atoms) (μ .st .hub .0) x (omega (arith, w .atom-length, w .atom-room, w .few-atoms)) a (omega arith);
+      rows = λ a s. row-before (μ .atoms) (μ .st .hub .0) x a (omega arith);
       flags = λ a s. refl;
       bonds = λ b s. refl;
     }
@@ -149,7 +152,7 @@ module _ {p q d i n k : ℕ} {μ : Memory} (h : Ready p q d i μ) (na : n ≤ μ
           rows = λ a l. refl;
           flags = λ a l. getD-set-other (μ .st .outside) (μ .st .atoms) a x 0 (λ e. omega arith);
           bonds = λ b l. by-test (λ t. bondRow t b ≡ bondRow (μ .bonds) b) (bonded μ) _ (μ .bonds)
-              (λ e. bond-before (μ .bonds) (μ .st .bonds) _ (omega (arith, few-bonds e, h .tables .bond-length, h .tables .bond-room)) b (omega arith))
+              (λ e. bond-before (μ .bonds) (μ .st .bonds) _ b (omega arith))
               (λ e. refl);
         }
 
@@ -162,7 +165,7 @@ module _ {p q d i n k : ℕ} {μ : Memory} (h : Ready p q d i μ) (na : n ≤ μ
     letter-same x =
         let b = begun-same 1 in
         record {
-          rows = λ a l. row-before (μ .atoms) (μ .st .atoms) x (omega (arith, h .tables .atom-length, h .tables .atom-room)) a (omega arith);
+          rows = λ a l. row-before (μ .atoms) (μ .st .atoms) x a (omega arith);
           flags = b .flags;
           bonds = b .bonds;
         }
@@ -213,20 +216,20 @@ module _ {p q d i n k : ℕ} {μ : Memory} (h : Held p q d i μ) (na : n ≤ μ 
     where
       split : (t : Bool)
           → LeftAct n k μ (at (seq plain) d)
-          (pick t (keeps (moved (pick t (bridged (μ .st) r (μ .st .hub .0 + 1) (kindOf (μ .pending)) o (μ .st .bonds)) (bridged (μ .st) r 0 0 0 (μ .st .bonds + 1))) μ))
+          (pick t (keeps (moved (pick t (bridged (μ .st) r (μ .st .hub .0 + 1) (kindOf (μ .pending)) o (μ .st .bonds) (μ .st .keys)) (bridged (μ .st) r 0 0 0 (μ .st .bonds + 1) (keysAfter (μ .st) r o))) μ))
           (orRefuse (closeRefusal (μ .bonds) (μ .st .bonds) (getD (μ .st .opener) r 0 - 1) (μ .st .hub .0) (getD (μ .st .symbol) r 0) (kindOf (μ .pending))) o
-          (moved (pick t (bridged (μ .st) r (μ .st .hub .0 + 1) (kindOf (μ .pending)) o (μ .st .bonds)) (bridged (μ .st) r 0 0 0 (μ .st .bonds + 1))) (bridgeBond r μ))))
+          (moved (pick t (bridged (μ .st) r (μ .st .hub .0 + 1) (kindOf (μ .pending)) o (μ .st .bonds) (μ .st .keys)) (bridged (μ .st) r 0 0 0 (μ .st .bonds + 1) (keysAfter (μ .st) r o))) (bridgeBond r μ))))
       split true = quiet (seq plain) d refl _ refl refl refl refl refl
       split false = refusal (closeRefusal (μ .bonds) (μ .st .bonds) (getD (μ .st .opener) r 0 - 1) (μ .st .hub .0) (getD (μ .st .symbol) r 0) (kindOf (μ .pending))) refl
         where
           refusal : (x : ℕ) → closeRefusal (μ .bonds) (μ .st .bonds) (getD (μ .st .opener) r 0 - 1) (μ .st .hub .0) (getD (μ .st .symbol) r 0) (kindOf (μ .pending)) ≡ x
-              → LeftAct n k μ (at (seq plain) d) (orRefuse x o (moved (bridged (μ .st) r 0 0 0 (μ .st .bonds + 1)) (bridgeBond r μ)))
+              → LeftAct n k μ (at (seq plain) d) (orRefuse x o (moved (bridged (μ .st) r 0 0 0 (μ .st .bonds + 1) (keysAfter (μ .st) r o)) (bridgeBond r μ)))
           refusal zero z =
               let few = allowed (μ .bonds) (μ .st .bonds) (getD (μ .st .opener) r 0 - 1) (μ .st .hub .0) (getD (μ .st .symbol) r 0) (kindOf (μ .pending)) z .few in
               record {
                 complete = (na, tt);
                 bonds = omega arith;
-                same = record { rows = λ a l. refl; flags = λ a l. refl; bonds = λ b l. bond-before (μ .bonds) (μ .st .bonds) _ (omega (arith, h .tables .bond-length, h .tables .bond-room)) b (omega arith) };
+                same = record { rows = λ a l. refl; flags = λ a l. refl; bonds = λ b l. bond-before (μ .bonds) (μ .st .bonds) _ b (omega arith) };
               }
           refusal (suc x) z = tt
 
@@ -275,6 +278,9 @@ module _ {p q d i n k : ℕ} {μ : Memory} (h : Held p q d i μ) (na : n ≤ μ 
     hydrate-left : (b : ℕ) → LeftAct n k μ τ (hydrogenAct b μ)
     hydrate-left b = by-test (LeftAct n k μ τ) (eqb b 72) _ _ (λ e. draft-left _) (λ e. charge-left b)
 
+    mark-left : (j b : ℕ) → LeftAct n k μ τ (markAct j b μ)
+    mark-left j b = by-test (LeftAct n k μ τ) (eqb b 64) _ _ (λ e. draft-left _) (λ e. hydrate-left b)
+
 -- ---- every byte
 module _ (n k : ℕ) {p q i : ℕ} {μ : Memory} where
   mode-left : (m : Mode) {d : ℕ} → Sane p q (at m d) i μ → Complete n (at m d) μ → k ≤ μ .st .bonds → (b : ℕ) → Leaves n k μ (turn (next m b) d) (modeAct m b i μ)
@@ -291,8 +297,10 @@ module _ (n k : ℕ) {p q i : ℕ} {μ : Memory} where
   mode-left (isotope j) {d} w c kb b v = draft-left (held-of w) (c .0) kb (turn (next (isotope j) b) d) (c .1) _
   mode-left (symbol1 a) {d} w c kb b v =
       let τ : MachineState = turn (next (symbol1 a) b) d in
-      by-test (LeftAct n k μ τ) (listed (a ∷ b ∷ []) symbols) _ _ (λ e. draft-left (held-of w) (c .0) kb τ (c .1) _) (λ e. hydrate-left (held-of w) (c .0) kb τ (c .1) b)
-  mode-left symbolled {d} w c kb b v = hydrate-left (held-of w) (c .0) kb (turn (next symbolled b) d) (c .1) b
+      by-test (LeftAct n k μ τ) (listed (a ∷ b ∷ []) symbols) _ _ (λ e. draft-left (held-of w) (c .0) kb τ (c .1) _) (λ e. mark-left (held-of w) (c .0) kb τ (c .1) 1 b)
+  mode-left symbolled {d} w c kb b v = mark-left (held-of w) (c .0) kb (turn (next symbolled b) d) (c .1) 1 b
+  mode-left at1 {d} w c kb b v = mark-left (held-of w) (c .0) kb (turn (next at1 b) d) (c .1) 2 b
+  mode-left at2 {d} w c kb b v = hydrate-left (held-of w) (c .0) kb (turn (next at2 b) d) (c .1) b
   mode-left hydrogen {d} w c kb b v =
       let τ : MachineState = turn (next hydrogen b) d in
       by-test (LeftAct n k μ τ) (among b several) _ _ (λ e. draft-left (held-of w) (c .0) kb τ (c .1) _) (λ e. charge-left (held-of w) (c .0) kb τ (c .1) b)

@@ -13,7 +13,7 @@ use Rattle.loops.specs.Loop.{pick}
 use Rattle.loops.proofs.Loops.{and-left, and-right}
 use Rattle.reading_grammar.specs.declared.Last.the-variants.{Plain as plain}
 use Rattle.reading_grammar.specs.declared.Mode.{Mode}
-use Rattle.reading_grammar.specs.declared.Mode.the-variants.{Seq as seq, Bond as bond, AtomNext as atomNext, Inside as inside, Percent as percent, Percent1 as percent1, LetterA as letterA, LetterT as letterT, Bracket as bracket, Isotope as isotope, Symbol1 as symbol1, Symbolled as symbolled, Hydrogen as hydrogen, Hydrogens as hydrogens, Sign as sign, Charged as charged, Colon as colon, Extension as extension}
+use Rattle.reading_grammar.specs.declared.Mode.the-variants.{Seq as seq, Bond as bond, AtomNext as atomNext, Inside as inside, Percent as percent, Percent1 as percent1, LetterA as letterA, LetterT as letterT, Bracket as bracket, Isotope as isotope, Symbol1 as symbol1, Symbolled as symbolled, At1 as at1, At2 as at2, Hydrogen as hydrogen, Hydrogens as hydrogens, Sign as sign, Charged as charged, Colon as colon, Extension as extension}
 use Rattle.reading_grammar.specs.declared.MachineState.{MachineState}
 use Rattle.reading_grammar.specs.declared.MachineState.the-variants.{Dead as dead, Start as start, At as at}
 use Rattle.reading_grammar.specs.Machine.{alive, turn, step, next}
@@ -29,7 +29,7 @@ use Rattle.reading.proofs.Steering.{started-steering}
 use Rattle.reading.proofs.Draft.{bare-row}
 use Rattle.reading.proofs.Atoms.{Held, ready, ready-start, held-of, sane-of, held-later, held-described, atom-act}
 use Rattle.reading.proofs.Dispatch.{Outside, in-sequence, in-bond, in-branch, in-percent, in-percent1, only-atom, second-letter}
-use Rattle.reading.proofs.InBracket.{Follows, extend-act, charge-act, hydrate-act, bracket-step, isotope-step, symbol-step, hydrogen-step, sign-step, colon-step, extension-step}
+use Rattle.reading.proofs.InBracket.{Follows, extend-act, charge-act, hydrate-act, first-mark, second-mark, bracket-step, isotope-step, symbol-step, hydrogen-step, sign-step, colon-step, extension-step}
 use Rattle.reading.proofs.Joints.{bridge-act, branch-act, unbranch-act, joint-held, counting-held}
 
 -- ---- by mode
@@ -67,7 +67,9 @@ module _ {p q i : ℕ} {μ : Memory} where
   mode-step bracket w b v = bracket-step (held-of w) (w .stands .half) b v
   mode-step (isotope k) w b v = isotope-step (held-of w) k (w .stands .half .0) (w .stands .half .1) b v
   mode-step (symbol1 a) w b v = symbol-step (held-of w) a (w .stands .half) b v
-  mode-step symbolled w b v = hydrate-act (held-of w) (w .stands .half) b v
+  mode-step symbolled w b v = first-mark (held-of w) (w .stands .half) b v
+  mode-step at1 w b v = second-mark (held-of w) (w .stands .half) b v
+  mode-step at2 w b v = hydrate-act (held-of w) (w .stands .half) b v
   mode-step hydrogen w b v = hydrogen-step (held-of w) (w .stands .half) b v
   mode-step hydrogens w b v = charge-act (held-of w) (w .stands .half) b v
   mode-step sign w b v = sign-step (held-of w) (w .stands .half) b v

@@ -14,19 +14,21 @@ use Rattle.kinds.specs.Kind.{elided, maxKind}
 use Rattle.table.specs.declared.Atom.{Atom}
 use Rattle.table.specs.declared.Bond.{Bond}
 use Rattle.table.specs.Limits.{maxAtoms, maxBonds, atomCells, bondCells}
-use Rattle.table.specs.Cells.{number, inRange, end1, end2}
+use Rattle.table.specs.Cells.{number, inRange, atomPlace, bondPlace, end1, end2}
 use Rattle.table.specs.Rows.{atomRow, bondRow, noAtom, withAtom, withBond}
-use Rattle.table.specs.Valid.{atomOk}
+use Rattle.table.specs.Valid.{atomOk, atomRowOk}
 use Rattle.reading.specs.Memory as memory
 use Rattle.reading.proofs.Sane.{BondRow, Tables}
-use Rattle.reading.proofs.Rows.{length-with-atom, with-atom-other, with-atom-row, same-atom-row, within, rowOk, atom-ok-row, length-with-bond, with-bond-other, with-bond-row, same-bond-row}
+use Rattle.table.proofs.Rows.{with-atom-length, with-atom-other, with-atom-row, same-atom-row, with-bond-length, with-bond-other, with-bond-row, same-bond-row}
+use Rattle.table.proofs.Valid.{range-of}
+use Rattle.reading.proofs.Rows.{rowOk, atom-ok-row}
 
 -- ---- atoms
 
 zero-row : (t : List ℤ) (a : ℕ) → ((k : ℕ) → atomCells * a ≤ k → getD t k (pos 0) ≡ pos 0) → atomOk t a ≡ true
-unfolding rowOk inRange number
+unfolding atomRowOk inRange number
 zero-row t a h =
-    let e : atomRow t a ≡ noAtom = rw (h (atomCells * a + 0) (omega arith), h (atomCells * a + 1) (omega arith), h (atomCells * a + 2) (omega arith), h (atomCells * a + 3) (omega arith), h (atomCells * a + 4) (omega arith), h (atomCells * a + 5) (omega arith)) in
+    let e : atomRow t a ≡ noAtom = rw (h (atomCells * a + 0) (omega arith), h (atomCells * a + 1) (omega arith), h (atomCells * a + 2) (omega arith), h (atomCells * a + 3) (omega arith), h (atomCells * a + 4) (omega arith), h (atomCells * a + 5) (omega arith), h (atomCells * a + 6) (omega arith)) in
     atom-ok-row t a ∙ ap rowOk e
 
 module _ {p q n m : ℕ} {atoms bonds : List ℤ} (w : Tables p q n m atoms bonds) where
@@ -60,14 +62,14 @@ module _ {p q n m : ℕ} {atoms bonds : List ℤ} (w : Tables p q n m atoms bond
       record {
         few-atoms = w .few-atoms;
         few-bonds = w .few-bonds;
-        atom-length = length-with-atom atoms a x room ∙ w .atom-length;
+        atom-length = with-atom-length atoms a x ∙ w .atom-length;
         bond-length = w .bond-length;
         atom-room = w .atom-room;
         bond-room = w .bond-room;
         atom-rows = rows;
         bond-rows = w .bond-rows;
         apart = w .apart;
-        atoms-clear = λ k l. with-atom-other atoms a x room k (inr (omega arith)) ∙ w .atoms-clear k l;
+        atoms-clear = λ k l. with-atom-other atoms a x k (inr (omega arith)) ∙ w .atoms-clear k l;
         bonds-clear = w .bonds-clear;
       }
     where
@@ -88,7 +90,7 @@ module _ {p q n m : ℕ} {atoms bonds : List ℤ} (w : Tables p q n m atoms bond
           split (yes e) = rw e (atom-ok-row (withAtom atoms a x) a ∙ ap rowOk (with-atom-row atoms a x room) ∙ ok)
           split (no g) =
               atom-ok-row (withAtom atoms a x) c
-              ∙ ap rowOk (same-atom-row (withAtom atoms a x) atoms c (λ k s u. with-atom-other atoms a x room k (other g k s u)))
+              ∙ ap rowOk (same-atom-row (withAtom atoms a x) atoms c (λ f h. with-atom-other atoms a x (atomPlace c f) (other g (atomPlace c f) (omega arith) (omega arith))))
               ∙ sym (atom-ok-row atoms c)
               ∙ w .atom-rows c l
 
@@ -109,7 +111,7 @@ to-row r = record { kind = r .kind; natural = r .natural; order = r .order; seco
 
 new-row : {n u h k : ℕ} → u < h → h < n → k ≤ maxKind → RowFine (memory.newBond u h k) n
 unfolding inRange number
-new-row {u = u} {k = k} a b c = record { kind = within k maxKind c; natural = le-leb 0 u (omega arith); order = a; second = b }
+new-row {u = u} {k = k} a b c = record { kind = range-of k maxKind c; natural = le-leb 0 u (omega arith); order = a; second = b }
 
 module _ {p q n m : ℕ} {atoms bonds : List ℤ} (w : Tables p q n m atoms bonds) where
   -- a bond more, between two atoms that no bond joins yet
@@ -122,14 +124,14 @@ module _ {p q n m : ℕ} {atoms bonds : List ℤ} (w : Tables p q n m atoms bond
         few-atoms = w .few-atoms;
         few-bonds = omega arith;
         atom-length = w .atom-length;
-        bond-length = length-with-bond bonds m x room ∙ w .bond-length;
+        bond-length = with-bond-length bonds m x ∙ w .bond-length;
         atom-room = w .atom-room;
         bond-room = w .bond-room;
         atom-rows = w .atom-rows;
         bond-rows = rows;
         apart = apart;
         atoms-clear = w .atoms-clear;
-        bonds-clear = λ c l. with-bond-other bonds m x room c (inr (omega arith)) ∙ w .bonds-clear c (omega arith);
+        bonds-clear = λ c l. with-bond-other bonds m x c (inr (omega arith)) ∙ w .bonds-clear c (omega arith);
       }
     where
       x : Bond
@@ -142,7 +144,7 @@ module _ {p q n m : ℕ} {atoms bonds : List ℤ} (w : Tables p q n m atoms bond
       t = withBond bonds m x
 
       old : (b : ℕ) → b < m → bondRow t b ≡ bondRow bonds b
-      old b l = same-bond-row t bonds b (λ c s v. with-bond-other bonds m x room c (inl (omega arith)))
+      old b l = same-bond-row t bonds b (λ f h. with-bond-other bonds m x (bondPlace b f) (inl (omega arith)))
 
       new : bondRow t m ≡ x
       new = with-bond-row bonds m x room

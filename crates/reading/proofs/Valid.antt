@@ -1,4 +1,4 @@
--- A sane memory whose atoms got their hydrogens holds valid tables. Assumes nothing.
+-- A sane memory whose atoms got their hydrogens and their stored marks holds valid tables. Assumes nothing.
 use Prim.Native.Nat.{ℕ, zero, suc, _+_, _≤_, _<_}
 use native.Mathlib.Omega.{arith}
 use mathlib.Core.Path.{_≡_, refl}
@@ -13,7 +13,8 @@ use Rattle.table.specs.Limits.{maxAtoms, maxBonds}
 use Rattle.table.specs.Cells.{end1, end2}
 use Rattle.table.specs.Valid.{atomOk, bondOk, sameEnds, fresh, distinct, valid, Valid}
 use Rattle.reading.specs.Memory.{Memory}
-use Rattle.reading.specs.Read.{hydrogenated}
+use Rattle.table.proofs.Orders.{turned-valid}
+use Rattle.reading.specs.Read.{hydrogenated, textRank, atomsOf}
 use Rattle.reading.proofs.Sane.{BondRow, Tables, Sane}
 use Rattle.reading.proofs.Hydrogens.{hydrogenated-ok}
 
@@ -59,14 +60,18 @@ pub sane-between : {p q i : ℕ} {σ : MachineState} {μ : Memory} → Sane p q 
 sane-between {μ = μ} w = valid-with (μ .atoms) (w .tables) (w .tables .atom-rows)
 
 -- and with the hydrogens that are given at the end
-pub sane-valid : {p q i : ℕ} {σ : MachineState} {μ : Memory} → Sane p q σ i μ
+pub sane-filled : {p q i : ℕ} {σ : MachineState} {μ : Memory} → Sane p q σ i μ
     → Valid (hydrogenated (μ .st .outside) (μ .bonds) (μ .st .bonds) (μ .st .atoms) (μ .atoms)) (μ .bonds) (μ .st .atoms) (μ .st .bonds)
-sane-valid {μ = μ} w = valid-with (hydrogenated (μ .st .outside) (μ .bonds) (μ .st .bonds) (μ .st .atoms) (μ .atoms)) (w .tables) rows
+sane-filled {μ = μ} w = valid-with (hydrogenated (μ .st .outside) (μ .bonds) (μ .st .bonds) (μ .st .atoms) (μ .atoms)) (w .tables) rows
   where
     rows : (a : ℕ) → a < μ .st .atoms → atomOk (hydrogenated (μ .st .outside) (μ .bonds) (μ .st .bonds) (μ .st .atoms) (μ .atoms)) a ≡ true
     rows a l =
         hydrogenated-ok (μ .st .outside) (μ .bonds) (μ .st .bonds) (μ .st .atoms) (μ .atoms) a l
         (omega (arith, w .tables .atom-length, w .tables .atom-room, w .tables .few-atoms)) (w .tables .atom-rows a l)
+
+-- and with the marks as they are stored
+pub sane-valid : {p q i : ℕ} {σ : MachineState} {μ : Memory} → Sane p q σ i μ → Valid (atomsOf μ) (μ .bonds) (μ .st .atoms) (μ .st .bonds)
+sane-valid {σ = σ} {μ = μ} w = turned-valid (textRank (μ .st .keys) (μ .bonds)) (μ .bonds) (μ .st .bonds) (μ .st .atoms) (μ .st .atoms) (hydrogenated (μ .st .outside) (μ .bonds) (μ .st .bonds) (μ .st .atoms) (μ .atoms)) (sane-filled {σ = σ} w)
 
 -- the test says so too
 pub valid-true : {atoms bonds : List ℤ} {n m : ℕ} → Valid atoms bonds n m → valid atoms bonds n m ≡ true

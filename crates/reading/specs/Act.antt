@@ -1,7 +1,7 @@
 -- 01, The text, and the refusals 4 to 9 of "When a call says no": what a byte does beside the grammar, which was asked first
 use Prim.Native.Nat.{ℕ, zero, suc, _+_, _-_, _*_}
-use mathlib.Core.Bool.{Bool, true, false, _&&_, not}
-use mathlib.Core.List.{List, [], _∷_}
+use mathlib.Core.Bool.{Bool, _&&_}
+use mathlib.Core.List.{[], _∷_}
 use lib.ListN.{getD}
 use lib.Dec.{eqb, leb}
 use Rattle.loops.specs.Loop.{pick}
@@ -13,7 +13,7 @@ use Rattle.reading_grammar.specs.Grammar.{nonzero, digits, several, bondSymbols
 use Rattle.reading_grammar.specs.declared.Last.{Last}
 use Rattle.reading_grammar.specs.declared.Last.the-variants.{Plain as plain, AfterC as afterC, AfterB as afterB}
 use Rattle.reading_grammar.specs.declared.Mode.{Mode}
-use Rattle.reading_grammar.specs.declared.Mode.the-variants.{Seq as seq, Bond as bond, AtomNext as atomNext, Inside as inside, Percent as percent, Percent1 as percent1, LetterA as letterA, LetterT as letterT, Bracket as bracket, Isotope as isotope, Symbol1 as symbol1, Symbolled as symbolled, Hydrogen as hydrogen, Hydrogens as hydrogens, Sign as sign, Charged as charged, Colon as colon, Extension as extension}
+use Rattle.reading_grammar.specs.declared.Mode.the-variants.{Seq as seq, Bond as bond, AtomNext as atomNext, Inside as inside, Percent as percent, Percent1 as percent1, LetterA as letterA, LetterT as letterT, Bracket as bracket, Isotope as isotope, Symbol1 as symbol1, Symbolled as symbolled, At1 as at1, At2 as at2, Hydrogen as hydrogen, Hydrogens as hydrogens, Sign as sign, Charged as charged, Colon as colon, Extension as extension}
 use Rattle.reading_grammar.specs.declared.MachineState.{MachineState}
 use Rattle.reading_grammar.specs.declared.MachineState.the-variants.{Dead as dead, Start as start, At as at}
 use Rattle.reading_grammar.specs.Fold.{Act, keeps, refuses}
@@ -22,8 +22,8 @@ use Rattle.table.specs.Rows.{withBond}
 use Rattle.ids.specs.Limits.{maxDepth}
 use Rattle.reading_state.specs.State.{opened, closed, joined}
 use Rattle.kinds.specs.Kind.{symbolKind, meet}
-use Rattle.reading.specs.Memory.{Memory, Pending, nothing, dotted, symbol, kindOf, blank, rowOf, bareRow, between, bonded, begun, described, awaiting, moved, counting, drafted, closeRefusal}
-use Rattle.reading.specs.Bracket.{digit, isotoped, elemented, hydrogened, signed, positive}
+use Rattle.reading.specs.Memory.{Memory, dotted, symbol, kindOf, rowOf, bareRow, between, bonded, begun, described, awaiting, moved, counting, drafted, closeRefusal}
+use Rattle.reading.specs.Bracket.{digit, isotoped, elemented, marked, hydrogened, signed, positive}
 use Rattle.reading.specs.Bracket as fields
 
 abbrev pub Acts : Type 0
@@ -104,6 +104,10 @@ chargeAct b μ = pick (among b signs) (keeps (drafted (fields.charged (signed (e
 abbrev pub hydrogenAct : ℕ → Memory → Acts
 hydrogenAct b μ = pick (eqb b 72) (keeps (drafted (hydrogened 1 (μ .draft)) μ)) (chargeAct b μ)
 
+-- `@`, the first or the second: the mark is k then
+abbrev pub markAct : ℕ → ℕ → Memory → Acts
+markAct k b μ = pick (eqb b 64) (keeps (drafted (marked k (μ .draft)) μ)) (hydrogenAct b μ)
+
 abbrev pub isotopeAct : ℕ → Memory → Acts
 isotopeAct b μ = keeps (drafted (pick (among b digits) (isotoped b (μ .draft)) (fields.symbolled b (μ .draft))) μ)
 
@@ -126,8 +130,10 @@ modeAct letterT b i μ = secondLetter 117 μ
 modeAct bracket b i μ = isotopeAct b μ
 modeAct (isotope n) b i μ = isotopeAct b μ
 modeAct (symbol1 a) b i μ =
-    pick (listed (a ∷ b ∷ []) symbols) (keeps (drafted (elemented (numberOf (a ∷ b ∷ [])) 0 (μ .draft)) μ)) (hydrogenAct b μ)
-modeAct symbolled b i μ = hydrogenAct b μ
+    pick (listed (a ∷ b ∷ []) symbols) (keeps (drafted (elemented (numberOf (a ∷ b ∷ [])) 0 (μ .draft)) μ)) (markAct 1 b μ)
+modeAct symbolled b i μ = markAct 1 b μ
+modeAct at1 b i μ = markAct 2 b μ
+modeAct at2 b i μ = hydrogenAct b μ
 modeAct hydrogen b i μ = pick (among b several) (keeps (drafted (hydrogened (digit b) (μ .draft)) μ)) (chargeAct b μ)
 modeAct hydrogens b i μ = chargeAct b μ
 modeAct sign b i μ = pick (among b several) (keeps (drafted (fields.charged (signed (positive (μ .draft .charge)) (digit b)) (μ .draft)) μ)) (closeAct b μ)

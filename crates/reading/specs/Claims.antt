@@ -14,26 +14,36 @@ use Rattle.reading_grammar.specs.Machine.{accepting}
 use Rattle.reading_grammar.specs.Fold.{going}
 use Rattle.table.specs.declared.Atom.{Atom}
 use Rattle.table.specs.Limits.{atomCells, bondCells}
-use Rattle.table.specs.Cells.{element, selected}
+use Rattle.parity.specs.Mark.{markIf}
+use Rattle.table.specs.Cells.{element, selected, mark}
 use Rattle.table.specs.Rows.{atomRow}
 use Rattle.table.specs.Sound.{lateCode}
+use Rattle.table.specs.Orders.{turns}
 use Rattle.table_graph.specs.Graph.{bondSum, matchable}
 use Rattle.reading.specs.Memory.{Memory}
-use Rattle.reading.specs.Read.{ReadResult, overfullAtoms}
+use Rattle.reading.specs.Read.{ReadResult, textRank, overfullAtoms}
 use Rattle.reading.specs.Conditions.{bytesRead, Fits}
 
 -- the row with another count of hydrogens
 abbrev pub withHydrogens : Atom → ℤ → Atom
-withHydrogens x h = record { element = x .element; selected = x .selected; isotope = x .isotope; hydrogens = h; charge = x .charge; extension = x .extension }
+withHydrogens x h = record { element = x .element; selected = x .selected; isotope = x .isotope; hydrogens = h; charge = x .charge; extension = x .extension; mark = x .mark }
+
+-- the row with another mark
+abbrev pub withMark : Atom → ℤ → Atom
+withMark x k = record { element = x .element; selected = x .selected; isotope = x .isotope; hydrogens = x .hydrogens; charge = x .charge; extension = x .extension; mark = k }
 
 -- the hydrogens that an atom outside brackets gets: by its element, its selection and its bonds
 abbrev pub impliedAt : ReadResult → ℕ → ℤ
 impliedAt t a = pos (implied (element (t .atoms) a) (selected (t .atoms) a) (bondSum (t .bonds) (t .bondCount) a))
 
--- the row of the atom a of an accepted text, given what stood in the table after its last byte
-pub record Given (μ : Memory) (t : ReadResult) (a : ℕ) : Type 0 where
-  pub outside : getD (μ .st .outside) a 0 ≡ 1 → atomRow (t .atoms) a ≡ withHydrogens (atomRow (μ .atoms) a) (impliedAt t a)
-  pub bracket : (getD (μ .st .outside) a 0 ≡ 1 → ⊥) → atomRow (t .atoms) a ≡ atomRow (μ .atoms) a
+-- the mark k of the atom a as it is stored: turned where the order of the atom's neighbours in the text and the stored order differ by an odd number of swaps
+abbrev pub storedMark : List ℕ → ReadResult → ℕ → ℕ → ℤ
+storedMark keys t a k = pos (markIf (turns (textRank keys (t .bonds) a) (t .atoms) (t .bonds) (t .bondCount) a) k)
+
+-- the row of the atom a of an accepted text whose bonds have these keys, given what stood in the table after it was read
+pub record Given (μ : Memory) (keys : List ℕ) (t : ReadResult) (a : ℕ) : Type 0 where
+  pub outside : getD (μ .st .outside) a 0 ≡ 1 → atomRow (t .atoms) a ≡ withMark (withHydrogens (atomRow (μ .atoms) a) (impliedAt t a)) (storedMark keys t a (mark (μ .atoms) a))
+  pub bracket : (getD (μ .st .outside) a 0 ≡ 1 → ⊥) → atomRow (t .atoms) a ≡ withMark (atomRow (μ .atoms) a) (storedMark keys t a (mark (μ .atoms) a))
 
 module _ (s : List ℕ) (atoms bonds : List ℤ) where
   -- an accepted text, the memory after its last byte, and the rows
@@ -44,7 +54,7 @@ module _ (s : List ℕ) (atoms bonds : List ℤ) where
     pub reached : bytesRead s atoms bonds ≡ going state memory
     pub ends : accepting state ≡ true
     pub counts : (t .atomCount ≡ memory .st .atoms) × (t .bondCount ≡ memory .st .bonds) × (t .bonds ≡ memory .bonds)
-    pub rows : (a : ℕ) → a < t .atomCount → Given memory t a
+    pub rows : (a : ℕ) → a < t .atomCount → Given memory (memory .st .keys) t a
     pub overfull-atoms : t .overfull ≡ overfullAtoms (memory .st .outside) (t .bonds) (t .bondCount) (t .atomCount) (t .atoms)
     pub lengths : (length (t .atoms) ≡ length atoms) × (length (t .bonds) ≡ length bonds)
     pub unused-atoms : (k : ℕ) → atomCells * t .atomCount ≤ k → getD (t .atoms) k (pos 0) ≡ pos 0

@@ -27,17 +27,14 @@ use Rattle.ids.specs.Limits.{maxDepth, maxText}
 use Rattle.reading.specs.Memory.{Memory, dotted, kindOf}
 use Rattle.reading.specs.Bracket.{digit}
 use Rattle.reading.specs.Act.{act}
-use Rattle.reading.specs.Read.{zeros, beginning, hydrogenated, overfullAtoms}
+use Rattle.reading.specs.Read.{zeros, beginning, overfullAtoms}
+pub use Rattle.reading.specs.Read.{atomsOf}
 
 -- ---- what was read
 
 -- the bytes of a text, read into zeroed tables
 abbrev pub bytesRead : List ℕ → List ℤ → List ℤ → Reading Memory
 bytesRead s atoms bonds = read act 0 (going start (beginning (zeros atoms) (zeros bonds))) s
-
--- the atoms that were read, with the hydrogens of those outside brackets
-abbrev pub atomsOf : Memory → List ℤ
-atomsOf μ = hydrogenated (μ .st .outside) (μ .bonds) (μ .st .bonds) (μ .st .atoms) (μ .atoms)
 
 -- how many of those outside brackets are over-full (02, P10)
 abbrev pub overfullOf : Memory → ℕ
@@ -164,7 +161,7 @@ module _ (s : List ℕ) (atoms bonds : List ℤ) where
     pub reads : Read state memory
     pub leftmost : LeftmostOpening (memory .st .opener) (memory .st .offset) p
 
-  -- a late check (02, P5: 20, 21; P6: 22): the code of the first that the molecule read fails, no bridge being open
+  -- a late check (02, P5: 20, 21; P6: 22; P8: 23): the code of the first that the molecule read fails, no bridge being open
   pub record Late (c : ℕ) : Type 0 where
     pub state : MachineState
     pub memory : Memory

@@ -1,15 +1,14 @@
 -- 01, The text: what a reading remembers beside the grammar, and how atoms, bonds and branches change it
-use Prim.Native.Nat.{ℕ, zero, suc, _+_, _-_, _*_}
+use Prim.Native.Nat.{ℕ, _+_}
 use mathlib.Core.Bool.{Bool, true, false, _&&_, _||_, not}
-use mathlib.Core.List.{List, [], _∷_}
-use lib.ListN.{getD, set}
+use mathlib.Core.List.{List}
 use lib.IntN.{ℤ, pos}
 use lib.Dec.{eqb, leb, ltb}
 use Rattle.loops.specs.Loop.{pick, each}
 use Rattle.kinds.specs.Kind.{elided, turned, clash}
 use Rattle.table.specs.declared.Atom.{Atom}
 use Rattle.table.specs.declared.Bond.{Bond}
-use Rattle.table.specs.Limits.{maxAtoms, maxBonds}
+use Rattle.table.specs.Limits.{maxBonds}
 use Rattle.table.specs.Cells.{end1, end2}
 use Rattle.table.specs.Rows.{withAtom, withBond}
 use Rattle.reading_state.specs.State.{Steering}
@@ -43,7 +42,7 @@ afterDot dotted = true
 afterDot (symbol k) = false
 
 abbrev pub blank : Fields
-blank = record { element = 0; selected = 0; isotope = 0; hydrogens = 0; charge = pos 0; extension = 0 }
+blank = record { element = 0; selected = 0; isotope = 0; hydrogens = 0; charge = pos 0; extension = 0; mark = 0 }
 
 -- the row of the fields of a bracket
 abbrev pub rowOf : Fields → Atom
@@ -55,11 +54,12 @@ rowOf f =
       hydrogens = pos (f .hydrogens);
       charge = f .charge;
       extension = pos (f .extension);
+      mark = pos (f .mark);
     }
 
 -- the row of an atom outside brackets, before its hydrogens are known
 abbrev pub bareRow : ℕ → ℕ → Atom
-bareRow e selected = record { element = pos e; selected = pos selected; isotope = pos 0; hydrogens = pos 0; charge = pos 0; extension = pos 0 }
+bareRow e selected = record { element = pos e; selected = pos selected; isotope = pos 0; hydrogens = pos 0; charge = pos 0; extension = pos 0; mark = pos 0 }
 
 abbrev pub newBond : ℕ → ℕ → ℕ → Bond
 newBond a b k = record { first = pos a; second = pos b; kind = pos k }

@@ -1,16 +1,16 @@
 -- 01, When a call says no: reading a text into two tables: the refusals in the stated order, and what every answer leaves behind
-use Prim.Native.Nat.{ℕ, zero, suc, _+_}
-use mathlib.Core.Bool.{Bool, true, false, _&&_, not}
-use mathlib.Core.List.{List, [], _∷_}
+use Prim.Native.Nat.{ℕ, _+_}
+use mathlib.Core.List.{List}
 use lib.ListN.{length, getD, set, replicate}
 use lib.IntN.{ℤ, pos}
 use lib.Dec.{eqb, leb, ltb}
 use Rattle.loops.specs.Loop.{pick, run}
 use Rattle.valence.specs.Valence.{implied, overfull}
 use Rattle.table.specs.Limits.{HYDROGENS}
-use Rattle.table.specs.Cells.{atomPlace, element, selected}
+use Rattle.table.specs.Cells.{atomPlace, element, selected, end2}
 use Rattle.table.specs.Valid.{enough}
 use Rattle.table.specs.Sound.{lateCode}
+use Rattle.table.specs.Orders.{turnMarks, atEnd}
 use Rattle.table_graph.specs.Graph.{bondSum, matchable}
 use Rattle.ids.specs.Limits.{maxText, bridges}
 use Rattle.reading_state.specs.State.{started}
@@ -62,6 +62,18 @@ overfullAt outside bonds m t a = pick (eqb (getD outside a 0) 1) (overfull (elem
 unfoldable pub overfullAtoms : List ℕ → List ℤ → ℕ → ℕ → List ℤ → ℕ
 overfullAtoms outside bonds m n t = run (λ a k. k + overfullAt outside bonds m t a) 0 n 0
 
+-- 02, P8: "In text the neighbours are ordered: the preceding atom, the virtual hydrogen, bridges as their digits stand in the text at this atom, then children; with no preceding atom the hydrogen is first":
+-- the rank of the bond b at the atom a: 0 for the bond to the preceding atom, 1 being the hydrogen's; that of a bridge is its key there and one; that of a child lies above all of these, by its number
+abbrev pub rankBy : ℕ → ℕ → ℕ → ℕ
+rankBy key second a = pick (eqb key 0) (pick (eqb second a) 0 (maxText + 2 + second)) (key + 1)
+
+unfoldable pub textRank : List ℕ → List ℤ → ℕ → ℕ → ℕ
+textRank keys bonds a b = rankBy (atEnd keys bonds a b) (end2 bonds b) a
+
+-- the atoms that were read, with the hydrogens of those outside brackets; "The stored mark refers to the hydrogen first and then bonds by ascending number, so reading turns it when the two orders differ by an odd number of swaps"
+abbrev pub atomsOf : Memory → List ℤ
+atomsOf μ = turnMarks (textRank (μ .st .keys) (μ .bonds)) (μ .bonds) (μ .st .bonds) (μ .st .atoms) (hydrogenated (μ .st .outside) (μ .bonds) (μ .st .bonds) (μ .st .atoms) (μ .atoms))
+
 -- the lower of two offsets of openings, of which the second is told by its opener (0: not open)
 abbrev pub earlier : ℕ → ℕ → ℕ → ℕ
 earlier p u q = pick (eqb u 0) p (pick (ltb q p) q p)
@@ -84,7 +96,7 @@ unfoldable pub ended : Memory → ReadResult
 ended μ =
     let p : ℕ = leftmost (μ .st .opener) (μ .st .offset) in
     pick (ltb p maxText) (refused 10 p (μ .atoms) (μ .bonds))
-    (checked (hydrogenated (μ .st .outside) (μ .bonds) (μ .st .bonds) (μ .st .atoms) (μ .atoms)) (μ .bonds) (μ .st .atoms) (μ .st .bonds)
+    (checked (atomsOf μ) (μ .bonds) (μ .st .atoms) (μ .st .bonds)
     (overfullAtoms (μ .st .outside) (μ .bonds) (μ .st .bonds) (μ .st .atoms) (μ .atoms)))
 
 -- 3 to 9 at their byte, 3 at the length, then what comes at the end; n: the length of the text

@@ -84,26 +84,26 @@ ends a q r = rw (q, r)
 
 module _ (s : List ℕ) (at : ℕ) {a b : ℕ} (ka : Peeked s at a) (kb : Peeked s (at + 1) b) (l : at < length s) where
   abbrev afterSymbol : Memory → ℕ → Symbol → Verdict Memory
-  afterSymbol μ i (Long e) = restIn s μ (at + 2) symbolled (fields i e 0 0 (pos 0) 0)
-  afterSymbol μ i (Brief e) = restIn s μ (at + 1) symbolled (fields i e 0 0 (pos 0) 0)
-  afterSymbol μ i (Selected e) = restIn s μ (at + 1) symbolled (fields i e 1 0 (pos 0) 0)
+  afterSymbol μ i (Long e) = restIn s μ (at + 2) symbolled (fields i e 0 0 0 (pos 0) 0)
+  afterSymbol μ i (Brief e) = restIn s μ (at + 1) symbolled (fields i e 0 0 0 (pos 0) 0)
+  afterSymbol μ i (Selected e) = restIn s μ (at + 1) symbolled (fields i e 1 0 0 (pos 0) 0)
   afterSymbol μ i Half = bad 3 (at + 1)
   afterSymbol μ i Nothing = bad 3 at
 
   module _ (μ : Memory) (i : ℕ) where
     abbrev m : Memory
-    m = drafted (fields i 0 0 0 (pos 0) 0) μ
+    m = drafted (fields i 0 0 0 0 (pos 0) 0) μ
 
     -- the first byte of an element's symbol
-    first : symbolOr a stop ≡ to (symbol1 a) → eqb (selectedOf a) 0 ≡ true → restIn s μ at (isotope 0) (fields i 0 0 0 (pos 0) 0) ≡ restIn s μ (at + 1) (symbol1 a) (fields i (numberOf (a ∷ [])) 0 0 (pos 0) 0)
+    first : symbolOr a stop ≡ to (symbol1 a) → eqb (selectedOf a) 0 ≡ true → restIn s μ at (isotope 0) (fields i 0 0 0 0 (pos 0) 0) ≡ restIn s μ (at + 1) (symbol1 a) (fields i (numberOf (a ∷ [])) 0 0 0 (pos 0) 0)
     unfolding next modeAct bytes.symbolled
     first e z = rest-to s at (isotope 0) m ka l e (rw (symbol-no-digit a e, z)) refl
 
-    star : a ≡ 42 → restIn s μ at (isotope 0) (fields i 0 0 0 (pos 0) 0) ≡ restIn s μ (at + 1) symbolled (fields i 0 0 0 (pos 0) 0)
+    star : a ≡ 42 → restIn s μ at (isotope 0) (fields i 0 0 0 0 (pos 0) 0) ≡ restIn s μ (at + 1) symbolled (fields i 0 0 0 0 (pos 0) 0)
     unfolding next modeAct bytes.symbolled symbolOr symbols starts marks among digits selectedOf numberOf indexFrom sameBytes
     star e = rest-to s at (isotope 0) m ka l (rw e) (rw e) refl
 
-    pub symbol-rest : restIn s μ at (isotope 0) (fields i 0 0 0 (pos 0) 0) ≡ afterSymbol μ i (symbolOf a b)
+    pub symbol-rest : restIn s μ at (isotope 0) (fields i 0 0 0 0 (pos 0) 0) ≡ afterSymbol μ i (symbolOf a b)
     unfolding symbolOf next modeAct bytes.symbolled resting
     symbol-rest = split (eqb a 42) (eqb (selectedOf a) 0) (listed (a ∷ b ∷ []) symbols) (listed (a ∷ []) symbols) (starts a symbols) refl refl refl refl refl
       where
@@ -111,18 +111,18 @@ module _ (s : List ℕ) (at : ℕ) {a b : ℕ} (ka : Peeked s at a) (kb : Peeked
         two = omega arith
 
         split : (t u v w x : Bool) → eqb a 42 ≡ t → eqb (selectedOf a) 0 ≡ u → listed (a ∷ b ∷ []) symbols ≡ v → listed (a ∷ []) symbols ≡ w → starts a symbols ≡ x
-            → restIn s μ at (isotope 0) (fields i 0 0 0 (pos 0) 0)
+            → restIn s μ at (isotope 0) (fields i 0 0 0 0 (pos 0) 0)
             ≡ afterSymbol μ i (pick t (Brief 0) (pick u (pick v (Long (numberOf (a ∷ b ∷ []))) (pick w (Brief (numberOf (a ∷ []))) (pick x Half Nothing))) (Selected (selectedOf a))))
         split true u v w x e f g h j = star (eqb-true a 42 e)
         split false false v w x e f g h j =
             let z = mark-goes a (selected-letter a f) in
             rest-to s at (isotope 0) m ka l (z .0) (rw (z .1, f)) refl
         split false true true w x e f g h j =
-            first (on-element a (b ∷ []) g stop) f ∙ rest-to s (at + 1) (symbol1 a) (drafted (fields i (numberOf (a ∷ [])) 0 0 (pos 0) 0) μ) kb (pair-in a kb g) {m′ = symbolled} (rw g) {ν = drafted (fields i (numberOf (a ∷ b ∷ [])) 0 0 (pos 0) 0) μ} (rw g) refl ∙ rw two
+            first (on-element a (b ∷ []) g stop) f ∙ rest-to s (at + 1) (symbol1 a) (drafted (fields i (numberOf (a ∷ [])) 0 0 0 (pos 0) 0) μ) kb (pair-in a kb g) {m′ = symbolled} (rw g) {ν = drafted (fields i (numberOf (a ∷ b ∷ [])) 0 0 0 (pos 0) 0) μ} (rw g) refl ∙ rw two
         split false true false true x e f g h j =
-            first (on-element a [] h stop) f ∙ alike s (at + 1) (symbol1 a) symbolled (drafted (fields i (numberOf (a ∷ [])) 0 0 (pos 0) 0) μ) kb (rw (g, h)) (rw g) refl
+            first (on-element a [] h stop) f ∙ alike s (at + 1) (symbol1 a) symbolled (drafted (fields i (numberOf (a ∷ [])) 0 0 0 (pos 0) 0) μ) kb (rw (g, h)) (rw g) refl
         split false true false false true e f g h j =
-            first (begins a j) f ∙ rest-stop s (at + 1) (symbol1 a) (drafted (fields i (numberOf (a ∷ [])) 0 0 (pos 0) 0) μ) kb (omega arith) (rw (g, h)) refl
+            first (begins a j) f ∙ rest-stop s (at + 1) (symbol1 a) (drafted (fields i (numberOf (a ∷ [])) 0 0 0 (pos 0) 0) μ) kb (omega arith) (rw (g, h)) refl
         split false true false false false e f g h j = rest-stop s at (isotope 0) m ka (omega arith) (ends a j (no-mark a e f)) refl
 
 -- ---- the ways through the symbol of a bracket
@@ -143,7 +143,7 @@ unfolding next resting symbolOr symbols starts marks among
 symbol-zero s at l k e = record {
   within = l;
   later = omega arith;
-  is = λ μ i. rest-stop s at (isotope 0) (drafted (fields i 0 0 0 (pos 0) 0) μ) k l (ap (next (isotope 0)) e) refl;
+  is = λ μ i. rest-stop s at (isotope 0) (drafted (fields i 0 0 0 0 (pos 0) 0) μ) k l (ap (next (isotope 0)) e) refl;
 }
 
 module _ (s : List ℕ) (at : ℕ) {a b : ℕ} (ka : Peeked s at a) (kb : Peeked s (at + 1) b) (n : a ≡ 0 → ⊥) where
@@ -151,7 +151,7 @@ module _ (s : List ℕ) (at : ℕ) {a b : ℕ} (ka : Peeked s at a) (kb : Peeked
   inside = some-in ka n
 
   module _ {r : Symbol} (e : symbolOf a b ≡ r) where
-    said : (μ : Memory) (i : ℕ) → restIn s μ at (isotope 0) (fields i 0 0 0 (pos 0) 0) ≡ afterSymbol s at ka kb inside μ i r
+    said : (μ : Memory) (i : ℕ) → restIn s μ at (isotope 0) (fields i 0 0 0 0 (pos 0) 0) ≡ afterSymbol s at ka kb inside μ i r
     said μ i = symbol-rest s at ka kb inside μ i ∙ ap (afterSymbol s at ka kb inside μ i) e
 
   pub symbol-long : {e : ℕ} → symbolOf a b ≡ Long e → Symbolled s at (Named.Value e 0 (at + 2))

@@ -38,7 +38,7 @@ use Rattle.reading_fields.specs.declared.spelled.Spelled.{Spelled}
 use Rattle.reading_fields.specs.declared.bracket.Bracket.{Bracket}
 use Rattle.reading_fields.proofs.Rest.{rest-stop, rest-to, alike, alike-dead}
 use Rattle.reading_fields.proofs.Element.{selected-letter, selectedLetters}
-use Rattle.reading_fields.proofs.Again.{atom-again}
+use Rattle.table.proofs.Rows.{with-atom-twice}
 
 -- A and T
 abbrev halfMode : ℕ → Mode
@@ -168,7 +168,7 @@ module _ (s : List ℕ) (at : ℕ) {b : ℕ} (k : Peeked s at b) (l : at < lengt
           blank,
           first-step h f μ a (ap (λ (ν : Memory). ν .st .depth) (d μ)) ∙ ap (rest s (at + 1) m) (d μ)
               ∙ rest-to s (at + 1) m (described (bareRow e 0) (begun 1 μ)) j w g (r (described (bareRow e 0) (begun 1 μ))) refl
-              ∙ rw (t, atom-again (μ .atoms) (μ .st .atoms) (bareRow e 0) (bareRow n 0)),
+              ∙ rw (t, with-atom-twice (μ .atoms) (μ .st .atoms) (bareRow e 0) (bareRow n 0)),
         );
       }
 
@@ -239,9 +239,9 @@ unfolding letterOf selectedOf letters among
 spells-zero s at l k e = spells-nothing s at l k (ap letterOf e)
 
 -- ---- rows in the cells of a table
-pub bare-row : (e y : ℕ) → e < 256 → y < 256 → _≡_ {A = Atom} (record { element = toZ w32 e; selected = toZ w32 y; isotope = pos 0; hydrogens = pos 0; charge = pos 0; extension = pos 0 }) (bareRow e y)
+pub bare-row : (e y : ℕ) → e < 256 → y < 256 → _≡_ {A = Atom} (record { element = toZ w32 e; selected = toZ w32 y; isotope = pos 0; hydrogens = pos 0; charge = pos 0; extension = pos 0; mark = pos 0 }) (bareRow e y)
 bare-row e y h k = rw (toZ-pos w32 {n = e} (omega arith), toZ-pos w32 {n = y} (omega arith))
 
-pub field-row : (f : Fields) {c : ℤ} → f .element < 65536 → f .selected < 65536 → f .isotope < 65536 → f .hydrogens < 65536 → f .extension < 65536 → c ≡ f .charge
-    → _≡_ {A = Atom} (record { element = toZ w32 (f .element); selected = toZ w32 (f .selected); isotope = toZ w32 (f .isotope); hydrogens = toZ w32 (f .hydrogens); charge = c; extension = toZ w32 (f .extension) }) (rowOf f)
-field-row f he hy hi hh hx e = simp (toZ-pos w32 {n = f .element} (omega arith), toZ-pos w32 {n = f .selected} (omega arith), toZ-pos w32 {n = f .isotope} (omega arith), toZ-pos w32 {n = f .hydrogens} (omega arith), toZ-pos w32 {n = f .extension} (omega arith), e)
+pub field-row : (f : Fields) {c : ℤ} → f .element < 65536 → f .selected < 65536 → f .isotope < 65536 → f .hydrogens < 65536 → f .extension < 65536 → f .mark < 65536 → c ≡ f .charge
+    → _≡_ {A = Atom} (record { element = toZ w32 (f .element); selected = toZ w32 (f .selected); isotope = toZ w32 (f .isotope); hydrogens = toZ w32 (f .hydrogens); charge = c; extension = toZ w32 (f .extension); mark = toZ w32 (f .mark) }) (rowOf f)
+field-row f he hy hi hh hx hm e = simp (toZ-pos w32 {n = f .element} (omega arith), toZ-pos w32 {n = f .selected} (omega arith), toZ-pos w32 {n = f .isotope} (omega arith), toZ-pos w32 {n = f .hydrogens} (omega arith), toZ-pos w32 {n = f .extension} (omega arith), toZ-pos w32 {n = f .mark} (omega arith), e)

@@ -3,5 +3,4 @@ pub mod Bytes
 pub mod Fields
 pub mod Element
 pub mod Chain
-pub mod Again
 pub mod Letters

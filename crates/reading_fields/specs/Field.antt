@@ -9,7 +9,7 @@ use Rattle.element.specs.Symbols.{among}
 use Rattle.reading_grammar.specs.Grammar.{digits}
 use Rattle.reading_grammar.specs.declared.Last.the-variants.{Plain as plain}
 use Rattle.reading_grammar.specs.declared.Mode.{Mode}
-use Rattle.reading_grammar.specs.declared.Mode.the-variants.{Seq as seq, Bracket as bracket, Isotope as isotope, Symbolled as symbolled, Hydrogens as hydrogens, Charged as charged, Extension as extension}
+use Rattle.reading_grammar.specs.declared.Mode.the-variants.{Seq as seq, Bracket as bracket, Isotope as isotope, Symbolled as symbolled, At2 as at2, Hydrogens as hydrogens, Charged as charged, Extension as extension}
 use Rattle.reading_grammar.specs.Fold.{Verdict, bad}
 use Rattle.reading_state.specs.declared.Fields.{Fields}
 use Rattle.reading.specs.Memory.{Memory, blank, rowOf, drafted, described}
@@ -50,8 +50,8 @@ namedEnd (Named.Value e y p) = p
 namedEnd (Named.Refused p) = p
 
 -- the fields, in the order of the bracket
-abbrev pub fields : ℕ → ℕ → ℕ → ℕ → ℤ → ℕ → Fields
-fields i e y h c x = record { element = e; selected = y; isotope = i; hydrogens = h; charge = c; extension = x }
+abbrev pub fields : ℕ → ℕ → ℕ → ℕ → ℕ → ℤ → ℕ → Fields
+fields i e y k h c x = record { element = e; selected = y; isotope = i; hydrogens = h; charge = c; extension = x; mark = k }
 
 -- what is left to read from an offset in a mode, with these fields
 abbrev pub restIn : List ℕ → Memory → ℕ → Mode → Fields → Verdict Memory
@@ -78,27 +78,33 @@ afterBracket s μ (Bracket.Refused p) = bad 3 p
 pub record Isotoped (s : List ℕ) (at : ℕ) (r : Field) : Type 0 where
   pub within : fieldEnd r ≤ length s
   pub later : at ≤ fieldEnd r
-  pub is : (μ : Memory) → restIn s μ at bracket blank ≡ afterField r (λ v p. restIn s μ p (isotope 0) (fields v 0 0 0 (pos 0) 0))
+  pub is : (μ : Memory) → restIn s μ at bracket blank ≡ afterField r (λ v p. restIn s μ p (isotope 0) (fields v 0 0 0 0 (pos 0) 0))
 
 pub record Symbolled (s : List ℕ) (at : ℕ) (r : Named) : Type 0 where
   pub within : namedEnd r ≤ length s
   pub later : at ≤ namedEnd r
-  pub is : (μ : Memory) (i : ℕ) → restIn s μ at (isotope 0) (fields i 0 0 0 (pos 0) 0) ≡ afterNamed r (λ e y p. restIn s μ p symbolled (fields i e y 0 (pos 0) 0))
+  pub is : (μ : Memory) (i : ℕ) → restIn s μ at (isotope 0) (fields i 0 0 0 0 (pos 0) 0) ≡ afterNamed r (λ e y p. restIn s μ p symbolled (fields i e y 0 0 (pos 0) 0))
+
+-- after a mark, which is never refused, no `@` may come
+pub record Marked (s : List ℕ) (at : ℕ) (r : Number) : Type 0 where
+  pub within : r .at ≤ length s
+  pub later : at ≤ r .at
+  pub is : (μ : Memory) (i e y : ℕ) → restIn s μ at symbolled (fields i e y 0 0 (pos 0) 0) ≡ restIn s μ (r .at) at2 (fields i e y (r .value) 0 (pos 0) 0)
 
 pub record Hydrogened (s : List ℕ) (at : ℕ) (r : Field) : Type 0 where
   pub within : fieldEnd r ≤ length s
   pub later : at ≤ fieldEnd r
-  pub is : (μ : Memory) (i e y : ℕ) → restIn s μ at symbolled (fields i e y 0 (pos 0) 0) ≡ afterField r (λ v p. restIn s μ p hydrogens (fields i e y v (pos 0) 0))
+  pub is : (μ : Memory) (i e y k : ℕ) → restIn s μ at at2 (fields i e y k 0 (pos 0) 0) ≡ afterField r (λ v p. restIn s μ p hydrogens (fields i e y k v (pos 0) 0))
 
 pub record Charged (s : List ℕ) (at : ℕ) (r : Charge) : Type 0 where
   pub within : chargeEnd r ≤ length s
   pub later : at ≤ chargeEnd r
-  pub is : (μ : Memory) (i e y h : ℕ) → restIn s μ at hydrogens (fields i e y h (pos 0) 0) ≡ afterCharge r (λ v p. restIn s μ p charged (fields i e y h v 0))
+  pub is : (μ : Memory) (i e y k h : ℕ) → restIn s μ at hydrogens (fields i e y k h (pos 0) 0) ≡ afterCharge r (λ v p. restIn s μ p charged (fields i e y k h v 0))
 
 pub record Extended (s : List ℕ) (at : ℕ) (r : Field) : Type 0 where
   pub within : fieldEnd r ≤ length s
   pub later : at ≤ fieldEnd r
-  pub is : (μ : Memory) (i e y h : ℕ) (c : ℤ) → restIn s μ at charged (fields i e y h c 0) ≡ afterField r (λ v p. restIn s μ p (extension 0) (fields i e y h c v))
+  pub is : (μ : Memory) (i e y k h : ℕ) (c : ℤ) → restIn s μ at charged (fields i e y k h c 0) ≡ afterField r (λ v p. restIn s μ p (extension 0) (fields i e y k h c v))
 
 abbrev pub bracketEnd : Bracket → ℕ
 bracketEnd (Bracket.Row f p) = p

@@ -6,7 +6,7 @@ ghost use lib.Dec.{eqb};
 ghost use mir.Val.{SFits};
 ghost use mir.Syntax.{w32};
 ghost use Rattle.reading.specs.Bracket.{signed};
-ghost use Rattle.reading_fields.specs.Field.{fieldEnd, chargeEnd, namedEnd, Isotoped, Symbolled, Hydrogened, Charged, Extended, Bracketed};
+ghost use Rattle.reading_fields.specs.Field.{fieldEnd, chargeEnd, namedEnd, Isotoped, Symbolled, Marked, Hydrogened, Charged, Extended, Bracketed};
 use crate::byte::Number;
 use crate::byte::is_digit;
 use crate::byte::is_nonzero;
@@ -78,6 +78,26 @@ pub fn symbol_at(s: &[u8], at: usize) -> Named
         Symbol::Selected(e) => Named::Value(e as u16, 1, at + 1),
         Symbol::Half => Named::Refused(at + 1),
         Symbol::Nothing => Named::Refused(at),
+    }
+}
+
+// internal: the mark: `@` is 1, `@@` is 2, and 0 where there is none.
+pub fn mark_at(s: &[u8], at: usize) -> Number
+    requires { ⌜ at ≤ length (now s) ⌝ }
+    ensures { λ r. ⌜ Marked (now (s .entry)) at r ⌝ }
+{
+    if peek(s, at) != 64 {
+        return Number { value: 0, at };
+    }
+    if peek(s, at + 1) != 64 {
+        return Number {
+            value: 1,
+            at: at + 1,
+        };
+    }
+    Number {
+        value: 2,
+        at: at + 2,
     }
 }
 
@@ -194,7 +214,8 @@ pub fn bracket_at(s: &[u8], at: usize) -> Bracket
     let Named::Value(element, selected, q) = y else {
         return Bracket::Refused(named_end(y));
     };
-    let h = hydrogens_at(s, q);
+    let k = mark_at(s, q);
+    let h = hydrogens_at(s, k.at);
     let Field::Value(hydrogens, u) = h else {
         return Bracket::Refused(field_end(h));
     };
@@ -214,6 +235,7 @@ pub fn bracket_at(s: &[u8], at: usize) -> Bracket
             hydrogens,
             charge,
             extension,
+            mark: k.value,
         };
         return Bracket::Row(row, w + 1);
     }

@@ -32,6 +32,7 @@ fn bare(e: u8, selected: u8) -> Atom
         hydrogens: 0,
         charge: 0,
         extension: 0,
+        mark: 0,
     }
 }
 
@@ -46,6 +47,7 @@ fn row_of(f: Fields) -> Atom
         hydrogens: f.hydrogens as i32,
         charge: f.charge,
         extension: f.extension as i32,
+        mark: f.mark as i32,
     }
 }
 

@@ -1,15 +1,13 @@
 -- The machine reads each text of the grammar: by induction on its derivation.
-use mathlib.Core.Path.{_≡_, refl, sym, ap, subst, _∙_}
-use mathlib.Core.Bool.{Bool, true, false, not}
+use mathlib.Core.Path.{_≡_, refl, sym, ap, _∙_}
+use mathlib.Core.Bool.{Bool, true, false}
 use mathlib.Core.List.{List, [], _∷_, _++_}
 use Prim.Native.Nat.{ℕ, zero, suc}
-use native.Mathlib.Omega.{arith}
 use lib.Dec.{eqb, leb}
-use borrow.Author.Tests.{eqb-true, eq-eqb}
 use Rattle.reading_grammar.specs.Grammar
-use Rattle.reading_grammar.specs.Grammar.{starts, pick, among, listed, sameBytes, nonzero, digits, several, bondSymbols, signs, letters, marks, symbols, Digits, Number, number, Isotope, Symbol, mark, element, Hydrogens, Charge, Extension, Atom, letter, Cl, Br, At, Ts, Bridge, short, long, Bond, elided, Joint, Sequence, sequence, Pieces, Piece, branch, Text, empty, text}
-use Rattle.reading_grammar.specs.Machine.{Last, plain, afterC, afterB, Mode, seq, bond, atomNext, inside, percent, percent1, letterA, letterT, bracket, isotope, symbol1, symbolled, hydrogen, hydrogens, sign, charged, colon, extension, Move, stop, to, up, down, MachineState, dead, start, at, lastOf, goesOn, atomOr, bridgeOr, closing, extending, charging, hydrating, symbolOr, next, turn, step, run, resting, accepting}
-use Rattle.reading_grammar.proofs.Ends.{EndExtension, EndCharge, EndHydrogens, EndSymbol, EndIsotope, All, each, never, run-append, run-dead, all, all-listed}
+use Rattle.reading_grammar.specs.Grammar.{starts, pick, among, listed, sameBytes, nonzero, digits, several, bondSymbols, signs, letters, marks, symbols, Digits, number, Isotope, mark, element, Tetrahedral, Hydrogens, Charge, Extension, Atom, letter, Cl, Br, At, Ts, Bridge, short, long, Bond, elided, Joint, Sequence, sequence, Pieces, Piece, branch, Text, empty, text}
+use Rattle.reading_grammar.specs.Machine.{Last, plain, afterC, afterB, Mode, seq, bond, atomNext, inside, percent, percent1, letterA, letterT, bracket, isotope, symbol1, symbolled, at1, at2, hydrogen, hydrogens, sign, charged, colon, extension, Move, stop, to, up, down, MachineState, start, at, lastOf, atomOr, bridgeOr, closing, extending, charging, hydrating, marking, symbolOr, next, turn, step, run, resting, accepting}
+use Rattle.reading_grammar.proofs.Ends.{EndExtension, EndCharge, EndHydrogens, EndMark, EndSymbol, EndIsotope, All, each, never, run-append, all, all-listed}
 
 -- the machine goes from a state to a state over the bytes
 pub record Runs (σ : MachineState) (s : List ℕ) (τ : MachineState) : Type 0 where
@@ -82,6 +80,15 @@ takes-hydrogens m g93 g58 g43 g45 g72 (EndHydrogens.ends Hydrogens.one x) =
 takes-hydrogens m g93 g58 g43 g45 g72 (EndHydrogens.ends (Hydrogens.many {d = b} e) x) =
     via g72 (via (hydrogen-digit b e) (takes-charge hydrogens (record { is = refl }) (record { is = refl }) (record { is = refl }) (record { is = refl }) x))
 
+takes-mark : (m : Mode) {d : ℕ} {t : List ℕ} → Goes m 93 (to (seq plain)) → Goes m 58 (to colon) → Goes m 43 (to sign) → Goes m 45 (to sign) → Goes m 72 (to hydrogen) → Goes m 64 (to at1)
+    → EndMark t → Runs (at m d) t (at (seq plain) d)
+unfolding next hydrating charging extending closing among several signs
+takes-mark m g93 g58 g43 g45 g72 g64 (EndMark.ends Tetrahedral.none x) = takes-hydrogens m g93 g58 g43 g45 g72 x
+takes-mark m g93 g58 g43 g45 g72 g64 (EndMark.ends Tetrahedral.one x) =
+    via g64 (takes-hydrogens at1 (record { is = refl }) (record { is = refl }) (record { is = refl }) (record { is = refl }) (record { is = refl }) x)
+takes-mark m g93 g58 g43 g45 g72 g64 (EndMark.ends Tetrahedral.two x) =
+    via g64 (via (record { is = refl }) (takes-hydrogens at2 (record { is = refl }) (record { is = refl }) (record { is = refl }) (record { is = refl }) (record { is = refl }) x))
+
 -- symbols have one letter or two, and the second is a small one
 shaped : List ℕ → Bool
 shaped [] = false
@@ -111,7 +118,7 @@ listed-starts a r ((b ∷ t) ∷ l) h = split (eqb a b) h (listed-starts a r l)
     split true h k = refl
     split false h k = k h
 
-alone : (a b : ℕ) {o : Move} → listed (a ∷ []) symbols ≡ true → leb 97 b ≡ false → hydrating b ≡ o → Goes (symbol1 a) b o
+alone : (a b : ℕ) {o : Move} → listed (a ∷ []) symbols ≡ true → leb 97 b ≡ false → marking b ≡ o → Goes (symbol1 a) b o
 unfolding next
 alone a b e h g = record { is = rw (no-second a b h, e) g }
 
@@ -134,20 +141,20 @@ pair-goes : (a b : ℕ) → listed (a ∷ b ∷ []) symbols ≡ true → Goes (s
 unfolding next
 pair-goes a b e = record { is = rw e }
 
-pub takes-element : (m : Mode) {d : ℕ} (y : List ℕ) {t : List ℕ} → Symbols m → listed y symbols ≡ true → EndHydrogens t → Runs (at m d) (y ++ t) (at (seq plain) d)
-unfolding next hydrating charging extending closing among several signs shaped
+pub takes-element : (m : Mode) {d : ℕ} (y : List ℕ) {t : List ℕ} → Symbols m → listed y symbols ≡ true → EndMark t → Runs (at m d) (y ++ t) (at (seq plain) d)
+unfolding next marking hydrating charging extending closing among several signs shaped
 takes-element m [] w e x = never (symbol-shaped [] e)
 takes-element m (a ∷ []) w e x =
-    via (goes w (on-element a [] e)) (takes-hydrogens (symbol1 a) (alone a 93 e refl refl) (alone a 58 e refl refl) (alone a 43 e refl refl) (alone a 45 e refl refl) (alone a 72 e refl refl) x)
+    via (goes w (on-element a [] e)) (takes-mark (symbol1 a) (alone a 93 e refl refl) (alone a 58 e refl refl) (alone a 43 e refl refl) (alone a 45 e refl refl) (alone a 72 e refl refl) (alone a 64 e refl refl) x)
 takes-element m (a ∷ b ∷ []) w e x =
     via (goes w (on-element a (b ∷ []) e)) (via (pair-goes a b e)
-    (takes-hydrogens symbolled (record { is = refl }) (record { is = refl }) (record { is = refl }) (record { is = refl }) (record { is = refl }) x))
+    (takes-mark symbolled (record { is = refl }) (record { is = refl }) (record { is = refl }) (record { is = refl }) (record { is = refl }) (record { is = refl }) x))
 takes-element m (a ∷ b ∷ c ∷ s) w e x = never (symbol-shaped (a ∷ b ∷ c ∷ s) e)
 
 takes-symbol : (m : Mode) {d : ℕ} {t : List ℕ} → Symbols m → EndSymbol t → Runs (at m d) t (at (seq plain) d)
-unfolding next hydrating charging extending closing among several signs
+unfolding next marking hydrating charging extending closing among several signs
 takes-symbol m w (EndSymbol.ends (mark {b} e) x) =
-    via (goes w (on-mark b e)) (takes-hydrogens symbolled (record { is = refl }) (record { is = refl }) (record { is = refl }) (record { is = refl }) (record { is = refl }) x)
+    via (goes w (on-mark b e)) (takes-mark symbolled (record { is = refl }) (record { is = refl }) (record { is = refl }) (record { is = refl }) (record { is = refl }) (record { is = refl }) x)
 takes-symbol m w (EndSymbol.ends (element {s} e) x) = takes-element m s w e x
 
 symbols-isotope : (n : ℕ) → Symbols (isotope n)
@@ -195,9 +202,9 @@ takes-atom w Cl = record { last = plain; runs = by-atom 67 (to (seq afterC)) w (
 takes-atom w Br = record { last = plain; runs = by-atom 66 (to (seq afterB)) w (λ k. refl) (via (record { is = refl }) stay) }
 takes-atom w At = record { last = plain; runs = by-atom 65 (to letterA) w (λ k. refl) (via (record { is = refl }) stay) }
 takes-atom w Ts = record { last = plain; runs = by-atom 84 (to letterT) w (λ k. refl) (via (record { is = refl }) stay) }
-takes-atom w (Atom.bracket i y h c e) = record {
+takes-atom w (Atom.bracket i y k h c e) = record {
   last = plain;
-  runs = by-atom 91 (to bracket) w (λ k. refl) (takes-bracket (EndIsotope.ends i (EndSymbol.ends y (EndHydrogens.ends h (EndCharge.ends c (EndExtension.ends e))))));
+  runs = by-atom 91 (to bracket) w (λ o. refl) (takes-bracket (EndIsotope.ends i (EndSymbol.ends y (EndMark.ends k (EndHydrogens.ends h (EndCharge.ends c (EndExtension.ends e)))))));
 }
 
 -- where atoms may begin

@@ -2,11 +2,11 @@
 use mathlib.Core.Path.{_≡_, refl, sym, ap, subst, _∙_}
 use mathlib.Core.Bool.{Bool, true, false}
 use mathlib.Core.List.{List, [], _∷_, _++_}
-use Prim.Native.Nat.{ℕ, zero, suc}
+use Prim.Native.Nat.{ℕ}
 use native.Mathlib.Omega.{arith}
 use lib.Dec.{eqb}
-use borrow.Author.Tests.{eqb-true, eq-eqb}
-use Rattle.reading_grammar.specs.Grammar.{pick, among, listed, sameBytes, symbols, Digits, Number, Isotope, Symbol, Hydrogens, Charge, Extension}
+use borrow.Author.Tests.{eqb-true}
+use Rattle.reading_grammar.specs.Grammar.{pick, among, listed, sameBytes, Isotope, Symbol, Tetrahedral, Hydrogens, Charge, Extension}
 use Rattle.reading_grammar.specs.Machine.{MachineState, dead, run, step}
 
 pub data EndExtension : List ℕ → Type 0 where
@@ -18,8 +18,11 @@ pub data EndCharge : List ℕ → Type 0 where
 pub data EndHydrogens : List ℕ → Type 0 where
   ends : {h t : List ℕ} → Hydrogens h → EndCharge t → EndHydrogens (h ++ t)
 
+pub data EndMark : List ℕ → Type 0 where
+  ends : {k t : List ℕ} → Tetrahedral k → EndHydrogens t → EndMark (k ++ t)
+
 pub data EndSymbol : List ℕ → Type 0 where
-  ends : {y t : List ℕ} → Symbol y → EndHydrogens t → EndSymbol (y ++ t)
+  ends : {y t : List ℕ} → Symbol y → EndMark t → EndSymbol (y ++ t)
 
 pub data EndIsotope : List ℕ → Type 0 where
   ends : {i t : List ℕ} → Isotope i → EndSymbol t → EndIsotope (i ++ t)

@@ -1,10 +1,8 @@
--- Texts of 01, by computation.
+-- Texts of 01, and of 02's P8, by computation.
 use mathlib.Core.Path.{_≡_, refl}
-use mathlib.Core.Bool.{Bool, true, false}
-use mathlib.Core.List.{List, [], _∷_, map}
-use Prim.Native.Nat.{ℕ}
-use Rattle.reading_grammar.specs.Grammar.{starts, pick, among, listed, sameBytes, nonzero, digits, several, bondSymbols, signs, letters, marks, symbols}
-use Rattle.reading_grammar.specs.Machine.{verdict, Verdict, fine, refused, run, reach, step, next, accepting, resting, atomOr, bridgeOr, closing, extending, charging, hydrating, symbolOr}
+use mathlib.Core.List.{[], _∷_, map}
+use Rattle.reading_grammar.specs.Grammar.{starts, among, listed, sameBytes, nonzero, digits, several, bondSymbols, signs, letters, marks, symbols}
+use Rattle.reading_grammar.specs.Machine.{verdict, fine, refused, run, reach, step, next, accepting, resting, atomOr, bridgeOr, closing, extending, charging, hydrating, marking, symbolOr}
 
 examples : map verdict (
     ([]) ∷  -- empty
@@ -34,7 +32,13 @@ examples : map verdict (
     (65 ∷ 108 ∷ []) ∷  -- Al
     (67 ∷ 40 ∷ 46 ∷ 67 ∷ 41 ∷ []) ∷  -- C(.C)
     (67 ∷ 40 ∷ 45 ∷ 67 ∷ 41 ∷ 61 ∷ 49 ∷ 67 ∷ 35 ∷ 67 ∷ 49 ∷ []) ∷  -- C(-C)=1C#C1
+    (91 ∷ 67 ∷ 64 ∷ 93 ∷ []) ∷  -- [C@]
+    (91 ∷ 49 ∷ 51 ∷ 99 ∷ 64 ∷ 64 ∷ 72 ∷ 45 ∷ 58 ∷ 50 ∷ 93 ∷ []) ∷  -- [13c@@H-:2]
+    (91 ∷ 42 ∷ 64 ∷ 64 ∷ 93 ∷ []) ∷  -- [*@@]
+    (91 ∷ 67 ∷ 64 ∷ 64 ∷ 64 ∷ 93 ∷ []) ∷  -- [C@@@]
+    (91 ∷ 67 ∷ 64 ∷ 84 ∷ 72 ∷ 49 ∷ 93 ∷ []) ∷  -- [C@TH1]
+    (91 ∷ 67 ∷ 72 ∷ 64 ∷ 93 ∷ []) ∷  -- [CH@]
     []) ≡ (
-    fine ∷ fine ∷ fine ∷ fine ∷ fine ∷ fine ∷ fine ∷ fine ∷ fine ∷ fine ∷ fine ∷ refused 2 ∷ refused 3 ∷ refused 2 ∷ refused 2 ∷ refused 4 ∷ refused 3 ∷ refused 1 ∷ refused 1 ∷ refused 3 ∷ refused 1 ∷ refused 2 ∷ refused 2 ∷ refused 0 ∷ refused 1 ∷ fine ∷ fine ∷ [])
-unfolding verdict run reach step next accepting resting starts atomOr bridgeOr closing extending charging hydrating symbolOr among listed sameBytes nonzero digits several bondSymbols signs letters marks symbols
+    fine ∷ fine ∷ fine ∷ fine ∷ fine ∷ fine ∷ fine ∷ fine ∷ fine ∷ fine ∷ fine ∷ refused 2 ∷ refused 3 ∷ refused 2 ∷ refused 2 ∷ refused 4 ∷ refused 3 ∷ refused 1 ∷ refused 1 ∷ refused 3 ∷ refused 1 ∷ refused 2 ∷ refused 2 ∷ refused 0 ∷ refused 1 ∷ fine ∷ fine ∷ fine ∷ fine ∷ fine ∷ refused 4 ∷ refused 3 ∷ refused 3 ∷ [])
+unfolding verdict run reach step next accepting resting starts atomOr bridgeOr closing extending charging hydrating marking symbolOr among listed sameBytes nonzero digits several bondSymbols signs letters marks symbols
 examples = refl

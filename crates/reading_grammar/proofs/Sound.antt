@@ -1,14 +1,14 @@
 -- What the machine accepts is a text: what is left to read from a state that is accepted completes what was begun there.
 use mathlib.Core.Path.{_≡_, refl, sym, ap, subst, _∙_}
-use mathlib.Core.Bool.{Bool, true, false, not}
+use mathlib.Core.Bool.{Bool, true, false}
 use mathlib.Core.List.{List, [], _∷_, _++_, append-assoc}
 use Prim.Native.Nat.{ℕ, zero, suc}
 use native.Mathlib.Omega.{arith}
-use lib.Dec.{eqb, leb}
-use borrow.Author.Tests.{eqb-true, eq-eqb}
-use Rattle.reading_grammar.specs.Grammar.{starts, pick, among, listed, sameBytes, nonzero, digits, several, bondSymbols, signs, letters, marks, symbols, Digits, Number, number, Isotope, Symbol, mark, element, Hydrogens, Charge, Extension, Atom, letter, Cl, Br, At, Ts, Bridge, short, long, Bond, elided, Joint, Sequence, sequence, Pieces, Piece, branch, Text, empty, text}
-use Rattle.reading_grammar.specs.Machine.{Last, plain, afterC, afterB, Mode, seq, bond, atomNext, inside, percent, percent1, letterA, letterT, bracket, isotope, symbol1, symbolled, hydrogen, hydrogens, sign, charged, colon, extension, Move, stop, to, up, down, MachineState, dead, start, at, lastOf, goesOn, atomOr, bridgeOr, closing, extending, charging, hydrating, symbolOr, next, turn, step, run, resting, accepting}
-use Rattle.reading_grammar.proofs.Ends.{EndExtension, EndCharge, EndHydrogens, EndSymbol, EndIsotope, never, run-dead}
+use lib.Dec.{eqb}
+use borrow.Author.Tests.{eqb-true}
+use Rattle.reading_grammar.specs.Grammar.{starts, pick, among, listed, nonzero, digits, several, bondSymbols, signs, letters, marks, symbols, Digits, Number, number, Isotope, mark, element, Tetrahedral, Hydrogens, Charge, Extension, Atom, letter, Cl, Br, At, Ts, Bridge, short, long, Bond, elided, Joint, sequence, Pieces, Piece, branch, Text, empty, text}
+use Rattle.reading_grammar.specs.Machine.{Last, plain, afterC, afterB, Mode, seq, bond, atomNext, inside, percent, percent1, letterA, letterT, bracket, isotope, symbol1, symbolled, at1, at2, hydrogen, hydrogens, sign, charged, colon, extension, Move, stop, to, up, down, start, at, lastOf, goesOn, atomOr, bridgeOr, closing, extending, charging, hydrating, marking, symbolOr, next, turn, step, run, resting, accepting}
+use Rattle.reading_grammar.proofs.Ends.{EndExtension, EndCharge, EndHydrogens, EndMark, EndSymbol, EndIsotope, never, run-dead}
 
 -- what completes the item that a mode is in
 data After : Last → List ℕ → Type 0 where
@@ -36,8 +36,13 @@ data IsotopeRest : ℕ → List ℕ → Type 0 where
   ends : {n : ℕ} {s t : List ℕ} → Digits n s → EndSymbol t → IsotopeRest n (s ++ t)
 
 data SymbolRest : ℕ → List ℕ → Type 0 where
-  alone : {a : ℕ} {t : List ℕ} → listed (a ∷ []) symbols ≡ true → EndHydrogens t → SymbolRest a t
-  pair : {a b : ℕ} {t : List ℕ} → listed (a ∷ b ∷ []) symbols ≡ true → EndHydrogens t → SymbolRest a (b ∷ t)
+  alone : {a : ℕ} {t : List ℕ} → listed (a ∷ []) symbols ≡ true → EndMark t → SymbolRest a t
+  pair : {a b : ℕ} {t : List ℕ} → listed (a ∷ b ∷ []) symbols ≡ true → EndMark t → SymbolRest a (b ∷ t)
+
+-- after the first `@`
+data MarkRest : List ℕ → Type 0 where
+  none : {t : List ℕ} → EndHydrogens t → MarkRest t
+  second : {t : List ℕ} → EndHydrogens t → MarkRest (64 ∷ t)
 
 data HydrogenRest : List ℕ → Type 0 where
   none : {t : List ℕ} → EndCharge t → HydrogenRest t
@@ -65,7 +70,9 @@ Half letterT u = Is 115 u
 Half bracket u = EndIsotope u
 Half (isotope n) u = IsotopeRest n u
 Half (symbol1 a) u = SymbolRest a u
-Half symbolled u = EndHydrogens u
+Half symbolled u = EndMark u
+Half at1 u = MarkRest u
+Half at2 u = EndHydrogens u
 Half hydrogen u = HydrogenRest u
 Half hydrogens u = EndCharge u
 Half sign u = SignRest u
@@ -129,7 +136,7 @@ after-T : {u : List ℕ} (b : ℕ) → eqb b 84 ≡ true → Is 115 u → Atom (
 after-T b e is = subst (λ (c : ℕ). Atom (c ∷ 115 ∷ [])) (sym (eqb-true b 84 e)) Ts
 
 bracket-atom : {u : List ℕ} → EndIsotope u → Atom (91 ∷ u)
-bracket-atom (EndIsotope.ends i (EndSymbol.ends y (EndHydrogens.ends h (EndCharge.ends c (EndExtension.ends e))))) = Atom.bracket i y h c e
+bracket-atom (EndIsotope.ends i (EndSymbol.ends y (EndMark.ends k (EndHydrogens.ends h (EndCharge.ends c (EndExtension.ends e)))))) = Atom.bracket i y k h c e
 
 after-[ : {u : List ℕ} (b : ℕ) → eqb b 91 ≡ true → EndIsotope u → Atom (b ∷ u)
 after-[ {u} b e x = subst (λ (c : ℕ). Atom (c ∷ u)) (sym (eqb-true b 91 e)) (bracket-atom x)
@@ -200,6 +207,15 @@ at-hydrating : (d : ℕ) (s : List ℕ) (b : ℕ) → RestOut (hydrating b) d s 
 unfolding hydrating
 at-hydrating d s b h = on-pick d s (eqb b 72) _ _ h (λ e x. from-rest (hydrogen-ends b (eqb-true b 72 e)) x)
     λ h. map-ends (λ u x. EndHydrogens.ends Hydrogens.none x) (at-charging d s b h)
+
+mark-ends : (b : ℕ) → b ≡ 64 → (u : List ℕ) → MarkRest u → EndMark (b ∷ u)
+mark-ends b q u (MarkRest.none x) = subst (λ (c : ℕ). EndMark (c ∷ u)) (sym q) (EndMark.ends Tetrahedral.one x)
+mark-ends b q u (MarkRest.second {t} x) = subst (λ (c : ℕ). EndMark (c ∷ 64 ∷ t)) (sym q) (EndMark.ends Tetrahedral.two x)
+
+at-marking : (d : ℕ) (s : List ℕ) (b : ℕ) → RestOut (marking b) d s → Ends EndMark d (b ∷ s)
+unfolding marking
+at-marking d s b h = on-pick d s (eqb b 64) _ _ h (λ e x. from-rest (mark-ends b (eqb-true b 64 e)) x)
+    λ h. map-ends (λ u x. EndMark.ends Tetrahedral.none x) (at-hydrating d s b h)
 
 symbol-ends : (b : ℕ) (u : List ℕ) → SymbolRest b u → EndSymbol (b ∷ u)
 symbol-ends b u (SymbolRest.alone e x) = EndSymbol.ends (element e) x
@@ -306,8 +322,12 @@ back (isotope (suc n)) d s b h =
     on-pick d s (among b digits) _ _ h (λ e y. map-rest (digit-iso e) y) λ z. absurd z
 back (symbol1 a) d s b h =
     on-pick d s (listed (a ∷ b ∷ []) symbols) _ _ h (λ e y. map-rest (λ u x. SymbolRest.pair e x) y) λ h.
-    on-pick d s (listed (a ∷ []) symbols) _ _ h (λ e y. to-rest (map-ends (λ u x. SymbolRest.alone e x) (at-hydrating d s b y))) λ z. absurd z
-back symbolled d s b h = to-rest (at-hydrating d s b h)
+    on-pick d s (listed (a ∷ []) symbols) _ _ h (λ e y. to-rest (map-ends (λ u x. SymbolRest.alone e x) (at-marking d s b y))) λ z. absurd z
+back symbolled d s b h = to-rest (at-marking d s b h)
+back at1 d s b h =
+    on-pick d s (eqb b 64) _ _ h (λ e y. at-byte (λ c. Rest at1 d (c ∷ s)) b 64 e (map-rest (λ u x. MarkRest.second x) y)) λ h.
+    to-rest (map-ends (λ u x. MarkRest.none x) (at-hydrating d s b h))
+back at2 d s b h = to-rest (at-hydrating d s b h)
 back hydrogen d s b h =
     on-pick d s (among b several) _ _ h (λ e y. map-rest (λ u x. HydrogenRest.digit e x) y) λ h.
     to-rest (map-ends (λ u x. HydrogenRest.none x) (at-charging d s b h))
@@ -347,6 +367,8 @@ at-end bracket d h = never h
 at-end (isotope n) d h = never h
 at-end (symbol1 a) d h = never h
 at-end symbolled d h = never h
+at-end at1 d h = never h
+at-end at2 d h = never h
 at-end hydrogen d h = never h
 at-end hydrogens d h = never h
 at-end sign d h = never h

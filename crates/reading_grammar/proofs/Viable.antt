@@ -1,20 +1,20 @@
 -- A live state can be completed and a dead one cannot; the place of the machine's refusal is that of the grammar.
 use mathlib.Core.Path.{_≡_, refl, sym, ap, subst, _∙_}
-use mathlib.Core.Bool.{Bool, true, false, not}
+use mathlib.Core.Bool.{Bool, true, false}
 use mathlib.Core.Logic.{_↔_}
-use mathlib.Core.List.{List, [], _∷_, _++_, append-assoc}
+use mathlib.Core.List.{List, [], _∷_, _++_}
 use Prim.Native.Nat.{ℕ, zero, suc, _≤_, _<_}
 use native.Mathlib.Omega.{arith}
 use native.Mathlib.Decide.{decLt, ℕ-discrete}
-use lib.Dec.{eqb, leb}
+use lib.Dec.{eqb}
 use lib.ListN.{length, take, drop, replicate, take-append-drop}
-use borrow.Author.Tests.{eqb-true, eq-eqb}
-use Rattle.reading_grammar.specs.Grammar.{starts, pick, among, listed, sameBytes, nonzero, digits, several, bondSymbols, signs, letters, marks, symbols, Hydrogens, Charge, Extension, Text}
-use Rattle.reading_grammar.specs.Machine.{Last, plain, afterC, afterB, Mode, seq, bond, atomNext, inside, percent, percent1, letterA, letterT, bracket, isotope, symbol1, symbolled, hydrogen, hydrogens, sign, charged, colon, extension, Move, stop, to, up, down, MachineState, dead, start, at, lastOf, goesOn, atomOr, bridgeOr, closing, extending, charging, hydrating, symbolOr, next, turn, step, run, resting, accepting, alive, reach, Verdict, fine, refused, verdict}
+use borrow.Author.Tests.{eq-eqb}
+use Rattle.reading_grammar.specs.Grammar.{starts, pick, among, listed, sameBytes, nonzero, digits, several, bondSymbols, signs, letters, marks, symbols, Tetrahedral, Hydrogens, Charge, Extension, Text}
+use Rattle.reading_grammar.specs.Machine.{Last, plain, afterC, afterB, Mode, seq, bond, atomNext, inside, percent, percent1, letterA, letterT, bracket, isotope, symbol1, symbolled, at1, at2, hydrogen, hydrogens, sign, charged, colon, extension, Move, stop, to, up, down, MachineState, dead, start, at, goesOn, atomOr, bridgeOr, closing, extending, charging, hydrating, marking, symbolOr, next, turn, step, run, resting, accepting, alive, reach, fine, refused, verdict}
 use Rattle.reading_grammar.specs.Place.{Viable, Place}
 use Rattle.reading_grammar.specs.Completion.{restOf, fill, completion}
-use Rattle.reading_grammar.proofs.Ends.{EndExtension, EndCharge, EndHydrogens, never, run-append, run-dead}
-use Rattle.reading_grammar.proofs.Complete.{Runs, Goes, Reaches, via, stay, along, onward, one-down, takes-element, takes-bracket, on-element, complete}
+use Rattle.reading_grammar.proofs.Ends.{EndExtension, EndCharge, EndHydrogens, EndMark, never, run-append, run-dead}
+use Rattle.reading_grammar.proofs.Complete.{Runs, Reaches, via, stay, onward, one-down, takes-element, on-element, complete}
 use Rattle.reading_grammar.proofs.Sound.{sound}
 
 -- ---- every state that is reached is sane: the letter that begins a symbol does begin one
@@ -31,6 +31,8 @@ sane bracket = true
 sane (isotope n) = true
 sane (symbol1 a) = starts a symbols
 sane symbolled = true
+sane at1 = true
+sane at2 = true
 sane hydrogen = true
 sane hydrogens = true
 sane sign = true
@@ -81,6 +83,10 @@ sane-hydrating : (b : ℕ) → saneOut (hydrating b) ≡ true
 unfolding hydrating sane
 sane-hydrating b = either (eqb b 72) _ _ (λ e. refl) (sane-charging b)
 
+sane-marking : (b : ℕ) → saneOut (marking b) ≡ true
+unfolding marking sane
+sane-marking b = either (eqb b 64) _ _ (λ e. refl) (sane-hydrating b)
+
 sane-last : (x : Last) (b : ℕ) → saneOut (goesOn x b) ≡ true
 unfolding sane
 sane-last plain b = refl
@@ -100,8 +106,10 @@ sane-next letterT b = either (eqb b 115) _ _ (λ e. refl) refl
 sane-next bracket b = sane-symbol b _ (either (among b nonzero) _ _ (λ e. refl) refl)
 sane-next (isotope zero) b = sane-symbol b _ refl
 sane-next (isotope (suc n)) b = sane-symbol b _ (either (among b digits) _ _ (λ e. refl) refl)
-sane-next (symbol1 a) b = either (listed (a ∷ b ∷ []) symbols) _ _ (λ e. refl) (either (listed (a ∷ []) symbols) _ _ (λ e. sane-hydrating b) refl)
-sane-next symbolled b = sane-hydrating b
+sane-next (symbol1 a) b = either (listed (a ∷ b ∷ []) symbols) _ _ (λ e. refl) (either (listed (a ∷ []) symbols) _ _ (λ e. sane-marking b) refl)
+sane-next symbolled b = sane-marking b
+sane-next at1 b = either (eqb b 64) _ _ (λ e. refl) (sane-hydrating b)
+sane-next at2 b = sane-hydrating b
 sane-next hydrogen b = either (among b several) _ _ (λ e. refl) (sane-charging b)
 sane-next hydrogens b = sane-charging b
 sane-next sign b = either (among b several) _ _ (λ e. refl) (sane-extending b)
@@ -146,8 +154,8 @@ starts-listed a ((b ∷ t) ∷ l) h = split (eqb a b) h (starts-listed a l)
     split true h k = rw (same-refl t)
     split false h k = k h
 
-plain-end : EndHydrogens (93 ∷ [])
-plain-end = EndHydrogens.ends Hydrogens.none (EndCharge.ends Charge.none (EndExtension.ends Extension.none))
+plain-end : EndMark (93 ∷ [])
+plain-end = EndMark.ends Tetrahedral.none (EndHydrogens.ends Hydrogens.none (EndCharge.ends Charge.none (EndExtension.ends Extension.none)))
 
 fill-symbol : (a d : ℕ) → starts a symbols ≡ true → Runs (at (symbol1 a) d) (restOf a symbols ++ 93 ∷ []) (at (seq plain) d)
 unfolding next run step
@@ -157,7 +165,7 @@ fill-symbol a d h =
     record { is = ap (λ (o : Move). run (turn o d) (restOf a symbols ++ 93 ∷ [])) (sym (on-element a (restOf a symbols) e _)) ∙ q .is }
 
 fills : (m : Mode) (d : ℕ) → sane m ≡ true → Reaches (at m d) (fill m) d
-unfolding sane fill next run step atomOr bridgeOr among letters bondSymbols nonzero digits several signs symbolOr starts symbols closing extending charging hydrating listed sameBytes marks
+unfolding sane fill next run step atomOr bridgeOr among letters bondSymbols nonzero digits several signs symbolOr starts symbols closing extending charging hydrating marking listed sameBytes marks
 fills (seq x) d h = record { last = x; runs = stay }
 fills bond d h = record { last = afterC; runs = record { is = refl } }
 fills atomNext d h = record { last = afterC; runs = record { is = refl } }
@@ -171,6 +179,8 @@ fills (isotope zero) d h = record { last = plain; runs = record { is = refl } }
 fills (isotope (suc n)) d h = record { last = plain; runs = record { is = refl } }
 fills (symbol1 a) d h = record { last = plain; runs = fill-symbol a d h }
 fills symbolled d h = record { last = plain; runs = record { is = refl } }
+fills at1 d h = record { last = plain; runs = record { is = refl } }
+fills at2 d h = record { last = plain; runs = record { is = refl } }
 fills hydrogen d h = record { last = plain; runs = record { is = refl } }
 fills hydrogens d h = record { last = plain; runs = record { is = refl } }
 fills sign d h = record { last = plain; runs = record { is = refl } }

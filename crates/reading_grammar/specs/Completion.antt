@@ -4,7 +4,7 @@ use Prim.Native.Nat.{ℕ, zero, suc}
 use lib.Dec.{eqb}
 use lib.ListN.{replicate}
 use Rattle.reading_grammar.specs.Grammar.{pick, symbols}
-use Rattle.reading_grammar.specs.Machine.{Mode, seq, bond, atomNext, inside, percent, percent1, letterA, letterT, bracket, isotope, symbol1, symbolled, hydrogen, hydrogens, sign, charged, colon, extension, MachineState, dead, start, at}
+use Rattle.reading_grammar.specs.Machine.{Mode, seq, bond, atomNext, inside, percent, percent1, letterA, letterT, bracket, isotope, symbol1, symbolled, at1, at2, hydrogen, hydrogens, sign, charged, colon, extension, MachineState, dead, start, at}
 
 -- the rest of the first word that begins with a
 unfoldable pub restOf : ℕ → List (List ℕ) → List ℕ
@@ -26,6 +26,8 @@ fill bracket = 67 ∷ 93 ∷ []
 fill (isotope n) = 67 ∷ 93 ∷ []
 fill (symbol1 a) = restOf a symbols ++ 93 ∷ []
 fill symbolled = 93 ∷ []
+fill at1 = 93 ∷ []
+fill at2 = 93 ∷ []
 fill hydrogen = 93 ∷ []
 fill hydrogens = 93 ∷ []
 fill sign = 93 ∷ []

@@ -42,6 +42,12 @@ pub data Symbol : List ℕ → Type 0 where
   mark : {b : ℕ} → among b marks ≡ true → Symbol (b ∷ [])
   element : {s : List ℕ} → listed s symbols ≡ true → Symbol s
 
+-- 02, P8: "`@` and `@@` between symbol and hydrogens"
+pub data Tetrahedral : List ℕ → Type 0 where
+  none : Tetrahedral []
+  one : Tetrahedral (64 ∷ [])
+  two : Tetrahedral (64 ∷ 64 ∷ [])
+
 pub data Hydrogens : List ℕ → Type 0 where
   none : Hydrogens []
   one : Hydrogens (72 ∷ [])
@@ -62,8 +68,8 @@ pub data Atom : List ℕ → Type 0 where
   Br : Atom (66 ∷ 114 ∷ [])
   At : Atom (65 ∷ 116 ∷ [])
   Ts : Atom (84 ∷ 115 ∷ [])
-  bracket : {i y h c e : List ℕ} → Isotope i → Symbol y → Hydrogens h → Charge c → Extension e
-      → Atom (91 ∷ (i ++ (y ++ (h ++ (c ++ (e ++ 93 ∷ []))))))
+  bracket : {i y k h c e : List ℕ} → Isotope i → Symbol y → Tetrahedral k → Hydrogens h → Charge c → Extension e
+      → Atom (91 ∷ (i ++ (y ++ (k ++ (h ++ (c ++ (e ++ 93 ∷ [])))))))
 
 -- a digit 1 to 9, or % and two digits 10 to 99
 pub data Bridge : List ℕ → Type 0 where

@@ -8,7 +8,7 @@ use lib.ListN.{replicate}
 pub use Rattle.reading_grammar.specs.declared.Last.{Last}
 pub use Rattle.reading_grammar.specs.declared.Last.the-variants.{Plain as plain, AfterC as afterC, AfterB as afterB}
 pub use Rattle.reading_grammar.specs.declared.Mode.{Mode}
-pub use Rattle.reading_grammar.specs.declared.Mode.the-variants.{Seq as seq, Bond as bond, AtomNext as atomNext, Inside as inside, Percent as percent, Percent1 as percent1, LetterA as letterA, LetterT as letterT, Bracket as bracket, Isotope as isotope, Symbol1 as symbol1, Symbolled as symbolled, Hydrogen as hydrogen, Hydrogens as hydrogens, Sign as sign, Charged as charged, Colon as colon, Extension as extension}
+pub use Rattle.reading_grammar.specs.declared.Mode.the-variants.{Seq as seq, Bond as bond, AtomNext as atomNext, Inside as inside, Percent as percent, Percent1 as percent1, LetterA as letterA, LetterT as letterT, Bracket as bracket, Isotope as isotope, Symbol1 as symbol1, Symbolled as symbolled, At1 as at1, At2 as at2, Hydrogen as hydrogen, Hydrogens as hydrogens, Sign as sign, Charged as charged, Colon as colon, Extension as extension}
 pub use Rattle.reading_grammar.specs.declared.Move.{Move}
 pub use Rattle.reading_grammar.specs.declared.Move.the-variants.{Stop as stop, To as to, Up as up, Down as down}
 pub use Rattle.reading_grammar.specs.declared.MachineState.{MachineState}
@@ -44,6 +44,9 @@ charging b = pick (among b signs) (to sign) (extending b)
 unfoldable pub hydrating : ℕ → Move
 hydrating b = pick (eqb b 72) (to hydrogen) (charging b)
 
+unfoldable pub marking : ℕ → Move
+marking b = pick (eqb b 64) (to at1) (hydrating b)
+
 -- a symbol's first byte, or else k
 unfoldable pub symbolOr : ℕ → Move → Move
 symbolOr b k = pick (starts b symbols) (to (symbol1 b)) (pick (among b marks) (to symbolled) k)
@@ -63,8 +66,10 @@ next letterT b = pick (eqb b 115) (to (seq plain)) stop
 next bracket b = symbolOr b (pick (among b nonzero) (to (isotope 2)) stop)
 next (isotope zero) b = symbolOr b stop
 next (isotope (suc n)) b = symbolOr b (pick (among b digits) (to (isotope n)) stop)
-next (symbol1 a) b = pick (listed (a ∷ b ∷ []) symbols) (to symbolled) (pick (listed (a ∷ []) symbols) (hydrating b) stop)
-next symbolled b = hydrating b
+next (symbol1 a) b = pick (listed (a ∷ b ∷ []) symbols) (to symbolled) (pick (listed (a ∷ []) symbols) (marking b) stop)
+next symbolled b = marking b
+next at1 b = pick (eqb b 64) (to at2) (hydrating b)
+next at2 b = hydrating b
 next hydrogen b = pick (among b several) (to hydrogens) (charging b)
 next hydrogens b = charging b
 next sign b = pick (among b several) (to charged) (extending b)
@@ -104,6 +109,8 @@ resting bracket d = false
 resting (isotope n) d = false
 resting (symbol1 a) d = false
 resting symbolled d = false
+resting at1 d = false
+resting at2 d = false
 resting hydrogen d = false
 resting hydrogens d = false
 resting sign d = false

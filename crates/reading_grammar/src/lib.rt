@@ -21,6 +21,8 @@ pub enum Mode {
     Isotope(u8),
     Symbol1(u8),
     Symbolled,
+    At1,
+    At2,
     Hydrogen,
     Hydrogens,
     Sign,

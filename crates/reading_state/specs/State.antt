@@ -1,11 +1,11 @@
 -- 01, The text: "What steers the reading is the hub, the open branches and the open bridges"
-use Prim.Native.Nat.{ℕ, _+_, _-_}
+use Prim.Native.Nat.{ℕ, _+_, _-_, _*_}
 use mathlib.Core.List.{List}
 use lib.ListN.{getD, set, replicate}
-use lib.Dec.{eqb}
+use lib.Dec.{eqb, ltb}
 use Rattle.loops.specs.Loop.{pick}
 use Rattle.ids.specs.declared.AtomId.{AtomId}
-use Rattle.table.specs.Limits.{maxAtoms}
+use Rattle.table.specs.Limits.{maxAtoms, maxBonds}
 use Rattle.ids.specs.Limits.{maxDepth, bridges}
 use Rattle.reading_state.specs.declared.State.{State}
 use Rattle.reading_state.specs.declared.Opening.{Opening}
@@ -26,10 +26,16 @@ pub record Steering : Type 0 where
   pub offset : List ℕ
   -- 1 for each atom that stood outside brackets
   pub outside : List ℕ
+  -- of each bond two numbers: the offset and one of a bridge's digit or `%` at its first end, and of that at its second; 0 where it is no bridge
+  pub keys : List ℕ
 
--- the code's state, and the two arrays that are lent beside it: the offsets of openings, and which atoms stood outside brackets
-abbrev pub steering : State → List ℕ → List ℕ → Steering
-steering s p x =
+-- two numbers for each bond
+abbrev pub keyCount : ℕ
+keyCount = 2 * maxBonds
+
+-- the code's state, and the three arrays that are lent beside it: the offsets of openings, which atoms stood outside brackets, and the keys of bonds
+abbrev pub steering : State → List ℕ → List ℕ → List ℕ → Steering
+steering s p x y =
     record {
       hub = s .hub;
       atoms = s .atoms;
@@ -40,6 +46,7 @@ steering s p x =
       symbol = s .symbols;
       offset = p;
       outside = x;
+      keys = y;
     }
 
 -- nothing is read yet
@@ -55,6 +62,7 @@ started =
       symbol = replicate bridges 0;
       offset = replicate bridges 0;
       outside = replicate maxAtoms 0;
+      keys = replicate keyCount 0;
     }
 
 -- one atom more, which is the hub; x: 1 if it stands outside brackets; m: the bonds then
@@ -70,6 +78,7 @@ withNextAtom s x m =
       symbol = s .symbol;
       offset = s .offset;
       outside = set (s .outside) (s .atoms) x;
+      keys = s .keys;
     }
 
 -- "(": the hub is remembered
@@ -85,6 +94,7 @@ opened s =
       symbol = s .symbol;
       offset = s .offset;
       outside = s .outside;
+      keys = s .keys;
     }
 
 -- ")": the hub "is again the atom it was before the matching `(`"
@@ -100,15 +110,31 @@ closed s =
       symbol = s .symbol;
       offset = s .offset;
       outside = s .outside;
+      keys = s .keys;
     }
 
 -- where a bridge number was opened: nowhere, or at an atom with a symbol of a kind
 unfoldable pub openingOf : Steering → ℕ → Opening
 openingOf s r = pick (eqb (getD (s .opener) r 0) 0) Opening.Free (Opening.At (record { 0 = getD (s .opener) r 0 - 1 }) (getD (s .symbol) r 0))
 
--- a bridge number with another opener (the atom and one; 0: free), symbol and offset, and a bond count
-abbrev pub bridged : Steering → ℕ → ℕ → ℕ → ℕ → ℕ → Steering
-bridged s r a k p m =
+-- 02, P8: "bridges as their digits stand in the text at this atom": the keys of the bond b, its digits standing at p at its first end and at q at its second
+abbrev pub keyed : List ℕ → ℕ → ℕ → ℕ → List ℕ
+keyed keys b p q = set (set keys (2 * b) (p + 1)) (2 * b + 1) (q + 1)
+
+-- the same of the bridge r that closes at p: its opening atom or the hub is the first end, the lower of the two
+abbrev pub keysAfter : Steering → ℕ → ℕ → List ℕ
+keysAfter s r p =
+    pick (ltb (getD (s .opener) r 0 - 1) (s .hub .0))
+    (keyed (s .keys) (s .bonds) (getD (s .offset) r 0) p)
+    (keyed (s .keys) (s .bonds) p (getD (s .offset) r 0))
+
+-- the keys then: of a bridge that opens, they stay
+abbrev pub keysThen : Steering → ℕ → ℕ → List ℕ
+keysThen s r p = pick (eqb (getD (s .opener) r 0) 0) (s .keys) (keysAfter s r p)
+
+-- a bridge number with another opener (the atom and one; 0: free), symbol and offset, and a bond count with keys
+abbrev pub bridged : Steering → ℕ → ℕ → ℕ → ℕ → ℕ → List ℕ → Steering
+bridged s r a k p m y =
     record {
       hub = s .hub;
       atoms = s .atoms;
@@ -119,11 +145,12 @@ bridged s r a k p m =
       symbol = set (s .symbol) r k;
       offset = set (s .offset) r p;
       outside = s .outside;
+      keys = y;
     }
 
 -- "A number that is not open opens at the hub; an open one joins its opening atom to the hub and is free again, at once."
 unfoldable pub joined : Steering → ℕ → ℕ → ℕ → Steering
 joined s r k p =
     pick (eqb (getD (s .opener) r 0) 0)
-    (bridged s r (s .hub .0 + 1) k p (s .bonds))
-    (bridged s r 0 0 0 (s .bonds + 1))
+    (bridged s r (s .hub .0 + 1) k p (s .bonds) (s .keys))
+    (bridged s r 0 0 0 (s .bonds + 1) (keysAfter s r p))

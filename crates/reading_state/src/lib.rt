@@ -1,6 +1,7 @@
 // The reading state by value: the hub, the open branches and the open bridges, with the counts.
 use ids::AtomId;
 use ids::BRIDGES;
+use ids::MAX_BONDS;
 use ids::MAX_DEPTH;
 ghost use mathlib.Core.Path.{_≡_};
 ghost use mathlib.Core.List.{List};
@@ -10,7 +11,10 @@ ghost use lib.Dec.{eqb};
 ghost use Rattle.loops.specs.Loop.{pick};
 ghost use Rattle.table.specs.Limits.{maxAtoms};
 ghost use Rattle.ids.specs.Limits.{maxDepth, bridges};
-ghost use Rattle.reading_state.specs.State.{steering, started, withNextAtom, opened, closed, openingOf, joined};
+ghost use Rattle.reading_state.specs.State.{keyCount, steering, started, withNextAtom, opened, closed, openingOf, keysThen, joined};
+
+// Two numbers for each bond.
+pub const KEYS: usize = 2 * MAX_BONDS;
 
 // The fields of a bracket.
 pub struct Fields {
@@ -20,6 +24,7 @@ pub struct Fields {
     pub hydrogens: u16,
     pub charge: i32,
     pub extension: u16,
+    pub mark: u16,
 }
 
 // Where a bridge number was opened: nowhere, or at an atom with a symbol of a kind (0: none).
@@ -47,7 +52,7 @@ pub struct State {
 impl State {
     // internal: nothing is read yet.
     pub fn new() -> Self
-        ensures { λ r. ⌜ steering r (replicate bridges 0) (replicate maxAtoms 0) ≡ started ⌝ }
+        ensures { λ r. ⌜ steering r (replicate bridges 0) (replicate maxAtoms 0) (replicate keyCount 0) ≡ started ⌝ }
     {
         Self {
             hubs: [0u16; MAX_DEPTH],
@@ -64,7 +69,7 @@ impl State {
     pub fn extend(mut self, bonded: bool) -> Self
         requires { ⌜ self .atoms < 65536 ⌝ }
         requires { ⌜ self .bonds < 65536 ⌝ }
-        ensures { λ r. ⌜ ((p x : List ℕ) (o : ℕ) → steering r p (set x (self .atoms) o) ≡ withNextAtom (steering self p x) o (pick bonded (self .bonds + 1) (self .bonds))) ⌝ }
+        ensures { λ r. ⌜ ((p x y : List ℕ) (o : ℕ) → steering r p (set x (self .atoms) o) y ≡ withNextAtom (steering self p x y) o (pick bonded (self .bonds + 1) (self .bonds))) ⌝ }
     {
         let n = self.atoms;
         let next = AtomId(n);
@@ -80,7 +85,7 @@ impl State {
     pub fn open(mut self) -> Self
         requires { ⌜ self .depth < maxDepth ⌝ }
         requires { ⌜ self .hub .0 < 65536 ⌝ }
-        ensures { λ r. ⌜ ((p x : List ℕ) → steering r p x ≡ opened (steering self p x)) ⌝ }
+        ensures { λ r. ⌜ ((p x y : List ℕ) → steering r p x y ≡ opened (steering self p x y)) ⌝ }
     {
         let d = self.depth;
         let h = self.hub.0;
@@ -96,7 +101,7 @@ impl State {
         requires { ⌜ 0 < self .depth ⌝ }
         requires { ⌜ self .depth ≤ maxDepth ⌝ }
         requires { ⌜ getD (self .hubs) (self .depth - 1) 0 < 65536 ⌝ }
-        ensures { λ r. ⌜ ((p x : List ℕ) → steering r p x ≡ closed (steering self p x)) ⌝ }
+        ensures { λ r. ⌜ ((p x y : List ℕ) → steering r p x y ≡ closed (steering self p x y)) ⌝ }
     {
         let d = self.depth - 1;
         let mut hubs = self.hubs;
@@ -113,7 +118,7 @@ impl State {
     pub fn opening(self, number: usize) -> Opening
         requires { ⌜ number < bridges ⌝ }
         requires { ⌜ getD (self .openers) number 0 < 65536 ⌝ }
-        ensures { λ r. ⌜ ((p x : List ℕ) → r ≡ openingOf (steering self p x) number) ⌝ }
+        ensures { λ r. ⌜ ((p x y : List ℕ) → r ≡ openingOf (steering self p x y) number) ⌝ }
     {
         let openers = self.openers;
         let symbols = self.symbols;
@@ -129,7 +134,7 @@ impl State {
         requires { ⌜ number < bridges ⌝ }
         requires { ⌜ self .hub .0 < 65535 ⌝ }
         requires { ⌜ self .bonds < 65536 ⌝ }
-        ensures { λ r. ⌜ ((p x : List ℕ) (i : ℕ) → steering r (set p number (pick (eqb (getD (self .openers) number 0) 0) i 0)) x ≡ joined (steering self p x) number symbol i) ⌝ }
+        ensures { λ r. ⌜ ((p x y : List ℕ) (i : ℕ) → steering r (set p number (pick (eqb (getD (self .openers) number 0) 0) i 0)) x (keysThen (steering self p x y) number i) ≡ joined (steering self p x y) number symbol i) ⌝ }
     {
         let h = self.hub.0;
         let mut openers = self.openers;

@@ -1,7 +1,7 @@
 -- 01, When a call says no: the code ("No.") of each refusal
 use Prim.Native.Nat.{ℕ}
 use Rattle.refusal.specs.declared.Refusal.{Refusal}
-use Rattle.refusal.specs.declared.Refusal.the-variants.{Short, LongText, Grammar, ManyAtoms, ManyBonds, DeepBranch, SelfBridge, RepeatedBond, SymbolClash, OpenBridge, Unmatchable, NotMatching, Invalid, ManyBridges, DeepWriting, LongWriting, CrowdedEnd, StrayMark, LooseAtom}
+use Rattle.refusal.specs.declared.Refusal.the-variants.{Short, LongText, Grammar, ManyAtoms, ManyBonds, DeepBranch, SelfBridge, RepeatedBond, SymbolClash, OpenBridge, Unmatchable, NotMatching, Invalid, ManyBridges, DeepWriting, LongWriting, CrowdedEnd, StrayMark, LooseAtom, UnfitMark}
 
 -- each comment is the line of the table
 abbrev pub codeOf : Refusal → ℕ
@@ -24,3 +24,4 @@ codeOf LongWriting = 16  -- the written text would be over 16,384 bytes
 codeOf CrowdedEnd = 20  -- 02, P5: two marked neighbours of an end of a double bond lie on the same side
 codeOf StrayMark = 21  -- 02, P5: a mark touches no bond of kind 2
 codeOf LooseAtom = 22  -- 02, P6: a selected atom has fewer than two bonds
+codeOf UnfitMark = 23  -- 02, P8: a tetrahedral mark without four neighbours

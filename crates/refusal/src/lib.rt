@@ -25,6 +25,8 @@ pub enum Refusal {
     StrayMark,
     // 02, P6.
     LooseAtom,
+    // 02, P8.
+    UnfitMark,
 }
 
 // The code of a refusal.
@@ -51,5 +53,6 @@ pub fn code(r: Refusal) -> u8
         Refusal::CrowdedEnd => 20,
         Refusal::StrayMark => 21,
         Refusal::LooseAtom => 22,
+        Refusal::UnfitMark => 23,
     }
 }

@@ -11,8 +11,9 @@ use Rattle.loops.specs.Loop.{pick, upTo}
 use Rattle.element.specs.Lookup.{bare}
 use Rattle.valence.specs.Valence.{implied}
 use Rattle.table_graph.specs.Graph.{bondSum}
-use Rattle.table.specs.Limits.{atomCells, ELEMENT, SELECTED, ISOTOPE, HYDROGENS, CHARGE, EXTENSION}
-use Rattle.table.specs.Cells.{number, atomCell}
+use Rattle.table.specs.Limits.{atomCells, ELEMENT, SELECTED, ISOTOPE, HYDROGENS, CHARGE, EXTENSION, MARK}
+use Rattle.table.specs.Cells.{number, atomCell, mark}
+use Rattle.table.specs.Orders.{turnedMark}
 use Rattle.table.specs.Valid.{Valid}
 use Rattle.writing_walk.specs.Token.{Bond, Tok, apart, along, ring, branch, back}
 use Rattle.writing_walk.specs.Emit.{pre}
@@ -24,26 +25,27 @@ use Rattle.writing_walk.proofs.Twice.{completed-inside, order-again, place-same
 use Rattle.writing_walk.proofs.Natural.{onTok, write-natural}
 use Rattle.writing_walk.proofs.Made.{Made, written-made}
 use Rattle.writing_walk.proofs.Order.{atom-below, place-atom}
-use Rattle.writing.specs.Spell.{isotopeBytes, symbolBytes, hydrogenBytes, chargeBytes, extensionBytes, bracketBytes, unbracketed, atomBytes, kindBytes, bridgeBytes, restBytes, tokensBytes, withoutBrackets, spelledAtom}
-use Rattle.writing.specs.Write.{bondList, tokens, textOf, renumbering}
+use Rattle.writing.specs.Spell.{isotopeBytes, symbolBytes, markBytes, hydrogenBytes, chargeBytes, extensionBytes, bracketBytes, atomBytes, kindBytes, bridgeBytes, restBytes, tokensBytes, withoutBrackets, spelledAtom}
+use Rattle.writing.specs.Write.{bondList, tokens, writtenRank, marksWritten, textOf, renumbering}
 use Rattle.writing.proofs.Bonds.{inside}
+use Rattle.writing.proofs.Marks.{spelled-but, written-but, written-mark}
 use Rattle.roundtrip.proofs.Bonds.{distinct}
-use Rattle.roundtrip.proofs.Back.{map-same, Molecule, ren, sum-same}
+use Rattle.roundtrip.proofs.Back.{map-same, Molecule, ren, sum-same, cell-here}
 
--- ---- an atom's bytes depend on its cells and its bond sum
+-- ---- an atom's bytes depend on its cells, on the mark that is written and on its bond sum
 abbrev zero? : ℤ → Bool
 zero? (pos n) = eqb n 0
 zero? (negsuc n) = false
 
-abbrev bytesBy : ℤ → ℤ → ℤ → ℤ → ℤ → ℤ → ℕ → List ℕ
-bytesBy e s i h c x sum =
-    pick (eqb (number i) 0 && zero? c && eqb (number x) 0 && bare (number e) && eqb (implied (number e) (number s) sum) (number h))
+abbrev bytesBy : ℤ → ℤ → ℤ → ℤ → ℤ → ℤ → ℕ → ℕ → List ℕ
+bytesBy e s i h c x k sum =
+    pick (eqb (number i) 0 && zero? c && eqb (number x) 0 && eqb k 0 && bare (number e) && eqb (implied (number e) (number s) sum) (number h))
     (symbolBytes (number e) (number s))
-    (91 ∷ (isotopeBytes (number i) ++ (symbolBytes (number e) (number s) ++ (hydrogenBytes (number h) ++ (chargeBytes c ++ (extensionBytes (number x) ++ 93 ∷ []))))))
+    (91 ∷ (isotopeBytes (number i) ++ (symbolBytes (number e) (number s) ++ (markBytes k ++ (hydrogenBytes (number h) ++ (chargeBytes c ++ (extensionBytes (number x) ++ 93 ∷ [])))))))
 
-by-cells : (atoms bonds : List ℤ) (m a : ℕ) → atomBytes atoms bonds m a ≡ bytesBy (atomCell atoms a ELEMENT) (atomCell atoms a SELECTED) (atomCell atoms a ISOTOPE) (atomCell atoms a HYDROGENS) (atomCell atoms a CHARGE) (atomCell atoms a EXTENSION) (bondSum bonds m a)
+by-cells : (atoms : List ℤ) (a k sum : ℕ) → spelledAtom atoms a k sum ≡ bytesBy (atomCell atoms a ELEMENT) (atomCell atoms a SELECTED) (atomCell atoms a ISOTOPE) (atomCell atoms a HYDROGENS) (atomCell atoms a CHARGE) (atomCell atoms a EXTENSION) k sum
 unfolding spelledAtom withoutBrackets bracketBytes
-by-cells atoms bonds m a = refl
+by-cells atoms a k sum = refl
 
 -- ---- the bytes of tokens depend on the bytes of their atoms
 rest-map : (f : ℕ → List ℕ) (g : ℕ → ℕ) (ts : List Tok) → restBytes f (map (onTok g) ts) ≡ restBytes (λ a. f (g a)) ts
@@ -102,30 +104,40 @@ module _ (atoms bonds : List ℤ) (n m : ℕ) (v : Valid atoms bonds n m) {T U :
   abbrev pub walked : List ℕ
   walked = pre (forestOf n bs)
 
-  -- the cells of the atom that is read at a place
-  pub cell-here : (a f : ℕ) → a < n → f < atomCells → atomCell T a f ≡ atomCell atoms (getD walked a 0) f
-  cell-here a f l k =
-      let w = getD walked a 0 in
-      let r = ren atoms bonds n m v in
-      subst (λ (x : ℕ). atomCell T x f ≡ atomCell atoms w f) (place-atom r a l) (M .cells w f (atom-below r a l) k)
-
   sum-here : (a : ℕ) → a < n → bondSum U m a ≡ bondSum bonds m (getD walked a 0)
   sum-here a l =
       let w = getD walked a 0 in
       let r = ren atoms bonds n m v in
       subst (λ (x : ℕ). bondSum U m x ≡ bondSum bonds m w) (place-atom r a l) (sum-same atoms bonds n m v U (M .listed) w (atom-below r a l))
 
-  atom-again : (a : ℕ) → a < n → atomBytes T U m a ≡ atomBytes atoms bonds m (getD walked a 0)
+  -- the atoms as they are written the first time, and again
+  abbrev W : List ℤ
+  W = marksWritten atoms bonds n m
+
+  abbrev again : List ℤ
+  again = marksWritten T U n m
+
+  mark-here : (a : ℕ) → a < n → mark again a ≡ mark W (getD walked a 0)
+  mark-here a l =
+      let w = getD walked a 0 in
+      let r = ren atoms bonds n m v in
+      written-mark T U n m a l ∙ subst (λ (x : ℕ). turnedMark (writtenRank U n m) T U m x ≡ mark W w) (place-atom r a l) (M .rewritten w (atom-below r a l))
+
+  atom-again : (a : ℕ) → a < n → atomBytes again U m a ≡ atomBytes W bonds m (getD walked a 0)
   atom-again a l =
       let w = getD walked a 0 in
-      let e = cell-here a ELEMENT l (omega arith) in
-      let s = cell-here a SELECTED l (omega arith) in
-      let i = cell-here a ISOTOPE l (omega arith) in
-      let h = cell-here a HYDROGENS l (omega arith) in
-      let c = cell-here a CHARGE l (omega arith) in
-      let x = cell-here a EXTENSION l (omega arith) in
+      let at : (f : ℕ) → f < atomCells → (f ≡ MARK → ⊥) → atomCell T a f ≡ atomCell atoms w f = cell-here atoms bonds n m v M a l in
+      let e = at ELEMENT (omega arith) (λ q. omega arith) in
+      let s = at SELECTED (omega arith) (λ q. omega arith) in
+      let i = at ISOTOPE (omega arith) (λ q. omega arith) in
+      let h = at HYDROGENS (omega arith) (λ q. omega arith) in
+      let c = at CHARGE (omega arith) (λ q. omega arith) in
+      let x = at EXTENSION (omega arith) (λ q. omega arith) in
+      let k = mark-here a l in
       let b = sum-here a l in
-      by-cells T U m a ∙ (λ j. bytesBy (e j) (s j) (i j) (h j) (c j) (x j) (b j)) ∙ sym (by-cells atoms bonds m w)
+      spelled-but (written-but T U n m) a (mark again a) (bondSum U m a)
+      ∙ by-cells T a (mark again a) (bondSum U m a) ∙ (λ j. bytesBy (e j) (s j) (i j) (h j) (c j) (x j) (k j) (b j)) ∙ sym (by-cells atoms w (mark W w) (bondSum bonds m w))
+      ∙ sym (spelled-but (written-but atoms bonds n m) w (mark W w) (bondSum bonds m w))
 
   -- the tokens of what is read are those of what was written, but for the numbers of the atoms
   abbrev pub walkAtom : ℕ → ℕ
@@ -147,8 +159,8 @@ module _ (atoms bonds : List ℤ) (n m : ℕ) (v : Valid atoms bonds n m) {T U :
   pub text-again : textOf T U n m ≡ textOf atoms bonds n m
   unfolding textOf
   text-again =
-      let f = atomBytes atoms bonds m in
-      bytes-same n (atomBytes T U m) (λ a. f (walkAtom a)) (λ a l. atom-again a l ∙ ap (λ (x : List ℕ). f (getD x a 0)) (sym (map-same walked))) (tokens U n m) small
+      let f = atomBytes W bonds m in
+      bytes-same n (atomBytes again U m) (λ a. f (walkAtom a)) (λ a l. atom-again a l ∙ ap (λ (x : List ℕ). f (getD x a 0)) (sym (map-same walked))) (tokens U n m) small
       ∙ sym (bytes-map f walkAtom (tokens U n m))
       ∙ ap (tokensBytes f) tokens-again
 

@@ -21,9 +21,9 @@ use Rattle.valence.specs.Valence.{implied}
 use Rattle.table_graph.specs.Graph.{bondSum}
 use Rattle.table.specs.declared.Atom.{Atom}
 use Rattle.reading_state.specs.declared.Fields.{Fields}
-use Rattle.table.specs.Limits.{ELEMENT, SELECTED, ISOTOPE, HYDROGENS, CHARGE, EXTENSION}
-use Rattle.table.specs.Cells.{number, inRange, atomCell, element, selected, hydrogens}
-use Rattle.table.specs.Valid.{selectable, selectedOk}
+use Rattle.table.specs.Limits.{ELEMENT, SELECTED, ISOTOPE, HYDROGENS, CHARGE, EXTENSION, MARK}
+use Rattle.table.specs.Cells.{number, inRange, atomCell, element, selected, hydrogens, mark}
+use Rattle.table.specs.Valid.{maxMark, selectable, selectedOk}
 use Rattle.table.proofs.Valid.{AtomFine, range-high}
 use Rattle.reading.specs.Memory.{Memory, bareRow, rowOf, begun}
 use Rattle.writing.specs.Spell.{symbolBytes, bracketBytes, unbracketed, atomBytes, withoutBrackets, spelledAtom}
@@ -52,7 +52,7 @@ symbolic-of t v f =
 module _ (atoms bonds : List ℤ) (m v : ℕ) where
   -- the fields of the atom v
   abbrev pub fieldsAt : Fields
-  fieldsAt = fields (element atoms v) (selected atoms v) (number (atomCell atoms v ISOTOPE)) (hydrogens atoms v) (atomCell atoms v CHARGE) (number (atomCell atoms v EXTENSION))
+  fieldsAt = fields (element atoms v) (selected atoms v) (number (atomCell atoms v ISOTOPE)) (mark atoms v) (hydrogens atoms v) (atomCell atoms v CHARGE) (number (atomCell atoms v EXTENSION))
 
   -- the row that its bytes leave, and whether it stands outside brackets
   abbrev pub rowBy : Bool → Atom
@@ -69,6 +69,7 @@ module _ (atoms bonds : List ℤ) (m v : ℕ) where
     pub isotope : number (atomCell atoms v ISOTOPE) ≡ 0
     pub charge : atomCell atoms v CHARGE ≡ pos 0
     pub extension : number (atomCell atoms v EXTENSION) ≡ 0
+    pub unmarked : mark atoms v ≡ 0
     pub letter : bare (element atoms v) ≡ true
     pub implied : implied (element atoms v) (selected atoms v) (bondSum bonds m v) ≡ hydrogens atoms v
 
@@ -82,6 +83,9 @@ module _ (atoms bonds : List ℤ) (m v : ℕ) where
       x : Bool
       x = eqb (number (atomCell atoms v EXTENSION)) 0
 
+      z : Bool
+      z = eqb (mark atoms v) 0
+
       b : Bool
       b = bare (element atoms v)
 
@@ -90,30 +94,33 @@ module _ (atoms bonds : List ℤ) (m v : ℕ) where
 
       go : (c : ℤ) → atomCell atoms v CHARGE ≡ c → Bare
       go (pos k) e =
-          let g : (i && eqb k 0 && x && b && y) ≡ true = rw e at h in
-          let h3 = and-left (i && eqb k 0 && x && b) y g in
-          let h2 = and-left (i && eqb k 0 && x) b h3 in
+          let g : (i && eqb k 0 && x && z && b && y) ≡ true = rw e at h in
+          let h4 = and-left (i && eqb k 0 && x && z && b) y g in
+          let h3 = and-left (i && eqb k 0 && x && z) b h4 in
+          let h2 = and-left (i && eqb k 0 && x) z h3 in
           let h1 = and-left (i && eqb k 0) x h2 in
           record {
             isotope = eqb-true (number (atomCell atoms v ISOTOPE)) 0 (and-left i (eqb k 0) h1);
             charge = e ∙ ap pos (eqb-true k 0 (and-right i (eqb k 0) h1));
             extension = eqb-true (number (atomCell atoms v EXTENSION)) 0 (and-right (i && eqb k 0) x h2);
-            letter = and-right (i && eqb k 0 && x) b h3;
-            implied = eqb-true (implied (element atoms v) (selected atoms v) (bondSum bonds m v)) (hydrogens atoms v) (and-right (i && eqb k 0 && x && b) y g);
+            unmarked = eqb-true (mark atoms v) 0 (and-right (i && eqb k 0 && x) z h3);
+            letter = and-right (i && eqb k 0 && x && z) b h4;
+            implied = eqb-true (implied (element atoms v) (selected atoms v) (bondSum bonds m v)) (hydrogens atoms v) (and-right (i && eqb k 0 && x && z && b) y g);
           }
       go (negsuc k) e =
-          let g : (i && false && x && b && y) ≡ true = rw e at h in
-          let w : _≡_ {A = Bool} false true = and-right i false (and-left (i && false) x (and-left (i && false && x) b (and-left (i && false && x && b) y g))) in
+          let g : (i && false && x && z && b && y) ≡ true = rw e at h in
+          let w : _≡_ {A = Bool} false true = and-right i false (and-left (i && false) x (and-left (i && false && x) z (and-left (i && false && x && z) b (and-left (i && false && x && z && b) y g)))) in
           absurd (let z : _≡_ {A = ℕ} 0 1 = cc in omega arith)
 
   takes-brackets : AtomFine atoms v → (i : ℕ) (σ : MachineState) (d : ℕ) (μ : Memory) → Begins σ d → Room μ
-      → Atomed i σ d μ (bracketBytes atoms v) (rowOf fieldsAt) 0
+      → Atomed i σ d μ (bracketBytes atoms v (mark atoms v)) (rowOf fieldsAt) 0
   unfolding bracketBytes begun atomOr among letters letterOf selectedOf
   takes-brackets f i σ d μ g r =
       let li = range-high (atomCell atoms v ISOTOPE) 999 (f .isotope) in
       let lh = range-high (atomCell atoms v HYDROGENS) 9 (f .hydrogens) in
+      let lk = range-high (atomCell atoms v MARK) maxMark (f .mark) in
       let lx = range-high (atomCell atoms v EXTENSION) 9999 (f .extension) in
-      let w = takes-bracket (element atoms v) (selected atoms v) (number (atomCell atoms v ISOTOPE)) (hydrogens atoms v) (atomCell atoms v CHARGE) (number (atomCell atoms v EXTENSION)) (symbolic-of atoms v f) (omega arith) (omega arith) (slight-of (atomCell atoms v CHARGE) (f .charge)) (omega arith) in
+      let w = takes-bracket (element atoms v) (selected atoms v) (number (atomCell atoms v ISOTOPE)) (mark atoms v) (hydrogens atoms v) (atomCell atoms v CHARGE) (number (atomCell atoms v EXTENSION)) (symbolic-of atoms v f) (omega arith) (omega arith) (omega arith) (slight-of (atomCell atoms v CHARGE) (f .charge)) (omega arith) in
       record { last = plain; draft = fieldsAt; is = byte 91 _ (g .goes 91 .1) refl (g .does 91 i μ refl ∙ first 91 i μ r) (w .is (suc i) d (begun 0 μ)) }
 
   -- THE ATOM
@@ -122,6 +129,6 @@ module _ (atoms bonds : List ℤ) (m v : ℕ) where
   takes-atom f i σ d μ g r = go (unbracketed atoms bonds m v) refl
     where
       go : (x : Bool) → unbracketed atoms bonds m v ≡ x
-          → Atomed i σ d μ (pick x (symbolBytes (element atoms v) (selected atoms v)) (bracketBytes atoms v)) (rowBy x) (pick x 1 0)
+          → Atomed i σ d μ (pick x (symbolBytes (element atoms v) (selected atoms v)) (bracketBytes atoms v (mark atoms v))) (rowBy x) (pick x 1 0)
       go true e = takes-letters (element atoms v) (selected atoms v) (symbolic-of atoms v f) (bare-of e .letter) i σ d μ g r
       go false e = takes-brackets f i σ d μ g r

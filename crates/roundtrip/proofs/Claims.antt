@@ -9,32 +9,43 @@ use lib.ListN.{length, getD, take, replicate}
 use lib.Seq.{take-append-seam, take-at}
 use lib.IntN.{ℤ, pos}
 use Rattle.loops.specs.Loop.{pick}
+use borrow.Author.Tests.{leb-true}
 use Rattle.loops.proofs.Loops.{length-upTo, upTo-at}
+use Rattle.parity.specs.Parity.{odd, unlike}
+use Rattle.parity.specs.Mark.{markIf}
+use Rattle.parity.proofs.Swapped.{sorting-swaps}
 use Rattle.table_graph.specs.Graph.{matchable}
 use Rattle.table_graph.proofs.Localized.{localized-matchable}
 use Rattle.valence.specs.Valence.{delocalized}
-use Rattle.table.specs.Cells.{atomCell, selected}
+use Rattle.table.specs.Limits.{MARK}
+use Rattle.table.specs.Cells.{atomCell, selected, mark}
 use Rattle.table.specs.Valid.{Valid, enough}
 use Rattle.table.specs.Sound.{lateCode, sound}
 use Rattle.table.proofs.Sound.{sound-valid, sound-late, sound-back}
-use Rattle.table.proofs.Valid.{enough-facts}
+use Rattle.table.proofs.Valid.{bond-row, enough-facts}
 use Rattle.ids.specs.Limits.{maxText}
-use Rattle.reading.specs.Read.{ReadResult, refused, placed, checked, readOf}
-use Rattle.writing_walk.specs.Token.{Bond, bondBetween}
+use Rattle.reading.specs.Read.{refused, placed, checked, readOf}
+use Rattle.writing_walk.specs.Token.{Bond, bond, bondBetween}
 use Rattle.writing_walk.specs.Emit.{pre}
 use Rattle.writing_walk.specs.Walk.{forestOf, place, renumber, renumbered}
 use Rattle.writing_walk.proofs.Count.{none, more}
 use Rattle.writing_walk.proofs.Walk.{Inside}
 use Rattle.writing_walk.proofs.Trip.{completed}
 use Rattle.writing_walk.proofs.Perm.{Perm, bonds-permuted}
+use Rattle.writing_walk.proofs.Seats.{ringTokens}
 use Rattle.writing_walk.proofs.Order.{place-below, atom-below, atom-place, place-atom}
-use Rattle.writing.specs.Write.{bondList, tokens, textOf, renumbering, fewBridges, shallow, lent, writeValid, writeOf}
+use Rattle.walk_orders.specs.Orders.{bondAt, numbersAt, newNumber}
+use Rattle.walk_orders.proofs.Numbers.{index-found}
+use Rattle.walk_orders.proofs.Marks.{is-read, numbers-unlike}
+use Rattle.writing.specs.Write.{walkBond, bondList, tokens, textOf, renumbering, fewBridges, shallow, lent, writeValid, writeOf}
 use Rattle.writing.specs.Write as write
 use Rattle.writing.specs.Conditions.{Writes}
 use Rattle.writing.proofs.Bonds.{inside}
 use Rattle.writing.proofs.Claims.{written-iff, one-answer}
-use Rattle.roundtrip.specs.Claims.{Writable, numbered, renamed, accepted, Same, RoundTrip, Permutes, WrittenAndRead, Demand2}
-use Rattle.roundtrip.proofs.Back.{Molecule, ReadBack, ren, read-back, late-same, matchable-same}
+use Rattle.writing.proofs.Marks.{bonds-numbers}
+use Rattle.roundtrip.specs.Claims.{Writable, numbered, renamed, accepted, newNumbers, Same, RoundTrip, Permutes, WrittenAndRead, Demand2}
+use Rattle.roundtrip.proofs.Bonds.{distinct, many}
+use Rattle.roundtrip.proofs.Back.{Molecule, ReadBack, ren, as-many, read-back, late-same, matchable-same}
 use Rattle.roundtrip.proofs.Again.{text-again, identity-again}
 use Rattle.roundtrip.proofs.Rewritten.{valid-again, few-again, shallow-again}
 
@@ -95,24 +106,60 @@ renumbering-permutes atoms bonds n m h =
     }
 
 -- ---- the bonds
+renamed-bond : (bonds : List ℤ) (n m : ℕ) (b : Bond) → b .lo < b .hi → b .hi < n → renumber (pre (forestOf n (bondList bonds m))) b ≡ renamed (renumbering bonds n m) b
+renamed-bond bonds n m b h l =
+    let e : place (pre (forestOf n (bondList bonds m))) (b .lo) ≡ numbered (renumbering bonds n m) (b .lo) = sym (number-place bonds n m (b .lo) (omega arith)) in
+    let f : place (pre (forestOf n (bondList bonds m))) (b .hi) ≡ numbered (renumbering bonds n m) (b .hi) = sym (number-place bonds n m (b .hi) l) in
+    λ i. bondBetween (e i) (f i) (b .kind)
+
 renamed-list : (bonds : List ℤ) (n m : ℕ) (bs : List Bond) → Inside n bs → map (renumber (pre (forestOf n (bondList bonds m)))) bs ≡ map (renamed (renumbering bonds n m)) bs
 renamed-list bonds n m [] none = refl
-renamed-list bonds n m (b ∷ bs) (more h a) =
-    let e : place (pre (forestOf n (bondList bonds m))) (b .lo) ≡ numbered (renumbering bonds n m) (b .lo) = sym (number-place bonds n m (b .lo) (omega arith)) in
-    let f : place (pre (forestOf n (bondList bonds m))) (b .hi) ≡ numbered (renumbering bonds n m) (b .hi) = sym (number-place bonds n m (b .hi) (h .1)) in
-    λ i. bondBetween (e i) (f i) (b .kind) ∷ renamed-list bonds n m bs a i
+renamed-list bonds n m (b ∷ bs) (more h a) = λ i. renamed-bond bonds n m b (h .0) (h .1) i ∷ renamed-list bonds n m bs a i
 
-same-of : (atoms bonds : List ℤ) (n m : ℕ) (T U : List ℤ) (p q : ℕ) → Valid atoms bonds n m → Molecule atoms bonds n m T U p q → Same atoms bonds n m T U
-unfolding renumbered
-same-of atoms bonds n m T U p q v M =
-    let bs = bondList bonds m in
-    let perm : Perm (completed n bs) (map (renumber (pre (forestOf n bs))) bs) = bonds-permuted n bs (inside v) in
-    record {
-      cells = λ w f l k. ap (λ (a : ℕ). atomCell T a f) (number-place bonds n m w l) ∙ M .cells w f l k;
-      permuted = subst (λ (l : List Bond). Perm l (map (renamed (renumbering bonds n m)) bs)) (sym (M .listed)) (subst (Perm (completed n bs)) (renamed-list bonds n m bs (inside v)) perm);
-      atoms-after = M .atoms-after;
-      bonds-after = M .bonds-after;
-    }
+-- what is read is the molecule
+module _ (atoms bonds : List ℤ) (n m : ℕ) (T U : List ℤ) (p q : ℕ) (valid : Valid atoms bonds n m) (M : Molecule atoms bonds n m T U p q) where
+  abbrev bs : List Bond
+  bs = bondList bonds m
+
+  -- the number of a bond among those read
+  abbrev new : ℕ → ℕ
+  new = newNumber n bs (completed n bs)
+
+  new-bond : (b : ℕ) → b < m → (new b < m) × (walkBond U (new b) ≡ renamed (renumbering bonds n m) (walkBond bonds b))
+  unfolding newNumber
+  new-bond b l =
+      let x = renumber (pre (forestOf n bs)) (bondAt bs b) in
+      let at : bondAt bs b ≡ walkBond bonds b = upTo-at (walkBond bonds) m b (bond 0 0 0) l in
+      let f = index-found x (completed n bs) (is-read n bs (inside valid) b (let e = many valid in omega arith)) in
+      let g : new b < m = (let e = as-many atoms bonds n m valid in let k = f .0 in omega arith) in
+      let r = bond-row valid b l in (
+        g,
+        sym (upTo-at (walkBond U) m (new b) (bond 0 0 0) g) ∙ ap (λ (c : List Bond). bondAt c (new b)) (M .listed) ∙ f .1 ∙ ap (renumber (pre (forestOf n bs))) at
+            ∙ renamed-bond bonds n m (walkBond bonds b) (r .order) (r .second),
+      )
+
+  numbers-listed : (w : ℕ) → newNumbers new bonds m w ≡ map new (numbersAt w bs)
+  numbers-listed w = ap (map new) (bonds-numbers bonds w m)
+
+  unlike-listed : (w : ℕ) → w < n → unlike (newNumbers new bonds m w) ≡ true
+  unlike-listed w l =
+      ap unlike (numbers-listed w)
+      ∙ numbers-unlike n bs (inside valid) (distinct valid) w l (λ z. z) (ringTokens n bs) (record { zeroth = refl; rises = λ a b h k. h }) (omega arith)
+
+  same-of : Same atoms bonds n m T U
+  unfolding renumbered
+  same-of =
+      let perm : Perm (completed n bs) (map (renumber (pre (forestOf n bs))) bs) = bonds-permuted n bs (inside valid) in
+      record {
+        cells = λ w f l k h. ap (λ (a : ℕ). atomCell T a f) (number-place bonds n m w l) ∙ M .cells w f l k h;
+        permuted = subst (λ (l : List Bond). Perm l (map (renamed (renumbering bonds n m)) bs)) (sym (M .listed)) (subst (Perm (completed n bs)) (renamed-list bonds n m bs (inside valid)) perm);
+        new = new;
+        new-bond = new-bond;
+        marks = λ w l. ap (λ (a : ℕ). atomCell T a MARK) (number-place bonds n m w l) ∙ M .marks w l ∙ ap (λ (o : List ℕ). pos (markIf (odd o) (mark atoms w))) (sym (numbers-listed w));
+        swaps = λ w l s a. sorting-swaps s (unlike-listed w l) a;
+        atoms-after = M .atoms-after;
+        bonds-after = M .bonds-after;
+      }
 
 -- after the late checks, where none fails
 passed : (T U : List ℤ) (n m k : ℕ) → lateCode T U n m ≡ 0 → checked T U n m k ≡ placed T U n m k
@@ -123,7 +170,7 @@ module _ (atoms bonds : List ℤ) (n m : ℕ) (w : Writable atoms bonds n m) (A 
   v = sound-valid atoms bonds n m (w .tables)
 
   back : ReadBack atoms bonds n m A B
-  back = read-back atoms bonds n m v A B (enough-facts A B long) (w .bridges) (w .branches)
+  back = read-back atoms bonds n m v A B (enough-facts A B long) (w .bridges) (w .branches) (leb-true (length (textOf atoms bonds n m)) maxText (w .bytes))
 
   sound-again : {T U : List ℤ} {p q : ℕ} → Molecule atoms bonds n m T U p q → sound T U n m ≡ true
   sound-again {T} {U} M = sound-back T U n m (valid-again atoms bonds n m v M) (late-same atoms bonds n m v M (sound-late atoms bonds n m (w .tables)))

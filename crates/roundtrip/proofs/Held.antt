@@ -1,25 +1,26 @@
 -- What a reading of tokens holds, in the arrays and tables of a reading of bytes: bridges, branches, atoms and bonds. Assumes nothing.
 use mathlib.Core.Path.{_≡_, refl, sym, ap, _∙_, subst}
 use mathlib.Core.Bool.{Bool, true, false}
+use mathlib.Core.Logic.{inl, inr}
 use mathlib.Core.List.{List, [], _∷_, _++_}
 use Prim.Native.Nat.{ℕ, zero, suc, _+_, _*_, _<_, _≤_}
 use native.Mathlib.Omega.{arith}
 use lib.Dec.{eqb}
 use lib.ListN.{length, getD, set, length-set, length-append, List·getD-append}
-use lib.Seq.{sets, length-sets, getD-set-same, getD-set-other, getD-at}
+use lib.Seq.{getD-set-same, getD-set-other, getD-at}
 use lib.IntN.{ℤ, pos}
 use borrow.Author.Tests.{eqb-true, eqb-false}
 use Rattle.table.specs.declared.Atom.{Atom}
 use Rattle.table.specs.declared.Bond as table
 use Rattle.table.specs.Limits.{maxAtoms, maxBonds, atomCells, bondCells}
 use Rattle.table.specs.Cells.{atomPlace, bondPlace, atomCell, bondCell}
-use Rattle.table.specs.Rows.{withAtom, withBond}
+use Rattle.table.specs.Rows.{cellsOf, bondCellsOf, withAtom, withBond}
+use Rattle.table.proofs.Rows.{with-atom-length, with-atom-other, with-atom-field, with-bond-length, with-bond-other, with-bond-field}
 use Rattle.ids.specs.Limits.{maxDepth, bridges}
 use Rattle.reading.specs.Memory.{newBond}
 use Rattle.writing_walk.specs.Token.{Bond, bond}
 use Rattle.writing_walk.specs.Reading.{Closure, vacant, at, closureAt, setClosure}
 use Rattle.writing_walk.proofs.Count.{All, none, more, all-append}
-use Rattle.roundtrip.proofs.Cells.{sets-before, sets-after, sets-in, atomCellsOf, bondCellsOf, with-atom, with-bond}
 
 -- ---- bridges: a place r of the walk is the number r + 1
 abbrev pub openerOf : Closure → ℕ
@@ -37,13 +38,13 @@ pub record Bridging (opener symbol : List ℕ) (hs : List Closure) : Type 0 wher
   pub opener-length : length opener ≡ bridges
   pub symbol-length : length symbol ≡ bridges
 
-hook-same : (hs : List Closure) (r : ℕ) (x : Closure) → closureAt (setClosure hs r x) r ≡ x
+pub hook-same : (hs : List Closure) (r : ℕ) (x : Closure) → closureAt (setClosure hs r x) r ≡ x
 hook-same [] zero x = refl
 hook-same [] (suc r) x = hook-same [] r x
 hook-same (y ∷ hs) zero x = refl
 hook-same (y ∷ hs) (suc r) x = hook-same hs r x
 
-hook-other : (hs : List Closure) (r q : ℕ) (x : Closure) → (q ≡ r → ⊥) → closureAt (setClosure hs r x) q ≡ closureAt hs q
+pub hook-other : (hs : List Closure) (r q : ℕ) (x : Closure) → (q ≡ r → ⊥) → closureAt (setClosure hs r x) q ≡ closureAt hs q
 hook-other [] zero zero x h = absurd (h refl)
 hook-other [] zero (suc q) x h = refl
 hook-other [] (suc r) zero x h = refl
@@ -99,7 +100,7 @@ branching-pop l stk g b = record { hubs = stacked-set stk l (length stk) 0 (omeg
 pub record AtomTable (row : ℕ → Atom) (flag : ℕ → ℕ) (p : ℕ) (outside : List ℕ) (t : List ℤ) (xs : List ℕ) (n : ℕ) : Type 0 where
   pub many : length xs ≡ n
   pub flags : (a : ℕ) → a < n → getD outside a 0 ≡ flag (getD xs a 0)
-  pub cells : (a f : ℕ) → a < n → f < atomCells → atomCell t a f ≡ getD (atomCellsOf (row (getD xs a 0))) f (pos 0)
+  pub cells : (a f : ℕ) → a < n → f < atomCells → atomCell t a f ≡ getD (cellsOf (row (getD xs a 0))) f (pos 0)
   pub after : (j : ℕ) → atomCells * n ≤ j → getD t j (pos 0) ≡ pos 0
   pub outside-length : length outside ≡ maxAtoms
   pub long : length t ≡ p
@@ -109,10 +110,10 @@ module _ (row : ℕ → Atom) (flag : ℕ → ℕ) (p : ℕ) (room : atomCells *
   atom-add outside t xs n w l h = record {
     many = length-append xs (w ∷ []) ∙ (let e = h .many in omega arith);
     flags = λ a g. flag-at a g (eqb a n) refl;
-    cells = λ a f g k. rw with-atom (cell-at a f g k (eqb a n) refl);
-    after = λ j g. rw with-atom (sets-after (pos 0) (atomCellsOf (row w)) t (atomCells * n) j (omega arith) ∙ h .after j (omega arith));
+    cells = λ a f g k. cell-at a f g k (eqb a n) refl;
+    after = λ j g. with-atom-other t n (row w) j (inr (omega arith)) ∙ h .after j (omega arith);
     outside-length = length-set outside n (flag w) ∙ h .outside-length;
-    long = ap length (with-atom t n (row w)) ∙ length-sets t (atomCells * n) (atomCellsOf (row w)) ∙ h .long;
+    long = with-atom-length t n (row w) ∙ h .long;
   }
     where
       here : getD (xs ++ (w ∷ [])) n 0 ≡ w
@@ -129,13 +130,13 @@ module _ (row : ℕ → Atom) (flag : ℕ → ℕ) (p : ℕ) (room : atomCells *
           let z = eqb-false a n e in
           getD-set-other outside n a (flag w) 0 z ∙ h .flags a (omega arith) ∙ ap flag (sym (there a (omega arith)))
 
-      cell-at : (a f : ℕ) → a < suc n → f < atomCells → (x : Bool) → eqb a n ≡ x → getD (sets t (atomCells * n) (atomCellsOf (row w))) (atomPlace a f) (pos 0) ≡ getD (atomCellsOf (row (getD (xs ++ (w ∷ [])) a 0))) f (pos 0)
+      cell-at : (a f : ℕ) → a < suc n → f < atomCells → (x : Bool) → eqb a n ≡ x → atomCell (withAtom t n (row w)) a f ≡ getD (cellsOf (row (getD (xs ++ (w ∷ [])) a 0))) f (pos 0)
       cell-at a f g k true e =
-          subst (λ (i : ℕ). getD (sets t (atomCells * n) (atomCellsOf (row w))) (atomPlace i f) (pos 0) ≡ getD (atomCellsOf (row (getD (xs ++ (w ∷ [])) i 0))) f (pos 0)) (sym (eqb-true a n e))
-          (sets-in (pos 0) (atomCellsOf (row w)) t (atomCells * n) f k (let o = h .long in omega arith) ∙ ap (λ (v : ℕ). getD (atomCellsOf (row v)) f (pos 0)) (sym here))
+          subst (λ (i : ℕ). atomCell (withAtom t n (row w)) i f ≡ getD (cellsOf (row (getD (xs ++ (w ∷ [])) i 0))) f (pos 0)) (sym (eqb-true a n e))
+          (with-atom-field t n (row w) (let o = h .long in omega arith) f k ∙ ap (λ (v : ℕ). getD (cellsOf (row v)) f (pos 0)) (sym here))
       cell-at a f g k false e =
           let z = eqb-false a n e in
-          sets-before (pos 0) (atomCellsOf (row w)) t (atomCells * n) (atomPlace a f) (omega arith) ∙ h .cells a f (omega arith) k ∙ ap (λ (v : ℕ). getD (atomCellsOf (row v)) f (pos 0)) (sym (there a (omega arith)))
+          with-atom-other t n (row w) (atomPlace a f) (inl (omega arith)) ∙ h .cells a f (omega arith) k ∙ ap (λ (v : ℕ). getD (cellsOf (row v)) f (pos 0)) (sym (there a (omega arith)))
 
 -- ---- bonds; q cells in all
 abbrev pub nobond : Bond
@@ -154,19 +155,19 @@ module _ (q : ℕ) (room : bondCells * maxBonds ≤ q) where
   pub bond-add : (t : List ℤ) (bs : List Bond) (x : Bond) → length bs < maxBonds → x .lo < x .hi → BondTable q t bs → BondTable q (withBond t (length bs) (rowOfBond x)) (bs ++ (x ∷ []))
   bond-add t bs x l o h = record {
     ordered = all-append (λ b. b .lo < b .hi) bs (x ∷ []) (h .ordered) (more o none);
-    cells = λ b f g k. rw with-bond (cell-at b f (let e = longer in omega arith) k (eqb b (length bs)) refl);
-    after = λ j g. rw with-bond (sets-after (pos 0) (bondCellsOf (rowOfBond x)) t (bondCells * length bs) j (let e = longer in omega arith) ∙ h .after j (let e = longer in omega arith));
-    long = ap length (with-bond t (length bs) (rowOfBond x)) ∙ length-sets t (bondCells * length bs) (bondCellsOf (rowOfBond x)) ∙ h .long;
+    cells = λ b f g k. cell-at b f (let e = longer in omega arith) k (eqb b (length bs)) refl;
+    after = λ j g. with-bond-other t (length bs) (rowOfBond x) j (inr (let e = longer in omega arith)) ∙ h .after j (let e = longer in omega arith);
+    long = with-bond-length t (length bs) (rowOfBond x) ∙ h .long;
   }
     where
       longer : length (bs ++ (x ∷ [])) ≡ suc (length bs)
       longer = length-append bs (x ∷ []) ∙ omega arith
 
-      cell-at : (b f : ℕ) → b < suc (length bs) → f < bondCells → (y : Bool) → eqb b (length bs) ≡ y → getD (sets t (bondCells * length bs) (bondCellsOf (rowOfBond x))) (bondPlace b f) (pos 0) ≡ getD (bondCellsOf (rowOfBond (getD (bs ++ (x ∷ [])) b nobond))) f (pos 0)
+      cell-at : (b f : ℕ) → b < suc (length bs) → f < bondCells → (y : Bool) → eqb b (length bs) ≡ y → bondCell (withBond t (length bs) (rowOfBond x)) b f ≡ getD (bondCellsOf (rowOfBond (getD (bs ++ (x ∷ [])) b nobond))) f (pos 0)
       cell-at b f g k true e =
-          subst (λ (i : ℕ). getD (sets t (bondCells * length bs) (bondCellsOf (rowOfBond x))) (bondPlace i f) (pos 0) ≡ getD (bondCellsOf (rowOfBond (getD (bs ++ (x ∷ [])) i nobond))) f (pos 0)) (sym (eqb-true b (length bs) e))
-          (sets-in (pos 0) (bondCellsOf (rowOfBond x)) t (bondCells * length bs) f k (let z = h .long in omega arith) ∙ ap (λ (v : Bond). getD (bondCellsOf (rowOfBond v)) f (pos 0)) (sym (getD-at bs x [] nobond (length bs) refl)))
+          subst (λ (i : ℕ). bondCell (withBond t (length bs) (rowOfBond x)) i f ≡ getD (bondCellsOf (rowOfBond (getD (bs ++ (x ∷ [])) i nobond))) f (pos 0)) (sym (eqb-true b (length bs) e))
+          (with-bond-field t (length bs) (rowOfBond x) (let z = h .long in omega arith) f k ∙ ap (λ (v : Bond). getD (bondCellsOf (rowOfBond v)) f (pos 0)) (sym (getD-at bs x [] nobond (length bs) refl)))
       cell-at b f g k false e =
           let z = eqb-false b (length bs) e in
-          sets-before (pos 0) (bondCellsOf (rowOfBond x)) t (bondCells * length bs) (bondPlace b f) (omega arith) ∙ h .cells b f (omega arith) k
+          with-bond-other t (length bs) (rowOfBond x) (bondPlace b f) (inl (omega arith)) ∙ h .cells b f (omega arith) k
           ∙ ap (λ (v : Bond). getD (bondCellsOf (rowOfBond v)) f (pos 0)) (sym (List·getD-append bs (x ∷ []) nobond b (omega arith)))

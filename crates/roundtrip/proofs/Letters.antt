@@ -3,10 +3,9 @@ use mathlib.Core.Path.{_≡_, refl, sym, ap, _∙_, subst}
 use mathlib.Core.Bool.{Bool, true, false, _&&_}
 use mathlib.Core.List.{List, [], _∷_}
 use mathlib.Core.Logic.{⊎-elim}
-use Prim.Native.Nat.{ℕ, suc, _+_, _*_, _≤_}
+use Prim.Native.Nat.{ℕ, suc}
 use native.Mathlib.Omega.{arith}
 use lib.Dec.{leb}
-use lib.ListN.{length}
 use Rattle.element.specs.declared.Letter.{Letter}
 use Rattle.element.specs.declared.Letter.the-variants.{Plain, Selected, Half, Bracket, Nothing}
 use Rattle.element.specs.Symbols.{among, sameBytes, symbols, letters}
@@ -24,14 +23,14 @@ use Rattle.reading_grammar.specs.declared.MachineState.the-variants.{Start as s
 use Rattle.reading_grammar.specs.Machine.{turn, step, next, atomOr, bridgeOr}
 use Rattle.reading_grammar.specs.Fold.{keeps}
 use Rattle.table.specs.declared.Atom.{Atom}
-use Rattle.table.specs.Limits.{maxAtoms, maxBonds, atomCells}
+use Rattle.table.specs.Limits.{maxAtoms, maxBonds}
 use Rattle.table.specs.Valid.{selectable}
+use Rattle.table.proofs.Rows.{with-atom-twice}
 use Rattle.reading_state.specs.declared.Fields.{Fields}
 use Rattle.reading.specs.Memory.{Memory, bareRow, blank, bonded, begun, described, drafted}
 use Rattle.reading.specs.Act.{Acts, act, modeAct, atomAct, firstByte, orAtom, secondLetter}
 use Rattle.writing.specs.Spell.{symbolBytes}
 use Rattle.roundtrip.proofs.Feed.{Takes, stays, byte}
-use Rattle.roundtrip.proofs.Cells.{with-atom-twice}
 use Rattle.roundtrip.proofs.Named.{Symbolic, five}
 
 abbrev pub begins? : Letter → Bool
@@ -73,11 +72,10 @@ pub begins-inside : (d : ℕ) → Begins (at inside d) d
 unfolding step next act modeAct
 begins-inside d = record { goes = λ b. (_, refl); does = λ b i μ h. or-atom (letterOf b) _ _ h }
 
--- neither 4 nor 5 is met, and the table has a row for the atom
+-- neither 4 nor 5 is met
 pub record Room (μ : Memory) : Type 0 where
   pub atoms : leb maxAtoms (μ .st .atoms) ≡ false
   pub bonds : (bonded μ && leb maxBonds (μ .st .bonds)) ≡ false
-  pub cells : atomCells * (μ .st .atoms) + atomCells ≤ length (μ .atoms)
 
 -- the bytes are one atom more, with the row x; w: 1 outside brackets
 pub record Atomed (i : ℕ) (σ : MachineState) (d : ℕ) (μ : Memory) (s : List ℕ) (x : Atom) (w : ℕ) : Type 0 where
@@ -100,9 +98,9 @@ one e s b x h g f i σ d μ v r = record {
   is = byte b [] (v .goes b .1 ∙ ap (λ (o : Move). turn o d) (g (v .goes b .0))) refl (v .does b i μ h ∙ first b i μ r ∙ ap keeps (f μ)) stays;
 }
 
-again : (x y : Atom) (μ : Memory) → Room μ → described y (described x (begun 1 μ)) ≡ described y (begun 1 μ)
+again : (x y : Atom) (μ : Memory) → described y (described x (begun 1 μ)) ≡ described y (begun 1 μ)
 unfolding begun
-again x y μ r = rw (with-atom-twice (μ .atoms) (μ .st .atoms) x y (r .cells))
+again x y μ = rw (with-atom-twice (μ .atoms) (μ .st .atoms) x y)
 
 two : (e e0 b c : ℕ) (m : Mode) → begins? (letterOf b) ≡ true → ((k : Move) → atomOr b k ≡ to m) → ((μ : Memory) → firstByte (letterOf b) μ ≡ described (bareRow e0 0) (begun 1 μ))
     → next m c ≡ to (seq plain) → ((i : ℕ) (μ : Memory) → modeAct m c i μ ≡ secondLetter e μ) → Outside e 0 (b ∷ c ∷ [])
@@ -111,7 +109,7 @@ two e e0 b c m h g f n a i σ d μ v r = record {
   last = plain;
   draft = blank;
   is = byte b (c ∷ []) (v .goes b .1 ∙ ap (λ (o : Move). turn o d) (g (v .goes b .0))) refl (v .does b i μ h ∙ first b i μ r ∙ ap keeps (f μ))
-      (byte c [] (ap (λ (o : Move). turn o d) n) refl (a (suc i) (described (bareRow e0 0) (begun 1 μ)) ∙ ap keeps (again (bareRow e0 0) (bareRow e 0) μ r)) stays);
+      (byte c [] (ap (λ (o : Move). turn o d) n) refl (a (suc i) (described (bareRow e0 0) (begun 1 μ)) ∙ ap keeps (again (bareRow e0 0) (bareRow e 0) μ)) stays);
 }
 
 plain-letters : (e : ℕ) → bare e ≡ true → Outside e 0 (bytesOf e)

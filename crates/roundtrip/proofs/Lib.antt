@@ -2,10 +2,11 @@ pub mod Feed
 pub mod Decimal
 pub mod Bracketed
 pub mod Named
-pub mod Cells
 pub mod Letters
 pub mod Atoms
 pub mod Held
+pub mod Keying
+pub mod Turned
 pub mod Simulation
 pub mod Signs
 pub mod Tokens

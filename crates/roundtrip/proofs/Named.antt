@@ -18,7 +18,7 @@ use Rattle.reading_grammar.specs.declared.Mode.{Mode}
 use Rattle.reading_grammar.specs.declared.Mode.the-variants.{Bracket as bracket, Isotope as isotope, Symbol1 as symbol1, Symbolled as symbolled}
 use Rattle.reading_grammar.specs.declared.Move.{Move}
 use Rattle.reading_grammar.specs.declared.Move.the-variants.{Stop as stop, To as to}
-use Rattle.reading_grammar.specs.Machine.{next, symbolOr, closing, extending, charging, hydrating}
+use Rattle.reading_grammar.specs.Machine.{next, symbolOr, closing, extending, charging, hydrating, marking}
 use Rattle.reading_grammar.specs.Fold.{keeps}
 use Rattle.reading_state.specs.declared.Fields.{Fields}
 use Rattle.table.specs.Valid.{selectable}
@@ -26,9 +26,9 @@ use Rattle.reading.specs.Memory.{Memory, drafted}
 use Rattle.reading.specs.Bracket.{digit}
 use Rattle.reading.specs.Bracket as spec
 use Rattle.reading.specs.Act.{modeAct}
-use Rattle.writing.specs.Spell.{isotopeBytes, symbolBytes, hydrogenBytes, chargeBytes, extensionBytes}
+use Rattle.writing.specs.Spell.{isotopeBytes, symbolBytes, markBytes, hydrogenBytes, chargeBytes, extensionBytes}
 use Rattle.roundtrip.proofs.Decimal.{value, spelled}
-use Rattle.roundtrip.proofs.Bracketed.{fields, Ends, Moves, via, Hydrates, hydrates-symbolled, Slight, takes-hydrogens}
+use Rattle.roundtrip.proofs.Bracketed.{fields, Ends, Moves, via, Hydrates, Marks, marks-symbolled, Slight, takes-marks}
 
 -- a mode in which a symbol may begin
 pub record Names (m : Mode) : Type 0 where
@@ -49,7 +49,7 @@ names-isotope (suc n) = record { goes = λ b. (pick (among b digits) (to (isotop
 unfoldable letterOk : ℕ → ℕ → Bool
 letterOk e a =
     eqb (numberOf (a ∷ [])) e && (eqb (selectedOf a) 0 && (not (among a digits) && (starts a symbols && (listed (a ∷ []) symbols
-    && (not (listed (a ∷ 93 ∷ []) symbols) && (not (listed (a ∷ 58 ∷ []) symbols) && (not (listed (a ∷ 43 ∷ []) symbols) && (not (listed (a ∷ 45 ∷ []) symbols) && not (listed (a ∷ 72 ∷ []) symbols)))))))))
+    && (not (listed (a ∷ 93 ∷ []) symbols) && (not (listed (a ∷ 58 ∷ []) symbols) && (not (listed (a ∷ 43 ∷ []) symbols) && (not (listed (a ∷ 45 ∷ []) symbols) && (not (listed (a ∷ 72 ∷ []) symbols) && not (listed (a ∷ 64 ∷ []) symbols))))))))))
 
 unfoldable pairOk : ℕ → ℕ → ℕ → Bool
 pairOk e a b = eqb (numberOf (a ∷ b ∷ [])) e && (eqb (selectedOf a) 0 && (not (among a digits) && (starts a symbols && listed (a ∷ b ∷ []) symbols)))
@@ -66,9 +66,9 @@ all-ok = refl
 
 -- the first byte of a symbol, as the fields take it
 abbrev Blank : ℕ → Fields
-Blank i = fields 0 0 i 0 (pos 0) 0
+Blank i = fields 0 0 i 0 0 (pos 0) 0
 
-first-does : {m : Mode} (i e a : ℕ) → Names m → among a digits ≡ false → eqb (selectedOf a) 0 ≡ true → numberOf (a ∷ []) ≡ e → (j : ℕ) (μ : Memory) → modeAct m a j (drafted (Blank i) μ) ≡ keeps (drafted (fields e 0 i 0 (pos 0) 0) μ)
+first-does : {m : Mode} (i e a : ℕ) → Names m → among a digits ≡ false → eqb (selectedOf a) 0 ≡ true → numberOf (a ∷ []) ≡ e → (j : ℕ) (μ : Memory) → modeAct m a j (drafted (Blank i) μ) ≡ keeps (drafted (fields e 0 i 0 0 (pos 0) 0) μ)
 unfolding spec.symbolled
 first-does i e a v d s n j μ = v .does a j (drafted (Blank i) μ) d ∙ rw (s, n)
 
@@ -78,7 +78,7 @@ first-goes a v s = v .goes a .1 ∙ rw s
 
 module _ (a : ℕ) (h : listed (a ∷ []) symbols ≡ true) where
   hydrates-letter : listed (a ∷ 93 ∷ []) symbols ≡ false → listed (a ∷ 58 ∷ []) symbols ≡ false → listed (a ∷ 43 ∷ []) symbols ≡ false → listed (a ∷ 45 ∷ []) symbols ≡ false → listed (a ∷ 72 ∷ []) symbols ≡ false → Hydrates (symbol1 a)
-  unfolding next hydrating charging extending closing among signs modeAct
+  unfolding next marking hydrating charging extending closing among signs modeAct
   hydrates-letter p q r s t = record {
     charges = record {
       extends = record { shuts = record { goes = rw (p, h); does = λ i μ. rw p }; goes = rw (q, h); does = λ i μ. rw q };
@@ -87,6 +87,10 @@ module _ (a : ℕ) (h : listed (a ∷ []) symbols ≡ true) where
     };
     one = λ D. record { goes = rw (t, h); does = λ i μ. rw t };
   }
+
+  marks-letter : Hydrates (symbol1 a) → listed (a ∷ 64 ∷ []) symbols ≡ false → Marks (symbol1 a)
+  unfolding next marking modeAct
+  marks-letter v p = record { hydrates = v; at = λ D. record { goes = rw (p, h); does = λ i μ. rw p } }
 
 pub five : (P : ℕ → Type 0) → P 6 → P 7 → P 8 → P 15 → P 16 → (e : ℕ) → selectable e ≡ true → P e
 five P p6 p7 p8 p15 p16 e = go (eqb e 6) (eqb e 7) (eqb e 8) (eqb e 15) (eqb e 16) refl refl refl refl refl
@@ -99,11 +103,11 @@ five P p6 p7 p8 p15 p16 e = go (eqb e 6) (eqb e 7) (eqb e 8) (eqb e 15) (eqb e 1
     go false false false false true ea eb ec ed ef h = subst P (sym (eqb-true e 16 ef)) p16
     go false false false false false ea eb ec ed ef h = absurd (let z : _≡_ {A = ℕ} 0 1 = cc in omega arith)
 
--- ---- what follows a symbol, from any mode in which hydrogens may begin
+-- ---- what follows a symbol, from any mode in which a mark may begin
 abbrev Rest : ℕ → ℕ → ℕ → List ℕ → Fields → Type 0
-Rest e s i r E = (m : Mode) → Hydrates m → Ends m (fields e s i 0 (pos 0) 0) r E
+Rest e s i r E = (m : Mode) → Marks m → Ends m (fields e s i 0 0 (pos 0) 0) r E
 
-second-moves : (i e a b : ℕ) → numberOf (a ∷ b ∷ []) ≡ e → listed (a ∷ b ∷ []) symbols ≡ true → Moves (symbol1 a) (fields (numberOf (a ∷ [])) 0 i 0 (pos 0) 0) b symbolled (fields e 0 i 0 (pos 0) 0)
+second-moves : (i e a b : ℕ) → numberOf (a ∷ b ∷ []) ≡ e → listed (a ∷ b ∷ []) symbols ≡ true → Moves (symbol1 a) (fields (numberOf (a ∷ [])) 0 i 0 0 (pos 0) 0) b symbolled (fields e 0 i 0 0 (pos 0) 0)
 unfolding next modeAct
 second-moves i e a b n l = record { goes = rw l; does = λ j μ. rw (l, n) }
 
@@ -120,13 +124,16 @@ module _ {m : Mode} (i : ℕ) (v : Names m) {r : List ℕ} {E : Fields} where
       let h7 = and-right (not (listed (a ∷ 58 ∷ []) symbols)) _ h6 in
       let h8 = and-right (not (listed (a ∷ 43 ∷ []) symbols)) _ h7 in
       let h9 = and-right (not (listed (a ∷ 45 ∷ []) symbols)) _ h8 in
+      let h10 = and-right (not (listed (a ∷ 72 ∷ []) symbols)) _ h9 in
       let n = eqb-true (numberOf (a ∷ [])) e (and-left (eqb (numberOf (a ∷ [])) e) _ h) in
       let d = not-true (among a digits) (and-left (not (among a digits)) _ h2) in
-      via {n = symbol1 a} {E = fields e 0 i 0 (pos 0) 0}
+      via {n = symbol1 a} {E = fields e 0 i 0 0 (pos 0) 0}
       (record { goes = first-goes a v (and-left (starts a symbols) _ h3); does = first-does i e a v d (and-left (eqb (selectedOf a) 0) _ h1) n })
       (k (symbol1 a)
+      (marks-letter a (and-left (listed (a ∷ []) symbols) _ h4)
       (hydrates-letter a (and-left (listed (a ∷ []) symbols) _ h4) (not-true (listed (a ∷ 93 ∷ []) symbols) (and-left _ _ h5)) (not-true (listed (a ∷ 58 ∷ []) symbols) (and-left _ _ h6))
-      (not-true (listed (a ∷ 43 ∷ []) symbols) (and-left _ _ h7)) (not-true (listed (a ∷ 45 ∷ []) symbols) (and-left _ _ h8)) (not-true (listed (a ∷ 72 ∷ []) symbols) h9)))
+      (not-true (listed (a ∷ 43 ∷ []) symbols) (and-left _ _ h7)) (not-true (listed (a ∷ 45 ∷ []) symbols) (and-left _ _ h8)) (not-true (listed (a ∷ 72 ∷ []) symbols) (and-left _ _ h9)))
+      (not-true (listed (a ∷ 64 ∷ []) symbols) h10)))
 
   takes-pair : (e a b : ℕ) → pairOk e a b ≡ true → Rest e 0 i r E → Ends m (Blank i) (a ∷ b ∷ r) E
   unfolding pairOk
@@ -137,9 +144,9 @@ module _ {m : Mode} (i : ℕ) (v : Names m) {r : List ℕ} {E : Fields} where
       let h4 = and-right (starts a symbols) _ h3 in
       let n = eqb-true (numberOf (a ∷ b ∷ [])) e (and-left (eqb (numberOf (a ∷ b ∷ [])) e) _ h) in
       let d = not-true (among a digits) (and-left (not (among a digits)) _ h2) in
-      via {n = symbol1 a} {E = fields (numberOf (a ∷ [])) 0 i 0 (pos 0) 0}
+      via {n = symbol1 a} {E = fields (numberOf (a ∷ [])) 0 i 0 0 (pos 0) 0}
       (record { goes = first-goes a v (and-left (starts a symbols) _ h3); does = first-does i (numberOf (a ∷ [])) a v d (and-left (eqb (selectedOf a) 0) _ h1) refl })
-      (via (second-moves i e a b n h4) (k symbolled hydrates-symbolled))
+      (via (second-moves i e a b n h4) (k symbolled marks-symbolled))
 
   takes-word : (e : ℕ) (w : List ℕ) → wordOk e w ≡ true → Rest e 0 i r E → Ends m (Blank i) (w ++ r) E
   takes-word e [] h k = absurd (let z : _≡_ {A = ℕ} 0 1 = cc in omega arith)
@@ -149,9 +156,9 @@ module _ {m : Mode} (i : ℕ) (v : Names m) {r : List ℕ} {E : Fields} where
 
   -- `*` and the selected letters
   takes-mark : (e s b : ℕ) → among b digits ≡ false → ((k : Move) → symbolOr b k ≡ to symbolled) → ((D : Fields) → spec.symbolled b D ≡ spec.elemented e s D) → Rest e s i r E → Ends m (Blank i) (b ∷ r) E
-  takes-mark e s b d g x k = via {n = symbolled} {E = fields e s i 0 (pos 0) 0}
+  takes-mark e s b d g x k = via {n = symbolled} {E = fields e s i 0 0 (pos 0) 0}
       (record { goes = v .goes b .1 ∙ g (v .goes b .0); does = λ j μ. v .does b j (drafted (Blank i) μ) d ∙ ap (λ (D : Fields). keeps (drafted D μ)) (x (Blank i)) })
-      (k symbolled hydrates-symbolled)
+      (k symbolled marks-symbolled)
 
   takes-plain : (e : ℕ) → e < 119 → Rest e 0 i r E → Ends m (Blank i) (bytesOf e ++ r) E
   unfolding bytesOf among digits symbolOr starts symbols marks spec.symbolled selectedOf numberOf indexFrom sameBytes
@@ -205,6 +212,6 @@ takes-isotope {r} {E} (suc i) l k =
     rw (ne-eqb (suc i) 0 (λ q. omega arith)) (takes-number (w .number) (λ n. subst (λ (x : ℕ). Ends (isotope n) (Blank x) r E) (sym (w .same)) (k (isotope n) (names-isotope n))))
 
 -- THE BRACKET: after `[`, the bytes of the fields lead out of it with the fields
-pub takes-bracket : (e s i h : ℕ) (c : ℤ) (x : ℕ) → Symbolic e s → i < 1000 → h < 10 → Slight c → x < 10000
-    → Ends bracket (Blank 0) (isotopeBytes i ++ (symbolBytes e s ++ (hydrogenBytes h ++ (chargeBytes c ++ (extensionBytes x ++ 93 ∷ []))))) (fields e s i h c x)
-takes-bracket e s i h c x y li lh lc lx = takes-isotope i li (λ m v. takes-symbol i v e s y (λ m w. takes-hydrogens e s i h c x lh lc lx w))
+pub takes-bracket : (e s i k h : ℕ) (c : ℤ) (x : ℕ) → Symbolic e s → i < 1000 → k < 3 → h < 10 → Slight c → x < 10000
+    → Ends bracket (Blank 0) (isotopeBytes i ++ (symbolBytes e s ++ (markBytes k ++ (hydrogenBytes h ++ (chargeBytes c ++ (extensionBytes x ++ 93 ∷ [])))))) (fields e s i k h c x)
+takes-bracket e s i k h c x y li lk lh lc lx = takes-isotope i li (λ m v. takes-symbol i v e s y (λ m w. takes-marks e s i k h c x lk lh lc lx w))

@@ -1,21 +1,24 @@
 -- The tables that are read are valid, and writing them is accepted with the same bytes. Assumes nothing.
-use mathlib.Core.Path.{_≡_, refl, sym, ap, _∙_}
-use mathlib.Core.Bool.{Bool, true, false, _&&_, _||_, not}
+use mathlib.Core.Path.{_≡_, refl, sym, ap, _∙_, subst}
+use mathlib.Core.Bool.{Bool, true, false, _&&_, not}
 use mathlib.Core.List.{List, [], _∷_, map}
 use Prim.Native.Nat.{ℕ, zero, suc, _<_, _≤_}
 use native.Mathlib.Omega.{arith}
 use lib.Dec.{eqb, ltb}
 use lib.ListN.{length, getD}
-use lib.IntN.{ℤ, pos, negsuc}
+use lib.IntN.{ℤ}
 use borrow.Author.Tests.{eqb-true, eq-eqb, le-leb}
 use Rattle.kinds.proofs.Kind.{turned-small}
 use Rattle.kinds.specs.Kind.{maxKind}
-use Rattle.loops.proofs.Loops.{and-left, and-right, each-at, each-all}
-use Rattle.table.specs.Limits.{maxAtoms, maxBonds, ELEMENT, SELECTED, ISOTOPE, HYDROGENS, CHARGE, EXTENSION, FIRST, SECOND, KIND}
-use Rattle.table.specs.Cells.{number, inRange, atomCell, end1, end2}
-use Rattle.table.specs.Valid.{selectable, selectedOk, sameEnds, fresh, atomOk, bondOk, Valid}
+use Rattle.loops.proofs.Loops.{and-left, and-right, each-all}
+use Rattle.parity.specs.Parity.{odd}
+use Rattle.parity.specs.Mark.{markIf}
+use Rattle.table.specs.Limits.{atomCells, ELEMENT, SELECTED, ISOTOPE, HYDROGENS, CHARGE, EXTENSION, MARK, FIRST, SECOND, KIND}
+use Rattle.table.specs.Cells.{number, atomCell, mark, end1, end2}
+use Rattle.table.specs.Valid.{maxMark, markOk, selectedOk, sameEnds, fresh, atomOk, bondOk, Valid}
 use Rattle.table.specs.Valid as spec
-use Rattle.table.proofs.Valid.{range-of, bond-fine-back}
+use Rattle.table.proofs.Valid.{range-of, atom-row, mark-small, atom-fine-back, bond-fine-back}
+use Rattle.table.proofs.Orders.{mark-two}
 use Rattle.ids.specs.Limits.{maxDepth}
 use Rattle.writing_walk.specs.Token.{Bond, Tok, apart, along, ring, branch, back}
 use Rattle.writing_walk.specs.Emit.{pre}
@@ -27,23 +30,14 @@ use Rattle.writing_walk.proofs.Trip.{completed, round-trip}
 use Rattle.writing_walk.proofs.Twice.{Distinct, completed-inside, distinct-map}
 use Rattle.writing_walk.proofs.Natural.{onTok}
 use Rattle.writing_walk.proofs.Made.{completed-made}
-use Rattle.writing_walk.proofs.Order.{atom-below}
+use Rattle.writing_walk.proofs.Order.{atom-below, place-atom}
+use Rattle.walk_orders.specs.Orders.{numbersAt, newNumber}
 use Rattle.writing.specs.Write.{bondList, tokens, fewBridges, shallow}
 use Rattle.writing.proofs.Bonds.{inside}
 use Rattle.roundtrip.proofs.Held.{nobond}
 use Rattle.roundtrip.proofs.Bonds.{small-kinds, distinct}
-use Rattle.roundtrip.proofs.Back.{Molecule, ren, as-many}
-use Rattle.roundtrip.proofs.Again.{cell-here, walkAtom, tokens-again}
-
--- ---- an atom's row is valid by its cells
-abbrev okBy : ℤ → ℤ → ℤ → ℤ → ℤ → ℤ → Bool
-okBy e s i h c x =
-    inRange e (pos 0) (pos 118) && inRange i (pos 0) (pos 999) && inRange h (pos 0) (pos 9) && inRange c (negsuc 8) (pos 9) && inRange x (pos 0) (pos 9999)
-    && (inRange s (pos 0) (pos 1) && (eqb (number s) 0 || selectable (number e)))
-
-ok-cells : (t : List ℤ) (a : ℕ) → atomOk t a ≡ okBy (atomCell t a ELEMENT) (atomCell t a SELECTED) (atomCell t a ISOTOPE) (atomCell t a HYDROGENS) (atomCell t a CHARGE) (atomCell t a EXTENSION)
-unfolding atomOk selectedOk
-ok-cells t a = refl
+use Rattle.roundtrip.proofs.Back.{Molecule, ren, as-many, cell-here}
+use Rattle.roundtrip.proofs.Again.{walkAtom, tokens-again}
 
 -- two that pass count twice
 count-one : (p : Bond → Bool) (l : List Bond) (i : ℕ) → i < length l → p (getD l i nobond) ≡ true → 1 ≤ count p l
@@ -83,16 +77,28 @@ module _ (atoms bonds : List ℤ) (n m : ℕ) (v : Valid atoms bonds n m) {T U :
   abbrev C : List Bond
   C = completed n (bondList bonds m)
 
-  row-ok : (a : ℕ) → a < n → atomOk T a ≡ true
-  row-ok a l =
+  mark-ok : (a : ℕ) → a < n → markOk T a ≡ true
+  mark-ok a l =
       let w = getD pre-order a 0 in
-      let e = cell-here atoms bonds n m v M a ELEMENT l (omega arith) in
-      let s = cell-here atoms bonds n m v M a SELECTED l (omega arith) in
-      let i = cell-here atoms bonds n m v M a ISOTOPE l (omega arith) in
-      let h = cell-here atoms bonds n m v M a HYDROGENS l (omega arith) in
-      let c = cell-here atoms bonds n m v M a CHARGE l (omega arith) in
-      let x = cell-here atoms bonds n m v M a EXTENSION l (omega arith) in
-      ok-cells T a ∙ (λ j. okBy (e j) (s j) (i j) (h j) (c j) (x j)) ∙ sym (ok-cells atoms w) ∙ each-at (atomOk atoms) n w (v .atom-rows) (atom-below (ren atoms bonds n m v) a l)
+      let r = ren atoms bonds n m v in
+      let k = mark-small v w (atom-below r a l) in
+      let x = odd (map (newNumber n (bondList bonds m) C) (numbersAt w (bondList bonds m))) in
+      subst (λ (y : ℕ). markOk T y ≡ true) (place-atom r a l) (rw (M .marks w (atom-below r a l)) (range-of (markIf x (mark atoms w)) maxMark (mark-two x (mark atoms w) k)))
+
+  row-ok : (a : ℕ) → a < n → atomOk T a ≡ true
+  unfolding selectedOk
+  row-ok a l =
+      let f = atom-row v (getD pre-order a 0) (atom-below (ren atoms bonds n m v) a l) in
+      let at : (g : ℕ) → g < atomCells → (g ≡ MARK → ⊥) → atomCell T a g ≡ atomCell atoms (getD pre-order a 0) g = cell-here atoms bonds n m v M a l in
+      atom-fine-back (record {
+        element = rw (at ELEMENT (omega arith) (λ e. omega arith)) (f .element);
+        isotope = rw (at ISOTOPE (omega arith) (λ e. omega arith)) (f .isotope);
+        hydrogens = rw (at HYDROGENS (omega arith) (λ e. omega arith)) (f .hydrogens);
+        charge = rw (at CHARGE (omega arith) (λ e. omega arith)) (f .charge);
+        extension = rw (at EXTENSION (omega arith) (λ e. omega arith)) (f .extension);
+        mark = mark-ok a l;
+        selected = rw (at ELEMENT (omega arith) (λ e. omega arith), at SELECTED (omega arith) (λ e. omega arith)) (f .selected);
+      })
 
   in-list : (b : ℕ) → b < m → b < length C
   in-list b l = let e = as-many atoms bonds n m v in omega arith

@@ -5,7 +5,7 @@ use mathlib.Core.List.{List, [], _∷_, _++_}
 use Prim.Native.Nat.{ℕ, zero, suc, _+_, _-_, _*_, _/_, _%_, _<_, _≤_}
 use native.Mathlib.Omega.{arith}
 use lib.Dec.{ltb}
-use lib.ListN.{length}
+use lib.ListN.{length, length-append}
 use borrow.Author.Tests.{ltb-true, ltb-false, le-ltb, lt-ltb}
 use Rattle.kinds.specs.Kind.{maxKind, symbolKind, bondSymbol}
 use Rattle.loops.specs.Loop.{pick}
@@ -28,12 +28,13 @@ use Rattle.ids.specs.Limits.{bridges}
 use Rattle.reading.specs.Memory.{Memory, Pending, nothing, dotted, symbol, kindOf, afterDot, awaiting, counting}
 use Rattle.reading.specs.Bracket.{digit}
 use Rattle.reading.specs.Act.{act, modeAct, bridgeAct}
-use Rattle.writing_walk.specs.Reading.{St}
+use Rattle.writing_walk.specs.Keyed.{Keyed, stateOf}
 use Rattle.writing.specs.Spell.{digitByte, decimal, kindBytes, bridgeBytes}
 use Rattle.roundtrip.proofs.Feed.{Takes, stays, joins, byte}
 use Rattle.roundtrip.proofs.Decimal.{digit-of, is-digit, is-nonzero, two}
 use Rattle.roundtrip.proofs.Letters.{Begins, begins-seq, begins-bond, begins-dot, begins-inside}
-use Rattle.roundtrip.proofs.Simulation.{Holds, Bridged}
+use Rattle.roundtrip.proofs.Keying.{keying-later}
+use Rattle.roundtrip.proofs.Simulation.{Holds, Keeps, Bridged}
 
 -- where the machine stands between tokens: after an atom, or just inside a branch; d branches are open
 pub data Stance : Bool → ℕ → MachineState → Type 0 where
@@ -134,15 +135,16 @@ takes-tie i x d μ (suc k) l e =
     let y = symbol-of (suc k) (omega arith) l in
     record { mode = bond; rings = rings-bond; takes = rw (y .bytes) (byte (y .sign) [] (ap (λ (o : Move). turn o d) (y .after-goes x)) refl (y .after-does x i μ) stays) }
 
--- the bytes are a bridge, and what is read is s
-pub record Ringed (row : ℕ → Atom) (flag : ℕ → ℕ) (p q : ℕ) (s : St) (i : ℕ) (σ : MachineState) (d : ℕ) (μ : Memory) (l : List ℕ) : Type 0 where
+-- the bytes are a bridge, and what is read is z
+pub record Ringed (row : ℕ → Atom) (flag : ℕ → ℕ) (p q : ℕ) (z : Keyed) (i : ℕ) (σ : MachineState) (d : ℕ) (μ : Memory) (l : List ℕ) : Type 0 where
   pub memory : Memory
   pub waits : memory .pending ≡ nothing
-  pub holds : Holds row flag p q s memory
+  pub holds : Holds row flag p q (stateOf z) memory
+  pub keys : Keeps z (i + length l) memory
   pub takes : Takes i σ μ l (at (seq plain) d) memory
 
-module _ (row : ℕ → Atom) (flag : ℕ → ℕ) (p q : ℕ) (s : St) (r : ℕ) (l : suc r < bridges) where
-  takes-number : (i : ℕ) (m : Mode) (d : ℕ) (μ : Memory) → Rings m → ((o t : ℕ) → Bridged row flag p q s r o (counting t μ)) → Ringed row flag p q s i (at m d) d μ (bridgeBytes r)
+module _ (row : ℕ → Atom) (flag : ℕ → ℕ) (p q : ℕ) (s : Keyed) (r : ℕ) (l : suc r < bridges) where
+  takes-number : (i : ℕ) (m : Mode) (d : ℕ) (μ : Memory) → Rings m → ((t : ℕ) → Bridged row flag p q s r i (counting t μ)) → Ringed row flag p q s i (at m d) d μ (bridgeBytes r)
   unfolding bridgeBytes step next act modeAct
   takes-number i m d μ v h = go (ltb r 9) refl
     where
@@ -150,36 +152,45 @@ module _ (row : ℕ → Atom) (flag : ℕ → ℕ) (p q : ℕ) (s : St) (r : ℕ
       go true e =
           let g = ltb-true r 9 e in
           let b = digitByte (r + 1) in
-          let w = h i (μ .tens) in
+          let w = h (μ .tens) in
           let n = is-nonzero (r + 1) (omega arith) (omega arith) in
           let z : digit b ≡ suc r = omega arith in
           record {
             memory = w .memory;
             waits = w .waits;
             holds = w .holds;
+            keys = keying-later (omega arith) (w .keys);
             takes = byte b [] (ap (λ (o : Move). turn o d) (v .short-goes b n)) refl (v .short-does b n i μ ∙ ap (λ (y : ℕ). bridgeAct y i μ) z ∙ w .is) stays;
           }
       go false e =
           let g = ltb-false r 9 e in
           let a = digitByte ((r + 1) / 10) in
           let b = digitByte ((r + 1) % 10) in
-          let w = h (suc (suc i) - 2) (digit a) in
+          let w = h (digit a) in
           let na = is-nonzero ((r + 1) / 10) (omega arith) (omega arith) in
           let nb = is-digit ((r + 1) % 10) (omega arith) in
           let z : 10 * digit a + digit b ≡ suc r = rw (digit-of ((r + 1) / 10), digit-of ((r + 1) % 10)) (omega arith) in
+          let o : suc (suc i) - 2 ≡ i = omega arith in
           rw (two (r + 1) (le-ltb (r + 1) 10 (omega arith)) (lt-ltb (r + 1) 100 (omega arith)))
           (record {
             memory = w .memory;
             waits = w .waits;
             holds = w .holds;
+            keys = keying-later (omega arith) (w .keys);
             takes = byte 37 (a ∷ b ∷ []) (ap (λ (o : Move). turn o d) (v .long-goes)) refl (v .long-does i μ)
                 (byte {τ = at percent1 d} {ν = counting (digit a) μ} a (b ∷ []) (rw na) refl refl
-                (byte {τ = at (seq plain) d} b [] (rw nb) refl (ap (λ (y : ℕ). bridgeAct y (suc (suc i) - 2) (counting (digit a) μ)) z ∙ w .is) stays));
+                (byte {τ = at (seq plain) d} b [] (rw nb) refl ((λ j. bridgeAct (z j) (o j) (counting (digit a) μ)) ∙ w .is) stays));
           })
 
   -- THE BRIDGE: the bytes of its kind and its number
-  pub takes-ring : (i : ℕ) (x : Last) (d : ℕ) (μ : Memory) (k : ℕ) → k ≤ maxKind → μ .pending ≡ nothing → ((o t : ℕ) → Bridged row flag p q s r o (counting t (awaiting (waiting k) μ))) → Ringed row flag p q s i (at (seq x) d) d μ (kindBytes k ++ bridgeBytes r)
+  pub takes-ring : (i : ℕ) (x : Last) (d : ℕ) (μ : Memory) (k : ℕ) → k ≤ maxKind → μ .pending ≡ nothing → ((t : ℕ) → Bridged row flag p q s r (i + length (kindBytes k)) (counting t (awaiting (waiting k) μ))) → Ringed row flag p q s i (at (seq x) d) d μ (kindBytes k ++ bridgeBytes r)
   takes-ring i x d μ k g e h =
       let y = takes-tie i x d μ k g e in
       let z = takes-number (i + length (kindBytes k)) (y .mode) d (awaiting (waiting k) μ) (y .rings) h in
-      record { memory = z .memory; waits = z .waits; holds = z .holds; takes = joins (kindBytes k) (bridgeBytes r) (y .takes) (z .takes) }
+      record {
+        memory = z .memory;
+        waits = z .waits;
+        holds = z .holds;
+        keys = keying-later (let a = length-append (kindBytes k) (bridgeBytes r) in omega arith) (z .keys);
+        takes = joins (kindBytes k) (bridgeBytes r) (y .takes) (z .takes);
+      }

@@ -1,12 +1,12 @@
 -- The memory of a reading of bytes holds what a reading of tokens holds; atoms, branches and bridges keep it so. Assumes nothing.
-use mathlib.Core.Path.{_≡_, refl, ap, _∙_}
+use mathlib.Core.Path.{_≡_, refl, sym, ap, _∙_}
 use mathlib.Core.Bool.{Bool, true, false, _&&_, _||_, not, cond}
 use mathlib.Core.List.{List, [], _∷_, _++_}
 use Prim.Native.Nat.{ℕ, zero, suc, _+_, _-_, _*_, _<_, _≤_}
 use native.Mathlib.Omega.{arith}
 use lib.Dec.{eqb, ltb}
 use lib.ListN.{length, getD, set, length-append}
-use borrow.Author.Tests.{eqb-true, eqb-false, eq-eqb, ne-eqb, ltb-true, ltb-false, lt-leb}
+use borrow.Author.Tests.{eqb-true, eqb-false, ne-eqb, ltb-true, ltb-false, lt-leb}
 use Rattle.kinds.specs.Kind.{turned, meet, clash}
 use Rattle.loops.specs.Loop.{pick}
 use Rattle.loops.proofs.Loops.{each-all}
@@ -17,16 +17,19 @@ use Rattle.table.specs.Cells.{number, end1, end2}
 use Rattle.table.specs.Rows.{withAtom}
 use Rattle.reading_state.specs.declared.Fields.{Fields}
 use Rattle.ids.specs.Limits.{maxDepth, bridges}
-use Rattle.reading_state.specs.State.{opened, closed, bridged, joined}
+use Rattle.reading_state.specs.State.{opened, closed, bridged, joined, keysAfter}
 use Rattle.reading.specs.Memory.{Memory, nothing, kindOf, between, bonded, begun, described, drafted, moved, awaiting, counting, joins, joinedAlready, closeRefusal}
 use Rattle.reading.specs.Memory as bytes
 use Rattle.reading.specs.Act.{bridgeBond, bridgeAct}
-use Rattle.writing_walk.specs.Token.{Bond, bond, bondBetween}
-use Rattle.writing_walk.specs.Reading.{Closure, vacant, at, closureAt, setClosure, St, st, bridge}
+use Rattle.writing_walk.specs.Token.{Bond, bond, bondBetween, ring}
+use Rattle.writing_walk.specs.Reading.{Closure, vacant, at, closureAt, St, st, bridge}
 use Rattle.writing_walk.specs.Reading as token
 use Rattle.writing_walk.specs.Check.{ends, some, refusedBridge}
+use Rattle.writing_walk.specs.Keyed.{Keys, Keyed, keyed, stateOf, timeOf, stampsOf, keysOf, setStamp, stampFor, bridgeKeys, stepKeyed}
 use Rattle.writing_walk.proofs.Count.{All, more, all-map, all-at}
+use Rattle.writing_walk.proofs.Stamps.{InTime}
 use Rattle.roundtrip.proofs.Held.{openerOf, symbolOf, Bridging, bridging-set, Branching, branching-push, branching-pop, AtomTable, atom-add, nobond, rowOfBond, BondTable, bond-add}
+use Rattle.roundtrip.proofs.Keying.{Keying, keying-same, keying-open, keying-close}
 
 -- row v, flag v: the row and the flag that the bytes of the atom v leave; p and q: the cells of the tables
 pub record Sim (row : ℕ → Atom) (flag : ℕ → ℕ) (p q : ℕ) (xs : List ℕ) (bs : List Bond) (h n : ℕ) (hs : List Closure) (stk : List ℕ) (μ : Memory) : Type 0 where
@@ -43,6 +46,13 @@ pub record Sim (row : ℕ → Atom) (flag : ℕ → ℕ) (p q : ℕ) (xs : List 
 
 abbrev pub Holds : (ℕ → Atom) → (ℕ → ℕ) → ℕ → ℕ → St → Memory → Type 0
 Holds row flag p q (st xs bs h n hs stk) μ = Sim row flag p q xs bs h n hs stk μ
+
+-- the offsets and the keys in the memory are those of a reading of tokens, up to the place i of the text
+abbrev pub closuresOf : St → List Closure
+closuresOf (st xs bs h n hs stk) = hs
+
+abbrev pub Keeps : Keyed → ℕ → Memory → Type 0
+Keeps x i μ = Keying (μ .st .offset) (μ .st .keys) (closuresOf (stateOf x)) (timeOf x) (stampsOf x) (keysOf x) i
 
 -- ---- Bool tests of the two layers
 or-false : (a b : Bool) → (a || b) ≡ false → (a ≡ false) × (b ≡ false)
@@ -179,14 +189,16 @@ module _ (row : ℕ → Atom) (flag : ℕ → ℕ) (p q : ℕ) (proom : atomCell
       tail-of (more l a) = a
 
 -- ---- bridges: the number suc r is complete, with its digit or `%` at o
-pub record Bridged (row : ℕ → Atom) (flag : ℕ → ℕ) (p q : ℕ) (s : St) (r o : ℕ) (μ : Memory) : Type 0 where
+pub record Bridged (row : ℕ → Atom) (flag : ℕ → ℕ) (p q : ℕ) (x : Keyed) (r o : ℕ) (μ : Memory) : Type 0 where
   pub memory : Memory
   pub is : bridgeAct (suc r) o μ ≡ keeps memory
   pub waits : memory .pending ≡ nothing
-  pub holds : Holds row flag p q s memory
+  pub holds : Holds row flag p q (stateOf x) memory
+  pub keys : Keeps x (suc o) memory
 
 module _ (row : ℕ → Atom) (flag : ℕ → ℕ) (p q : ℕ) (proom : atomCells * maxAtoms ≤ p) (qroom : bondCells * maxBonds ≤ q)
-    (xs : List ℕ) (bs : List Bond) (h n : ℕ) (hs : List Closure) (stk : List ℕ) (μ : Memory) (s : Sim row flag p q xs bs h n hs stk μ) (r k : ℕ) (l : suc r < bridges) (c : kindOf (μ .pending) ≡ k) where
+    (xs : List ℕ) (bs : List Bond) (h n : ℕ) (hs : List Closure) (stk : List ℕ) (z : ℕ) (ts : List ℕ) (ks : List Keys) (μ : Memory) (s : Sim row flag p q xs bs h n hs stk μ) (r k : ℕ) (l : suc r < bridges) (c : kindOf (μ .pending) ≡ k)
+    (i o : ℕ) (y : Keeps (keyed (st xs bs h n hs stk) z ts ks) i μ) (t : InTime (keyed (st xs bs h n hs stk) z ts ks)) (as-many : length ks ≡ length bs) (later : i ≤ o) where
   first-end : (i : ℕ) → i < length bs → end1 (μ .bonds) i ≡ getD bs i nobond .lo
   unfolding number
   first-end i g = ap number (s .bonding .cells i FIRST g (omega arith))
@@ -205,12 +217,16 @@ module _ (row : ℕ → Atom) (flag : ℕ → ℕ) (p q : ℕ) (proom : atomCell
   unfolding joinedAlready
   not-already u g = ap not (each-all (λ i. not (joins (μ .bonds) u h i)) (length bs) (λ i a. ap not (no-join u i a g)))
 
-  opens : (o : ℕ) → closureAt hs r ≡ vacant → Bridged row flag p q (st xs bs h n (setClosure hs r (at h k)) stk) r o μ
+  -- the number c of a bridge, which stands at the place r, is read
+  abbrev after : Closure → Keyed
+  after x = keyed (bridge x k r xs bs h n hs stk) (suc z) (setStamp ts r (stampFor x z)) (ks ++ bridgeKeys x h (getD ts r 0) (suc z))
+
+  opens : closureAt hs r ≡ vacant → Bridged row flag p q (after vacant) r o μ
   unfolding bridgeAct joined
-  opens o e =
+  opens e =
       let f : getD (μ .st .opener) (suc r) 0 ≡ 0 = s .bridging .openers r l ∙ ap openerOf e in
       record {
-        memory = moved (bridged (μ .st) (suc r) (μ .st .hub .0 + 1) (kindOf (μ .pending)) o (μ .st .bonds)) μ;
+        memory = moved (bridged (μ .st) (suc r) (μ .st .hub .0 + 1) (kindOf (μ .pending)) o (μ .st .bonds) (μ .st .keys)) μ;
         is = rw f;
         waits = refl;
         holds = record {
@@ -225,19 +241,21 @@ module _ (row : ℕ → Atom) (flag : ℕ → ℕ) (p q : ℕ) (proom : atomCell
           table = s .table;
           bonding = s .bonding;
         };
+        keys = keying-same (keying-open y (t .stamps) (t .keys) r o l later h k);
       }
 
-  closes : (o u j : ℕ) → closureAt hs r ≡ at u j → refusedBridge maxAtoms maxBonds maxDepth (at u j) k bs h ≡ 0 → Bridged row flag p q (st xs (bs ++ (bondBetween u h (meet j k) ∷ [])) h n (setClosure hs r vacant) stk) r o μ
+  closes : (u j : ℕ) → closureAt hs r ≡ at u j → refusedBridge maxAtoms maxBonds maxDepth (at u j) k bs h ≡ 0 → Bridged row flag p q (after (at u j)) r o μ
   unfolding bridgeAct joined closeRefusal
-  closes o u j e z =
+  closes u j e z =
       let w = allowed (ltb (length bs) maxBonds) (eqb u h) (some (ends (bondBetween u h 0 .lo) (bondBetween u h 0 .hi)) bs) (clash j k) z in
       let m = ltb-true (length bs) maxBonds (w .0) in
       let f : getD (μ .st .opener) (suc r) 0 ≡ u + 1 = s .bridging .openers r l ∙ ap openerOf e in
       let g : getD (μ .st .symbol) (suc r) 0 ≡ j = s .bridging .symbols r l ∙ ap symbolOf e in
       let d : u + 1 - 1 ≡ u = omega arith in
       let row-is : between (u + 1 - 1) h (meet j k) ≡ rowOfBond (bondBetween u h (meet j k)) = rw d (between-same u h (meet j k)) in
+      let b : μ .st .bonds ≡ length ks = s .bonds ∙ sym as-many in
       record {
-        memory = moved (bridged (μ .st) (suc r) 0 0 0 (μ .st .bonds + 1)) (bridgeBond (suc r) μ);
+        memory = moved (bridged (μ .st) (suc r) 0 0 0 (μ .st .bonds + 1) (keysAfter (μ .st) (suc r) o)) (bridgeBond (suc r) μ);
         is = rw (f, g, ne-eqb (u + 1) 0 (λ y. omega arith), d, s .bonds, s .hub, c, lt-leb maxBonds (length bs) m, w .1 .0, not-already u (w .1 .1 .0), w .1 .1 .1);
         waits = refl;
         holds = record {
@@ -252,11 +270,12 @@ module _ (row : ℕ → Atom) (flag : ℕ → ℕ) (p q : ℕ) (proom : atomCell
           table = s .table;
           bonding = rw (f, g, s .bonds, s .hub, c, row-is) (bond-add q qroom (μ .bonds) bs (bondBetween u h (meet j k)) m (joined-ordered u h (meet j k) (w .1 .0)) (s .bonding));
         };
+        keys = rw (f, d, s .hub, b) (keying-close y (t .stamps) (t .keys) r o l later u j h e (omega arith));
       }
 
-  pub sim-ring : (o : ℕ) → refusedBridge maxAtoms maxBonds maxDepth (closureAt hs r) k bs h ≡ 0 → Bridged row flag p q (bridge (closureAt hs r) k r xs bs h n hs stk) r o μ
-  sim-ring o = go (closureAt hs r) refl
+  pub sim-ring : refusedBridge maxAtoms maxBonds maxDepth (closureAt hs r) k bs h ≡ 0 → Bridged row flag p q (stepKeyed (ring k r) (keyed (st xs bs h n hs stk) z ts ks)) r o μ
+  sim-ring = go (closureAt hs r) refl
     where
-      go : (x : Closure) → closureAt hs r ≡ x → refusedBridge maxAtoms maxBonds maxDepth x k bs h ≡ 0 → Bridged row flag p q (bridge x k r xs bs h n hs stk) r o μ
-      go vacant e z = opens o e
-      go (at u j) e z = closes o u j e z
+      go : (x : Closure) → closureAt hs r ≡ x → refusedBridge maxAtoms maxBonds maxDepth x k bs h ≡ 0 → Bridged row flag p q (after x) r o μ
+      go vacant e z = opens e
+      go (at u j) e z = closes u j e z

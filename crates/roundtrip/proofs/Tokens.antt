@@ -5,7 +5,7 @@ use mathlib.Core.List.{List, [], _∷_, _++_}
 use Prim.Native.Nat.{ℕ, suc, _+_, _*_, _<_, _≤_}
 use native.Mathlib.Omega.{arith}
 use lib.Dec.{eqb, leb}
-use lib.ListN.{length}
+use lib.ListN.{length, length-append}
 use lib.IntN.{ℤ}
 use borrow.Author.Tests.{ne-eqb, lt-leb}
 use Rattle.kinds.specs.Kind.{maxKind}
@@ -25,14 +25,16 @@ use Rattle.reading_state.specs.State.{opened, closed}
 use Rattle.reading.specs.Memory.{Memory, nothing, dotted, kindOf, bonded, begun, moved, awaiting, counting}
 use Rattle.reading.specs.Act.{act, modeAct, branchAct}
 use Rattle.writing_walk.specs.Token.{Bond, Tok, apart, along, ring, branch, back}
-use Rattle.writing_walk.specs.Reading.{Closure, closureAt, St, st, bridge}
-use Rattle.writing_walk.specs.Reading as token
+use Rattle.writing_walk.specs.Reading.{Closure, closureAt, St, st}
+use Rattle.writing_walk.specs.Keyed.{Keys, Keyed, keyed, stateOf, stepKeyed}
 use Rattle.writing_walk.specs.Check.{refusedBridge}
 use Rattle.writing.specs.Spell.{atomBytes, kindBytes, bridgeBytes}
 use Rattle.roundtrip.proofs.Feed.{Takes, stays, joins, byte}
 use Rattle.roundtrip.proofs.Letters.{Begins, Room}
 use Rattle.roundtrip.proofs.Atoms.{draftRow, outsideFlag, takes-atom}
-use Rattle.roundtrip.proofs.Simulation.{Holds, sim-await, sim-count, sim-apart, sim-along, sim-branch, sim-back, sim-ring}
+use Rattle.writing_walk.proofs.Stamps.{InTime}
+use Rattle.roundtrip.proofs.Keying.{keying-later, keying-same, keying-child}
+use Rattle.roundtrip.proofs.Simulation.{Holds, Keeps, sim-await, sim-count, sim-apart, sim-along, sim-branch, sim-back, sim-ring}
 use Rattle.roundtrip.proofs.Signs.{Stance, after, fresh, takes-dot, waiting, waiting-kind, takes-kind, takes-ring}
 
 -- a token that the writer may emit for valid tables of n atoms
@@ -74,88 +76,115 @@ module _ (atoms bonds : List ℤ) (N m p q : ℕ) (fine-atoms : (v : ℕ) → v 
   abbrev f : ℕ → List ℕ
   f = atomBytes atoms bonds m
 
-  -- the bytes of a token lead from a memory to one that holds s, in a stance with d open branches
-  pub record Stepped (i : ℕ) (σ : MachineState) (μ : Memory) (l : List ℕ) (s : St) (b : Bool) (d : ℕ) : Type 0 where
+  -- the bytes of a token lead from a memory to one that holds x, in a stance with d open branches
+  pub record Stepped (i : ℕ) (σ : MachineState) (μ : Memory) (l : List ℕ) (x : Keyed) (b : Bool) (d : ℕ) : Type 0 where
     pub state : MachineState
     pub memory : Memory
     pub takes : Takes i σ μ l state memory
     pub stance : Stance b d state
     pub waits : memory .pending ≡ nothing
-    pub holds : Is s memory
+    pub holds : Is (stateOf x) memory
+    pub keys : Keeps x (i + length l) memory
 
-  -- ---- atoms, after a joint
-  room-of : (xs : List ℕ) (bs : List Bond) (h n : ℕ) (hs : List Closure) (stk : List ℕ) (μ : Memory) → Is (st xs bs h n hs stk) μ → n < maxAtoms → (bonded μ && leb maxBonds (μ .st .bonds)) ≡ false → Room μ
-  room-of xs bs h n hs stk μ s l e =
-      let a = s .atoms in
-      let t = s .table .long in
-      record { atoms = lt-leb maxAtoms (μ .st .atoms) (omega arith); bonds = e; cells = omega arith }
+  -- ---- a reading of tokens in a state, with the time z, the stamps ts and the keys ks, and a memory that holds it
+  module _ (xs : List ℕ) (bs : List Bond) (h n : ℕ) (hs : List Closure) (stk : List ℕ) (z : ℕ) (ts : List ℕ) (ks : List Keys) where
+    abbrev now : Keyed
+    now = keyed (st xs bs h n hs stk) z ts ks
 
-  pub atom-apart : (i : ℕ) (τ : MachineState) (d : ℕ) (xs : List ℕ) (bs : List Bond) (h n : ℕ) (hs : List Closure) (stk : List ℕ) (ν : Memory) (w : ℕ) → w < N → Begins τ d → Is (st xs bs h n hs stk) ν → n < maxAtoms → bonded ν ≡ false
-      → Stepped i τ ν (f w) (token.stepToken (apart w) (st xs bs h n hs stk)) false d
-  unfolding begun
-  atom-apart i τ d xs bs h n hs stk ν w g v s l e =
-      let a = takes-atom atoms bonds m w (fine-atoms w g) i τ d ν v (room-of xs bs h n hs stk ν s l (rw e)) in
-      record { state = at (seq (a .last)) d; memory = _; takes = a .is; stance = after; waits = refl; holds = sim-apart (draftRow atoms bonds m) (outsideFlag atoms bonds m) p q proom qroom xs bs h n hs stk ν s w (a .draft) l e }
+    room-of : (μ : Memory) → Is (stateOf now) μ → n < maxAtoms → (bonded μ && leb maxBonds (μ .st .bonds)) ≡ false → Room μ
+    room-of μ s l e =
+        let a = s .atoms in
+        record { atoms = lt-leb maxAtoms (μ .st .atoms) (omega arith); bonds = e }
 
-  atom-along : (i : ℕ) (τ : MachineState) (d : ℕ) (xs : List ℕ) (bs : List Bond) (h n : ℕ) (hs : List Closure) (stk : List ℕ) (ν : Memory) (k w : ℕ) → w < N → Begins τ d → Is (st xs bs h n hs stk) ν → n < maxAtoms → length bs < maxBonds → 0 < n → bonded ν ≡ true → kindOf (ν .pending) ≡ k
-      → Stepped i τ ν (f w) (token.stepToken (along k w) (st xs bs h n hs stk)) false d
-  unfolding begun
-  atom-along i τ d xs bs h n hs stk ν k w g v s l c z e t =
-      let y = s .bonds in
-      let a = takes-atom atoms bonds m w (fine-atoms w g) i τ d ν v (room-of xs bs h n hs stk ν s l (rw (e, lt-leb maxBonds (ν .st .bonds) (omega arith)))) in
-      record { state = at (seq (a .last)) d; memory = _; takes = a .is; stance = after; waits = refl; holds = sim-along (draftRow atoms bonds m) (outsideFlag atoms bonds m) p q proom qroom xs bs h n hs stk ν s k w (a .draft) l c z e t }
+    -- ---- atoms, after a joint
+    pub atom-apart : (i : ℕ) (τ : MachineState) (d : ℕ) (ν : Memory) (w : ℕ) → w < N → Begins τ d → Is (stateOf now) ν → Keeps now i ν → n < maxAtoms → bonded ν ≡ false → Stepped i τ ν (f w) (stepKeyed (apart w) now) false d
+    unfolding begun
+    atom-apart i τ d ν w g v s y l e =
+        let a = takes-atom atoms bonds m w (fine-atoms w g) i τ d ν v (room-of ν s l (rw e)) in
+        record {
+          state = at (seq (a .last)) d;
+          memory = _;
+          takes = a .is;
+          stance = after;
+          waits = refl;
+          holds = sim-apart (draftRow atoms bonds m) (outsideFlag atoms bonds m) p q proom qroom xs bs h n hs stk ν s w (a .draft) l e;
+          keys = keying-same (keying-later (omega arith) y);
+        }
 
-  -- ---- the five tokens
-  pub step-apart : (i : ℕ) (σ : MachineState) (μ : Memory) (x : Bool) (d : ℕ) (xs : List ℕ) (bs : List Bond) (h n : ℕ) (hs : List Closure) (stk : List ℕ) (w : ℕ) → w < N → Stance x d σ → Is (st xs bs h n hs stk) μ → n < maxAtoms
-      → Stepped i σ μ (46 ∷ f w) (token.stepToken (apart w) (st xs bs h n hs stk)) false d
-  step-apart i σ μ x d xs bs h n hs stk w g v s l =
-      let j = takes-dot i μ v in
-      let ν = awaiting dotted μ in
-      let a = atom-apart (i + 1) (j .state) d xs bs h n hs stk ν w g (j .begins) (sim-await (draftRow atoms bonds m) (outsideFlag atoms bonds m) p q proom qroom xs bs h n hs stk μ s dotted) l (and-false (not (eqb (μ .st .atoms) 0))) in
-      record { state = a .state; memory = a .memory; takes = joins (46 ∷ []) (f w) (j .takes) (a .takes); stance = a .stance; waits = a .waits; holds = a .holds }
+    atom-along : (i : ℕ) (τ : MachineState) (d : ℕ) (ν : Memory) (k w : ℕ) → w < N → Begins τ d → Is (stateOf now) ν → Keeps now i ν → n < maxAtoms → length bs < maxBonds → 0 < n → bonded ν ≡ true → kindOf (ν .pending) ≡ k
+        → Stepped i τ ν (f w) (stepKeyed (along k w) now) false d
+    unfolding begun
+    atom-along i τ d ν k w g v s y l c o e t =
+        let b = s .bonds in
+        let a = takes-atom atoms bonds m w (fine-atoms w g) i τ d ν v (room-of ν s l (rw (e, lt-leb maxBonds (ν .st .bonds) (omega arith)))) in
+        record {
+          state = at (seq (a .last)) d;
+          memory = _;
+          takes = a .is;
+          stance = after;
+          waits = refl;
+          holds = sim-along (draftRow atoms bonds m) (outsideFlag atoms bonds m) p q proom qroom xs bs h n hs stk ν s k w (a .draft) l c o e t;
+          keys = keying-child (keying-later (omega arith) y);
+        }
 
-  pub step-along : (i : ℕ) (σ : MachineState) (μ : Memory) (x : Bool) (d : ℕ) (xs : List ℕ) (bs : List Bond) (h n : ℕ) (hs : List Closure) (stk : List ℕ) (k w : ℕ) → k ≤ maxKind → w < N → Stance x d σ → μ .pending ≡ nothing → Is (st xs bs h n hs stk) μ → n < maxAtoms → length bs < maxBonds → 0 < n
-      → Stepped i σ μ (kindBytes k ++ f w) (token.stepToken (along k w) (st xs bs h n hs stk)) false d
-  step-along i σ μ x d xs bs h n hs stk k w kk g v e s l c z =
-      let j = takes-kind i μ k kk e v in
-      let ν = awaiting (waiting k) μ in
-      let y = s .atoms in
-      let u : bonded ν ≡ true = rw (ne-eqb (μ .st .atoms) 0 (λ q. omega arith), waiting-kind k .1) in
-      let a = atom-along (i + length (kindBytes k)) (j .state) d xs bs h n hs stk ν k w g (j .begins) (sim-await (draftRow atoms bonds m) (outsideFlag atoms bonds m) p q proom qroom xs bs h n hs stk μ s (waiting k)) l c z u (waiting-kind k .0) in
-      record { state = a .state; memory = a .memory; takes = joins (kindBytes k) (f w) (j .takes) (a .takes); stance = a .stance; waits = a .waits; holds = a .holds }
+    -- ---- the five tokens
+    pub step-apart : (i : ℕ) (σ : MachineState) (μ : Memory) (x : Bool) (d w : ℕ) → w < N → Stance x d σ → Is (stateOf now) μ → Keeps now i μ → n < maxAtoms → Stepped i σ μ (46 ∷ f w) (stepKeyed (apart w) now) false d
+    step-apart i σ μ x d w g v s y l =
+        let j = takes-dot i μ v in
+        let a = atom-apart (i + 1) (j .state) d (awaiting dotted μ) w g (j .begins) (sim-await (draftRow atoms bonds m) (outsideFlag atoms bonds m) p q proom qroom xs bs h n hs stk μ s dotted) (keying-later (omega arith) y) l (and-false (not (eqb (μ .st .atoms) 0))) in
+        record { state = a .state; memory = a .memory; takes = joins (46 ∷ []) (f w) (j .takes) (a .takes); stance = a .stance; waits = a .waits; holds = a .holds; keys = keying-later (omega arith) (a .keys) }
 
-  pub step-ring : (i : ℕ) (x : Last) (μ : Memory) (d : ℕ) (xs : List ℕ) (bs : List Bond) (h n : ℕ) (hs : List Closure) (stk : List ℕ) (k r : ℕ) → k ≤ maxKind → suc r < bridges → μ .pending ≡ nothing → Is (st xs bs h n hs stk) μ
-      → refusedBridge maxAtoms maxBonds maxDepth (closureAt hs r) k bs h ≡ 0 → Stepped i (at (seq x) d) μ (kindBytes k ++ bridgeBytes r) (token.stepToken (ring k r) (st xs bs h n hs stk)) false d
-  step-ring i x μ d xs bs h n hs stk k r kk g e s z =
-      let R = draftRow atoms bonds m in
-      let F = outsideFlag atoms bonds m in
-      let w = sim-await R F p q proom qroom xs bs h n hs stk μ s (waiting k) in
-      let a = takes-ring R F p q (bridge (closureAt hs r) k r xs bs h n hs stk) r g i x d μ k kk e
-      (λ o t. sim-ring R F p q proom qroom xs bs h n hs stk (counting t (awaiting (waiting k) μ)) (sim-count R F p q proom qroom xs bs h n hs stk (awaiting (waiting k) μ) w t) r k g (waiting-kind k .0) o z) in
-      record { state = at (seq plain) d; memory = a .memory; takes = a .takes; stance = after; waits = a .waits; holds = a .holds }
+    pub step-along : (i : ℕ) (σ : MachineState) (μ : Memory) (x : Bool) (d k w : ℕ) → k ≤ maxKind → w < N → Stance x d σ → μ .pending ≡ nothing → Is (stateOf now) μ → Keeps now i μ → n < maxAtoms → length bs < maxBonds → 0 < n
+        → Stepped i σ μ (kindBytes k ++ f w) (stepKeyed (along k w) now) false d
+    step-along i σ μ x d k w kk g v e s y l c o =
+        let j = takes-kind i μ k kk e v in
+        let ν = awaiting (waiting k) μ in
+        let b = s .atoms in
+        let u : bonded ν ≡ true = rw (ne-eqb (μ .st .atoms) 0 (λ q. omega arith), waiting-kind k .1) in
+        let a = atom-along (i + length (kindBytes k)) (j .state) d ν k w g (j .begins) (sim-await (draftRow atoms bonds m) (outsideFlag atoms bonds m) p q proom qroom xs bs h n hs stk μ s (waiting k)) (keying-later (omega arith) y) l c o u (waiting-kind k .0) in
+        record {
+          state = a .state;
+          memory = a .memory;
+          takes = joins (kindBytes k) (f w) (j .takes) (a .takes);
+          stance = a .stance;
+          waits = a .waits;
+          holds = a .holds;
+          keys = keying-later (let b = length-append (kindBytes k) (f w) in omega arith) (a .keys);
+        }
 
-  pub step-branch : (i : ℕ) (x : Last) (μ : Memory) (d : ℕ) (xs : List ℕ) (bs : List Bond) (h n : ℕ) (hs : List Closure) (stk : List ℕ) → Is (st xs bs h n hs stk) μ → length stk < maxDepth → 0 < n
-      → Stepped i (at (seq x) d) μ (40 ∷ []) (token.stepToken branch (st xs bs h n hs stk)) true (suc d)
-  unfolding step next atomOr bridgeOr among letters nonzero bondSymbols act modeAct letterOf selectedOf branchAct
-  step-branch i x μ d xs bs h n hs stk s l z =
-      let y = s .depth in
-      record {
-        state = at inside (suc d);
-        memory = moved (opened (μ .st)) μ;
-        takes = byte 40 [] refl refl (rw (lt-leb maxDepth (μ .st .depth) (omega arith))) stays;
-        stance = fresh;
-        waits = refl;
-        holds = sim-branch (draftRow atoms bonds m) (outsideFlag atoms bonds m) p q proom qroom xs bs h n hs stk μ s l z;
-      }
+    pub step-ring : (i : ℕ) (x : Last) (μ : Memory) (d k r : ℕ) → k ≤ maxKind → suc r < bridges → μ .pending ≡ nothing → Is (stateOf now) μ → Keeps now i μ → InTime now → length ks ≡ length bs
+        → refusedBridge maxAtoms maxBonds maxDepth (closureAt hs r) k bs h ≡ 0 → Stepped i (at (seq x) d) μ (kindBytes k ++ bridgeBytes r) (stepKeyed (ring k r) now) false d
+    step-ring i x μ d k r kk g e s y t b o =
+        let R = draftRow atoms bonds m in
+        let F = outsideFlag atoms bonds m in
+        let w = sim-await R F p q proom qroom xs bs h n hs stk μ s (waiting k) in
+        let a = takes-ring R F p q (stepKeyed (ring k r) now) r g i x d μ k kk e
+        (λ c. sim-ring R F p q proom qroom xs bs h n hs stk z ts ks (counting c (awaiting (waiting k) μ)) (sim-count R F p q proom qroom xs bs h n hs stk (awaiting (waiting k) μ) w c) r k g (waiting-kind k .0) i (i + length (kindBytes k)) y t b (omega arith) o) in
+        record { state = at (seq plain) d; memory = a .memory; takes = a .takes; stance = after; waits = a .waits; holds = a .holds; keys = a .keys }
 
-  pub step-back : (i : ℕ) (x : Last) (μ : Memory) (d : ℕ) (xs : List ℕ) (bs : List Bond) (h n : ℕ) (hs : List Closure) (g : ℕ) (stk : List ℕ) → Is (st xs bs h n hs (g ∷ stk)) μ
-      → Stepped i (at (seq x) (suc d)) μ (41 ∷ []) (token.stepToken back (st xs bs h n hs (g ∷ stk))) false d
-  unfolding step next atomOr bridgeOr among letters nonzero bondSymbols act modeAct letterOf selectedOf
-  step-back i x μ d xs bs h n hs g stk s = record {
+    pub step-branch : (i : ℕ) (x : Last) (μ : Memory) (d : ℕ) → Is (stateOf now) μ → Keeps now i μ → length stk < maxDepth → 0 < n → Stepped i (at (seq x) d) μ (40 ∷ []) (stepKeyed branch now) true (suc d)
+    unfolding step next atomOr bridgeOr among letters nonzero bondSymbols act modeAct letterOf selectedOf branchAct opened
+    step-branch i x μ d s y l o =
+        let b = s .depth in
+        record {
+          state = at inside (suc d);
+          memory = moved (opened (μ .st)) μ;
+          takes = byte 40 [] refl refl (rw (lt-leb maxDepth (μ .st .depth) (omega arith))) stays;
+          stance = fresh;
+          waits = refl;
+          holds = sim-branch (draftRow atoms bonds m) (outsideFlag atoms bonds m) p q proom qroom xs bs h n hs stk μ s l o;
+          keys = keying-same (keying-later (omega arith) y);
+        }
+
+  pub step-back : (xs : List ℕ) (bs : List Bond) (h n : ℕ) (hs : List Closure) (g : ℕ) (stk : List ℕ) (z : ℕ) (ts : List ℕ) (ks : List Keys) (i : ℕ) (x : Last) (μ : Memory) (d : ℕ) → Is (st xs bs h n hs (g ∷ stk)) μ → Keeps (keyed (st xs bs h n hs (g ∷ stk)) z ts ks) i μ
+      → Stepped i (at (seq x) (suc d)) μ (41 ∷ []) (stepKeyed back (keyed (st xs bs h n hs (g ∷ stk)) z ts ks)) false d
+  unfolding step next atomOr bridgeOr among letters nonzero bondSymbols act modeAct letterOf selectedOf closed
+  step-back xs bs h n hs g stk z ts ks i x μ d s y = record {
     state = at (seq plain) d;
     memory = moved (closed (μ .st)) μ;
     takes = byte 41 [] refl refl refl stays;
     stance = after;
     waits = refl;
     holds = sim-back (draftRow atoms bonds m) (outsideFlag atoms bonds m) p q proom qroom xs bs h n hs g stk μ s;
+    keys = keying-same (keying-later (omega arith) y);
   }

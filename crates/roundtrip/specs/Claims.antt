@@ -7,15 +7,18 @@ use lib.Dec.{leb}
 use lib.ListN.{length, getD, take}
 use lib.IntN.{ℤ, pos}
 use Rattle.loops.specs.Loop.{upTo}
+use Rattle.parity.specs.Parity.{odd, oddNumber, Swaps, ascending}
+use Rattle.parity.specs.Mark.{markIf}
 use Rattle.table_graph.specs.Graph.{matchable}
-use Rattle.table.specs.Limits.{atomCells, bondCells}
-use Rattle.table.specs.Cells.{atomCell}
+use Rattle.table.specs.Limits.{atomCells, bondCells, MARK}
+use Rattle.table.specs.Cells.{atomCell, mark}
 use Rattle.table.specs.Sound.{sound}
+use Rattle.table.specs.Orders.{bondsAt}
 use Rattle.ids.specs.Limits.{bridges, maxText}
 use Rattle.reading.specs.Read.{ReadResult, refused, readOf}
 use Rattle.writing_walk.specs.Token.{Bond, bondBetween}
 use Rattle.writing_walk.specs.Same.{Perm}
-use Rattle.writing.specs.Write.{bondList, tokens, textOf, renumbering, fewBridges, shallow, lent, writeOf}
+use Rattle.writing.specs.Write.{walkBond, bondList, tokens, textOf, renumbering, fewBridges, shallow, lent, writeOf}
 use Rattle.writing.specs.Write as write
 use Rattle.writing.specs.Conditions.{ManyBridges, DeepBranch, LongText, WithinLimits}
 
@@ -37,10 +40,21 @@ renamed r b = bondBetween (numbered r (b .lo)) (numbered r (b .hi)) (b .kind)
 abbrev pub accepted : ℕ → ℕ → ℕ → List ℤ → List ℤ → ReadResult
 accepted n m k atoms bonds = record { code = 0; offset = 0; atomCount = n; bondCount = m; overfull = k; atoms = atoms; bonds = bonds }
 
+-- the new numbers of the bonds at the atom v, in the order of their old ones
+abbrev pub newNumbers : (ℕ → ℕ) → List ℤ → ℕ → ℕ → List ℕ
+newNumbers new bonds m v = map new (bondsAt bonds m v)
+
 -- 01, Writing: "reading back keeps every atom cell, every bond and its kind under" the renumbering: the tables T and U hold the molecule of atoms and bonds so, with 0 in the cells after
 pub record Same (atoms bonds : List ℤ) (n m : ℕ) (T U : List ℤ) : Type 0 where
-  pub cells : (v f : ℕ) → v < n → f < atomCells → atomCell T (numbered (renumbering bonds n m) v) f ≡ atomCell atoms v f
+  pub cells : (v f : ℕ) → v < n → f < atomCells → (f ≡ MARK → ⊥) → atomCell T (numbered (renumbering bonds n m) v) f ≡ atomCell atoms v f
   pub permuted : Perm (bondList U m) (map (renamed (renumbering bonds n m)) (bondList bonds m))
+  -- the new number of each bond, under which the same bond stands
+  pub new : ℕ → ℕ
+  pub new-bond : (b : ℕ) → b < m → (new b < m) × (walkBond U (new b) ≡ renamed (renumbering bonds n m) (walkBond bonds b))
+  -- 02, P8: the seventh cell, "turned exactly where the old and the new bond numbers put an atom's bonds in orders an odd number of swaps apart"
+  pub marks : (v : ℕ) → v < n → atomCell T (numbered (renumbering bonds n m) v) MARK ≡ pos (markIf (odd (newNumbers new bonds m v)) (mark atoms v))
+  -- which is so of every number of swaps that brings the new numbers, standing in the order of the old ones, into their own order
+  pub swaps : (v : ℕ) → v < n → {order : List ℕ} {k : ℕ} → Swaps (newNumbers new bonds m v) order k → ascending order ≡ true → odd (newNumbers new bonds m v) ≡ oddNumber k
   pub atoms-after : (j : ℕ) → atomCells * n ≤ j → getD T j (pos 0) ≡ pos 0
   pub bonds-after : (j : ℕ) → bondCells * m ≤ j → getD U j (pos 0) ≡ pos 0
 

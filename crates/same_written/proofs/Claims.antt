@@ -34,7 +34,7 @@ module _ (atoms bonds : List ℤ) (n m : ℕ) (h : sound atoms bonds n m ≡ tru
       let p = renumbering-permutes atoms bonds n m h in
       record {
         renumbers = record { size = p .long; below = p .below; one = p .injective };
-        cells = λ a f l k. s .cells a f l (omega arith);
+        cells = λ a f l k. s .cells a f l (omega arith) (λ e. omega arith);
         permuted = s .permuted;
       }
 

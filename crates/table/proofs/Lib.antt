@@ -6,3 +6,4 @@ pub mod Keys
 pub mod Checks
 pub mod Marks
 pub mod Sound
+pub mod Orders

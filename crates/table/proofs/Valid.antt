@@ -12,9 +12,9 @@ use borrow.Author.Tests.{leb-true, ltb-true, le-leb, lt-ltb, not-true}
 use Rattle.kinds.specs.Kind.{elided, maxKind}
 use Rattle.loops.specs.Loop.{each}
 use Rattle.loops.proofs.Loops.{and-left, and-right, each-at}
-use Rattle.table.specs.Limits.{maxAtoms, maxBonds, atomCells, bondCells, HYDROGENS, FIRST, KIND}
-use Rattle.table.specs.Cells.{number, inRange, atomCell, bondCell, element, selected, hydrogens, end1, end2, kind}
-use Rattle.table.specs.Valid.{countsOk, elementOk, isotopeOk, hydrogensOk, chargeOk, extensionOk, selectedOk, kindOk, sameEnds, fresh, distinct, atomOk, bondOk, valid, Valid, enough}
+use Rattle.table.specs.Limits.{maxAtoms, maxBonds, atomCells, bondCells, HYDROGENS, MARK, FIRST, KIND}
+use Rattle.table.specs.Cells.{number, inRange, atomCell, bondCell, element, selected, hydrogens, mark, end1, end2, kind}
+use Rattle.table.specs.Valid.{countsOk, elementOk, isotopeOk, hydrogensOk, chargeOk, extensionOk, maxMark, markOk, selectedOk, kindOk, sameEnds, fresh, distinct, atomOk, bondOk, valid, Valid, enough}
 
 -- the test is true exactly if the facts hold
 pub facts : (atoms bonds : List ℤ) (n m : ℕ) → valid atoms bonds n m ≡ true → Valid atoms bonds n m
@@ -61,6 +61,7 @@ pub record AtomFine (t : List ℤ) (a : ℕ) : Type 0 where
   pub hydrogens : hydrogensOk t a ≡ true
   pub charge : chargeOk t a ≡ true
   pub extension : extensionOk t a ≡ true
+  pub mark : markOk t a ≡ true
   pub selected : selectedOk t a ≡ true
 
 pub atom-fine : (t : List ℤ) (a : ℕ) → atomOk t a ≡ true → AtomFine t a
@@ -71,7 +72,9 @@ atom-fine t a h =
     let y = hydrogensOk t a in
     let c = chargeOk t a in
     let x = extensionOk t a in
-    let h5 = and-left (e && i && y && c && x) (selectedOk t a) h in
+    let k = markOk t a in
+    let h6 = and-left (e && i && y && c && x && k) (selectedOk t a) h in
+    let h5 = and-left (e && i && y && c && x) k h6 in
     let h4 = and-left (e && i && y && c) x h5 in
     let h3 = and-left (e && i && y) c h4 in
     let h2 = and-left (e && i) y h3 in
@@ -81,12 +84,13 @@ atom-fine t a h =
       hydrogens = and-right (e && i) y h3;
       charge = and-right (e && i && y) c h4;
       extension = and-right (e && i && y && c) x h5;
-      selected = and-right (e && i && y && c && x) (selectedOk t a) h;
+      mark = and-right (e && i && y && c && x) k h6;
+      selected = and-right (e && i && y && c && x && k) (selectedOk t a) h;
     }
 
 pub atom-fine-back : {t : List ℤ} {a : ℕ} → AtomFine t a → atomOk t a ≡ true
 unfolding atomOk
-atom-fine-back f = simp (f .element, f .isotope, f .hydrogens, f .charge, f .extension, f .selected)
+atom-fine-back f = simp (f .element, f .isotope, f .hydrogens, f .charge, f .extension, f .mark, f .selected)
 
 -- the conditions of a bond row, as facts on numbers
 pub record BondFine (t : List ℤ) (n b : ℕ) : Type 0 where
@@ -123,6 +127,9 @@ module _ {atoms bonds : List ℤ} {n m : ℕ} (v : Valid atoms bonds n m) where
 
   pub hydrogens-small : (a : ℕ) → a < n → hydrogens atoms a ≤ 9
   hydrogens-small a l = range-high (atomCell atoms a HYDROGENS) 9 (atom-row a l .hydrogens)
+
+  pub mark-small : (a : ℕ) → a < n → mark atoms a ≤ maxMark
+  mark-small a l = range-high (atomCell atoms a MARK) maxMark (atom-row a l .mark)
 
   pub kind-small : (b : ℕ) → b < m → kind bonds b ≤ maxKind
   kind-small b l = range-high (bondCell bonds b KIND) maxKind (bond-row b l .kind)

@@ -6,7 +6,7 @@ use lib.ListN.{getD}
 use lib.IntN.{ℤ, pos, negsuc}
 use lib.Signed.{leZ}
 use lib.Dec.{eqb}
-use Rattle.table.specs.Limits.{atomCells, bondCells, ELEMENT, SELECTED, HYDROGENS, FIRST, SECOND, KIND}
+use Rattle.table.specs.Limits.{atomCells, bondCells, ELEMENT, SELECTED, HYDROGENS, MARK, FIRST, SECOND, KIND}
 
 -- the number in a cell, 0 for a negative one
 unfoldable pub number : ℤ → ℕ
@@ -40,6 +40,10 @@ selected t a = number (atomCell t a SELECTED)
 
 abbrev pub hydrogens : List ℤ → ℕ → ℕ
 hydrogens t a = number (atomCell t a HYDROGENS)
+
+-- 02, P8: "0 none, 1 for `@`, 2 for `@@`"
+abbrev pub mark : List ℤ → ℕ → ℕ
+mark t a = number (atomCell t a MARK)
 
 -- the first end and the second end of a bond, and its kind
 abbrev pub end1 : List ℤ → ℕ → ℕ

@@ -6,3 +6,4 @@ pub mod Edits
 pub mod Keys
 pub mod Marks
 pub mod Sound
+pub mod Orders

@@ -3,9 +3,9 @@ use Prim.Native.Nat.{ℕ}
 -- P7: at most 1,000 atoms and 1,100 bonds
 pub use Rattle.ids.specs.Limits.{maxAtoms, maxBonds}
 
--- an atom row has six cells, a bond row three
+-- an atom row has seven cells (02, P8: "An atom row gains a seventh cell"), a bond row three
 abbrev pub atomCells : ℕ
-atomCells = 6
+atomCells = 7
 
 abbrev pub bondCells : ℕ
 bondCells = 3
@@ -28,6 +28,9 @@ CHARGE = 4
 
 abbrev pub EXTENSION : ℕ
 EXTENSION = 5
+
+abbrev pub MARK : ℕ
+MARK = 6
 
 -- the cells of a bond row, in their order
 abbrev pub FIRST : ℕ

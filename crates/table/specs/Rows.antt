@@ -1,7 +1,7 @@
 -- 01, The tables: whole rows, read and written. A cell past the end is 0 and is not written; so is a row above the limit.
-use Prim.Native.Nat.{ℕ}
-use mathlib.Core.List.{List}
-use lib.ListN.{set}
+use Prim.Native.Nat.{ℕ, _*_}
+use mathlib.Core.List.{List, [], _∷_}
+use lib.Seq.{sets}
 use lib.IntN.{ℤ, pos}
 use lib.Dec.{ltb}
 use mir.Val.{SFits}
@@ -9,10 +9,10 @@ use mir.Syntax.{w32}
 use Rattle.loops.specs.Loop.{pick}
 use Rattle.table.specs.declared.Atom.{Atom}
 use Rattle.table.specs.declared.Bond.{Bond}
-use Rattle.table.specs.Limits.{maxAtoms, maxBonds, ELEMENT, SELECTED, ISOTOPE, HYDROGENS, CHARGE, EXTENSION, FIRST, SECOND, KIND}
-use Rattle.table.specs.Cells.{atomPlace, bondPlace, atomCell, bondCell}
+use Rattle.table.specs.Limits.{maxAtoms, maxBonds, atomCells, bondCells, ELEMENT, SELECTED, ISOTOPE, HYDROGENS, CHARGE, EXTENSION, MARK, FIRST, SECOND, KIND}
+use Rattle.table.specs.Cells.{atomCell, bondCell}
 
--- the six cells of an atom's row, as they stand in the table
+-- the cells of an atom's row, as they stand in the table
 abbrev pub atomRow : List ℤ → ℕ → Atom
 atomRow t a =
     record {
@@ -22,6 +22,7 @@ atomRow t a =
       hydrogens = atomCell t a HYDROGENS;
       charge = atomCell t a CHARGE;
       extension = atomCell t a EXTENSION;
+      mark = atomCell t a MARK;
     }
 
 -- a row of zeros
@@ -34,6 +35,7 @@ noAtom =
       hydrogens = pos 0;
       charge = pos 0;
       extension = pos 0;
+      mark = pos 0;
     }
 
 unfoldable pub atomAt : List ℤ → ℕ → Atom
@@ -57,30 +59,29 @@ pub record AtomFits (x : Atom) : Type 0 where
   pub hydrogens : SFits w32 (x .hydrogens)
   pub charge : SFits w32 (x .charge)
   pub extension : SFits w32 (x .extension)
+  pub mark : SFits w32 (x .mark)
 
 pub record BondFits (x : Bond) : Type 0 where
   pub first : SFits w32 (x .first)
   pub second : SFits w32 (x .second)
   pub kind : SFits w32 (x .kind)
 
+-- the cells of a row, in their order
+abbrev pub cellsOf : Atom → List ℤ
+cellsOf x = x .element ∷ x .selected ∷ x .isotope ∷ x .hydrogens ∷ x .charge ∷ x .extension ∷ x .mark ∷ []
+
+abbrev pub bondCellsOf : Bond → List ℤ
+bondCellsOf x = x .first ∷ x .second ∷ x .kind ∷ []
+
 -- the table with the cells of one row replaced
 unfoldable pub withAtom : List ℤ → ℕ → Atom → List ℤ
-withAtom t a x =
-    let t1 = set t (atomPlace a ELEMENT) (x .element) in
-    let t2 = set t1 (atomPlace a SELECTED) (x .selected) in
-    let t3 = set t2 (atomPlace a ISOTOPE) (x .isotope) in
-    let t4 = set t3 (atomPlace a HYDROGENS) (x .hydrogens) in
-    let t5 = set t4 (atomPlace a CHARGE) (x .charge) in
-    set t5 (atomPlace a EXTENSION) (x .extension)
+withAtom t a x = sets t (atomCells * a) (cellsOf x)
 
 unfoldable pub putAtom : List ℤ → ℕ → Atom → List ℤ
 putAtom t a x = pick (ltb a maxAtoms) (withAtom t a x) t
 
 unfoldable pub withBond : List ℤ → ℕ → Bond → List ℤ
-withBond t b x =
-    let t1 = set t (bondPlace b FIRST) (x .first) in
-    let t2 = set t1 (bondPlace b SECOND) (x .second) in
-    set t2 (bondPlace b KIND) (x .kind)
+withBond t b x = sets t (bondCells * b) (bondCellsOf x)
 
 unfoldable pub putBond : List ℤ → ℕ → Bond → List ℤ
 putBond t b x = pick (ltb b maxBonds) (withBond t b x) t

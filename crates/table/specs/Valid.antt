@@ -12,7 +12,7 @@ use Rattle.kinds.specs.Kind.{elided, maxKind}
 use Rattle.refusal.specs.Code.{codeOf}
 use Rattle.table.specs.declared.Check.{Check}
 use Rattle.table.specs.declared.Check.the-variants.{Fine, Refused}
-use Rattle.table.specs.Limits.{maxAtoms, maxBonds, atomCells, bondCells, ELEMENT, SELECTED, ISOTOPE, HYDROGENS, CHARGE, EXTENSION, FIRST, KIND}
+use Rattle.table.specs.Limits.{maxAtoms, maxBonds, atomCells, bondCells, ELEMENT, SELECTED, ISOTOPE, HYDROGENS, CHARGE, EXTENSION, MARK, FIRST, KIND}
 use Rattle.table.specs.Cells.{number, inRange, atomCell, bondCell, element, selected, end1, end2}
 
 -- 1: the counts are within the limits
@@ -34,6 +34,13 @@ chargeOk t a = inRange (atomCell t a CHARGE) (negsuc 8) (pos 9)
 
 abbrev pub extensionOk : List ℤ → ℕ → Bool
 extensionOk t a = inRange (atomCell t a EXTENSION) (pos 0) (pos 9999)
+
+-- 02, P8: "0 none, 1 for `@`, 2 for `@@`, else unsound"
+abbrev pub maxMark : ℕ
+maxMark = 2
+
+abbrev pub markOk : List ℤ → ℕ → Bool
+markOk t a = inRange (atomCell t a MARK) (pos 0) (pos maxMark)
 
 -- 3: selected is 0, or 1 with element 6, 7, 8, 15 or 16
 abbrev pub selectable : ℕ → Bool
@@ -66,7 +73,7 @@ distinct t m = each (fresh t) 0 m
 
 -- a row passes its conditions
 unfoldable pub atomOk : List ℤ → ℕ → Bool
-atomOk t a = elementOk t a && isotopeOk t a && hydrogensOk t a && chargeOk t a && extensionOk t a && selectedOk t a
+atomOk t a = elementOk t a && isotopeOk t a && hydrogensOk t a && chargeOk t a && extensionOk t a && markOk t a && selectedOk t a
 
 unfoldable pub bondOk : List ℤ → ℕ → ℕ → Bool
 bondOk t n b = kindOk t b && orderOk t b && secondOk t n b
@@ -75,8 +82,8 @@ bondOk t n b = kindOk t b && orderOk t b && secondOk t n b
 abbrev pub selectionOk : ℤ → ℤ → Bool
 selectionOk e s = inRange s (pos 0) (pos 1) && (eqb (number s) 0 || selectable (number e))
 
-unfoldable pub atomRowOk : ℤ → ℤ → ℤ → ℤ → ℤ → ℤ → Bool
-atomRowOk e s i h c x = inRange e (pos 0) (pos 118) && inRange i (pos 0) (pos 999) && inRange h (pos 0) (pos 9) && inRange c (negsuc 8) (pos 9) && inRange x (pos 0) (pos 9999) && selectionOk e s
+unfoldable pub atomRowOk : ℤ → ℤ → ℤ → ℤ → ℤ → ℤ → ℤ → Bool
+atomRowOk e s i h c x k = inRange e (pos 0) (pos 118) && inRange i (pos 0) (pos 999) && inRange h (pos 0) (pos 9) && inRange c (negsuc 8) (pos 9) && inRange x (pos 0) (pos 9999) && inRange k (pos 0) (pos maxMark) && selectionOk e s
 
 unfoldable pub bondRowOk : ℤ → ℤ → ℤ → ℕ → Bool
 bondRowOk e f k n = inRange k (pos elided) (pos maxKind) && (leZ (pos 0) e && ltb (number e) (number f)) && ltb (number f) n

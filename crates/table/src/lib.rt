@@ -10,7 +10,7 @@ pub const MAX_ATOMS: usize = ids::MAX_ATOMS;
 pub const MAX_BONDS: usize = ids::MAX_BONDS;
 
 // The cells of an atom row and of a bond row.
-pub const ATOM_CELLS: usize = 6;
+pub const ATOM_CELLS: usize = 7;
 
 pub const BOND_CELLS: usize = 3;
 
@@ -27,6 +27,8 @@ pub const CHARGE: usize = 4;
 
 pub const EXTENSION: usize = 5;
 
+pub const MARK: usize = 6;
+
 // The fields of a bond row, by their place in it.
 pub const FIRST: usize = 0;
 
@@ -42,6 +44,7 @@ pub struct Atom {
     pub hydrogens: i32,
     pub charge: i32,
     pub extension: i32,
+    pub mark: i32,
 }
 
 // A bond row.

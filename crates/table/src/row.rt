@@ -13,6 +13,7 @@ use crate::FIRST;
 use crate::HYDROGENS;
 use crate::ISOTOPE;
 use crate::KIND;
+use crate::MARK;
 use crate::MAX_ATOMS;
 use crate::MAX_BONDS;
 use crate::SECOND;
@@ -34,6 +35,7 @@ pub fn get_atom(t: &[i32], a: AtomId) -> Atom
             hydrogens: 0,
             charge: 0,
             extension: 0,
+            mark: 0,
         };
     }
     Atom {
@@ -43,6 +45,7 @@ pub fn get_atom(t: &[i32], a: AtomId) -> Atom
         hydrogens: cell::atom_cell(t, a, HYDROGENS),
         charge: cell::atom_cell(t, a, CHARGE),
         extension: cell::atom_cell(t, a, EXTENSION),
+        mark: cell::atom_cell(t, a, MARK),
     }
 }
 

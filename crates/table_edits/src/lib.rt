@@ -3,7 +3,7 @@ ghost use mathlib.Core.Path.{_≡_};
 ghost use Prim.Native.Nat.{_<_};
 ghost use lib.ListN.{length, replicate};
 ghost use lib.IntN.{pos};
-ghost use Rattle.table.specs.Limits.{maxAtoms, maxBonds, EXTENSION, KIND};
+ghost use Rattle.table.specs.Limits.{maxAtoms, maxBonds, MARK, KIND};
 ghost use Rattle.table.specs.Cells.{atomPlace, bondPlace};
 ghost use Rattle.table.specs.Rows.{withAtom, putAtom, withBond, putBond};
 use ids::AtomId;
@@ -19,6 +19,7 @@ use table::FIRST;
 use table::HYDROGENS;
 use table::ISOTOPE;
 use table::KIND;
+use table::MARK;
 use table::MAX_ATOMS;
 use table::MAX_BONDS;
 use table::SECOND;
@@ -27,7 +28,7 @@ use table::cell;
 
 pub mod kekulize;
 
-// Writes the six cells of an atom's row that lies in the table.
+// Writes the cells of an atom's row that lies in the table.
 fn lay_atom(
     t: &mut [i32],
     a: AtomId,
@@ -37,9 +38,10 @@ fn lay_atom(
     hydrogens: i32,
     charge: i32,
     extension: i32,
+    mark: i32,
 )
-    requires { ⌜ (a .0 < maxAtoms) × (atomPlace (a .0) EXTENSION < length (now t)) ⌝ }
-    ensures { λ _. ⌜ now (t .exit) ≡ withAtom (now (t .entry)) (a .0) (record { element = element; selected = selected; isotope = isotope; hydrogens = hydrogens; charge = charge; extension = extension }) ⌝ }
+    requires { ⌜ (a .0 < maxAtoms) × (atomPlace (a .0) MARK < length (now t)) ⌝ }
+    ensures { λ _. ⌜ now (t .exit) ≡ withAtom (now (t .entry)) (a .0) (record { element = element; selected = selected; isotope = isotope; hydrogens = hydrogens; charge = charge; extension = extension; mark = mark }) ⌝ }
 {
     let p = ATOM_CELLS * a.0;
     t[p + ELEMENT] = element;
@@ -48,6 +50,7 @@ fn lay_atom(
     t[p + HYDROGENS] = hydrogens;
     t[p + CHARGE] = charge;
     t[p + EXTENSION] = extension;
+    t[p + MARK] = mark;
 }
 
 // Writes the row of an atom that the table may end before: no cell past the end.
@@ -61,6 +64,7 @@ fn put_atom_beyond(t: &mut [i32], a: AtomId, x: Atom)
     cell::put_atom_cell(t, a, HYDROGENS, x.hydrogens);
     cell::put_atom_cell(t, a, CHARGE, x.charge);
     cell::put_atom_cell(t, a, EXTENSION, x.extension);
+    cell::put_atom_cell(t, a, MARK, x.mark);
 }
 
 // internal: writes the row of an atom: no cell past the end of the table, and nothing above the limit.
@@ -70,7 +74,7 @@ pub fn put_atom(t: &mut [i32], a: AtomId, x: Atom)
     if MAX_ATOMS <= a.0 {
         return;
     }
-    if t.len() <= ATOM_CELLS * a.0 + EXTENSION {
+    if t.len() <= ATOM_CELLS * a.0 + MARK {
         put_atom_beyond(t, a, x);
         return;
     }
@@ -83,6 +87,7 @@ pub fn put_atom(t: &mut [i32], a: AtomId, x: Atom)
         x.hydrogens,
         x.charge,
         x.extension,
+        x.mark,
     );
 }
 

@@ -1,3 +1,4 @@
 pub mod Sums
 pub mod Graph
 pub mod Localized
+pub mod Marks

@@ -1,27 +1,28 @@
 -- The bonds of all atoms, counted in one pass; and what is said of them. Assumes nothing.
-use Prim.Native.Nat.{ℕ, zero, suc, _+_, _<_, _≤_}
+use Prim.Native.Nat.{ℕ, zero, suc, _+_, _-_, _<_, _≤_}
 use native.Mathlib.Omega.{arith}
 use native.Mathlib.Nat.{add-zero}
+use native.Mathlib.Numerals.{add-one}
 use mathlib.Core.Path.{_≡_, refl, sym, ap, _∙_}
-use mathlib.Core.Bool.{Bool, true, false, _&&_, _||_, not}
+use mathlib.Core.Bool.{Bool, true, false, _&&_, _||_, not, true≢false}
 use mathlib.Core.List.{List, _∷_}
-use lib.ListN.{length, getD, set, replicate, length-set, length-replicate, List·getD-eq-default}
+use lib.ListN.{length, getD, replicate, length-set, List·getD-eq-default}
 use lib.Seq.{getD-set-same, getD-set-other, ext-getD}
 use lib.IntN.{ℤ}
 use lib.Dec.{eqb, ltb}
-use borrow.Author.Tests.{eqb-true, eqb-false, ltb-true, ltb-false}
+use borrow.Author.Tests.{eqb-true, eqb-false, ltb-true, ltb-false, lt-ltb, le-leb, lt-leb}
 use Rattle.loops.specs.Loop.{pick, each, upTo}
-use Rattle.loops.proofs.Loops.{length-upTo, upTo-at, each-same}
+use Rattle.loops.proofs.Loops.{Left, left-start, left-pass, left-fail, left-end, length-upTo, upTo-at, each-at, each-all, each-same}
 use Rattle.refusal.proofs.Codes.{code-range}
-use Rattle.table.specs.Cells.{selected, end1, end2}
+use Rattle.table.specs.Cells.{selected, hydrogens, mark, end1, end2, touches}
 use Rattle.table.specs.declared.Check.{Check}
 use Rattle.table.specs.declared.Check.the-variants.{Fine, Refused}
 use Rattle.table.specs.Valid.{valid, Valid, checkCode}
-use Rattle.table.specs.Cells.{touches}
-use Rattle.table.specs.Sound.{bondDegree, loose, noneLoose, lateCode, sound}
-use Rattle.table.proofs.Valid.{facts, facts-back, bond-row}
-use Rattle.table.proofs.Sound.{degree-more, degree-none, degree-small, sound-valid, sound-late, sound-back}
-use Rattle.table_validity.specs.Degrees.{counted, Ends, tight}
+use Rattle.table.specs.Marks.{noneCrowded, noneStray}
+use Rattle.table.specs.Sound.{bondDegree, loose, noneLoose, fourNeighbours, unfit, noneUnfit, lateCode, sound}
+use Rattle.table.proofs.Valid.{facts, bond-row}
+use Rattle.table.proofs.Sound.{degree-more, degree-none, degree-small, sound-late, sound-back}
+use Rattle.table_validity.specs.Degrees.{counted, Ends, plain, tight, fit, degreesCode, countsCode}
 
 -- the ends of valid bonds
 pub ends : {atoms bonds : List ℤ} {n m len : ℕ} → Valid atoms bonds n m → n ≤ len → Ends bonds m len
@@ -85,18 +86,92 @@ degrees-step bonds b len {s} {t} {u} {e} {f} h pe pf l et eu =
     let to : getD u i 0 ≡ bondDegree bonds (b + 1) i = omega (arith, at-u, at-t, at-s, both, degree-more bonds b i) in
     to ∙ sym (upTo-at (bondDegree bonds (b + 1)) len i 0 k1))
 
--- the test on the counted numbers is the definition's
-pub tight-all : (atoms bonds : List ℤ) (n m len : ℕ) {s : List ℕ} → s ≡ degreesTo bonds m len → n ≤ len → each (tight atoms s) 0 n ≡ noneLoose atoms bonds n m
-unfolding noneLoose
-tight-all atoms bonds n m len {s} e l =
-    each-same (tight atoms s) (λ a. not (loose atoms bonds m a)) n (λ a k. rw (e, upTo-at (bondDegree bonds m) len a 0 (omega arith)))
+-- the checks on the counted numbers are the definition's
+pub counts-code : (atoms bonds : List ℤ) (n m len : ℕ) {s : List ℕ} → s ≡ degreesTo bonds m len → n ≤ len → degreesCode atoms s n ≡ countsCode atoms bonds n m
+unfolding degreesCode countsCode noneLoose noneUnfit fit
+counts-code atoms bonds n m len {s} e l =
+    rw (
+      each-same (λ a. tight atoms a (getD s a 0)) (λ a. not (loose atoms bonds m a)) n (λ a k. rw (e, upTo-at (bondDegree bonds m) len a 0 (omega arith))),
+      each-same (λ a. fit atoms a (getD s a 0)) (λ a. not (unfit atoms bonds m a)) n (λ a k. rw (e, upTo-at (bondDegree bonds m) len a 0 (omega arith))),
+    )
+
+-- atoms that are neither selected nor marked pass both
+plain-parts : (s k d : Bool) → not (s || k) ≡ true → (not (s && d) ≡ true) × (not (k && d) ≡ true)
+plain-parts true k d h = absurd (true≢false (sym h))
+plain-parts false true d h = absurd (true≢false (sym h))
+plain-parts false false d h = (refl, refl)
+
+pub plain-code : (atoms bonds : List ℤ) (n m : ℕ) → each (plain atoms) 0 n ≡ true → countsCode atoms bonds n m ≡ 0
+unfolding countsCode noneLoose noneUnfit
+plain-code atoms bonds n m h =
+    rw (
+      each-all (λ a. not (loose atoms bonds m a)) n (λ a l. plain-parts (eqb (selected atoms a) 1) (ltb 0 (mark atoms a)) (ltb (bondDegree bonds m a) 2) (each-at (plain atoms) n a h l) .0),
+      each-all (λ a. not (unfit atoms bonds m a)) n (λ a l. plain-parts (eqb (selected atoms a) 1) (ltb 0 (mark atoms a)) (not (fourNeighbours atoms bonds m a)) (each-at (plain atoms) n a h l) .1),
+    )
+
+-- after 20 and 21
+pub late-counts : (atoms bonds : List ℤ) (n m : ℕ) → noneCrowded bonds m ≡ true → noneStray bonds m ≡ true → countsCode atoms bonds n m ≡ lateCode atoms bonds n m
+unfolding countsCode lateCode
+late-counts atoms bonds n m e f = rw (e, f)
 
 -- one atom's test
-pub tight-fails : (atoms : List ℤ) (s : List ℕ) (a : ℕ) {r : ℕ} → r ≡ selected atoms a → (eqb r 1 && ltb (getD s a 0) 2) ≡ true → tight atoms s a ≡ false
-tight-fails atoms s a {r} e h = ap (λ (x : ℕ). not (eqb x 1 && ltb (getD s a 0) 2)) (sym e) ∙ rw h
+pub fit-unmarked : (atoms : List ℤ) (a d : ℕ) → mark atoms a ≡ 0 → fit atoms a d ≡ true
+unfolding fit
+fit-unmarked atoms a d e = rw e
 
-pub tight-holds : (atoms : List ℤ) (s : List ℕ) (a : ℕ) {r : ℕ} → r ≡ selected atoms a → (eqb r 1 && ltb (getD s a 0) 2) ≡ false → tight atoms s a ≡ true
-tight-holds atoms s a {r} e h = ap (λ (x : ℕ). not (eqb x 1 && ltb (getD s a 0) 2)) (sym e) ∙ rw h
+pub fit-hydrogens : (atoms : List ℤ) (a d : ℕ) → (mark atoms a ≡ 0 → ⊥) → 1 < hydrogens atoms a → fit atoms a d ≡ false
+unfolding fit
+fit-hydrogens atoms a d k h = rw (lt-ltb 0 (mark atoms a) (omega (arith, k)), lt-leb (hydrogens atoms a) 1 h) (go (eqb (d + hydrogens atoms a) 4))
+  where
+    go : (x : Bool) → not (true && not (x && false)) ≡ false
+    go true = refl
+    go false = refl
+
+pub fit-four : (atoms : List ℤ) (a d : ℕ) → (mark atoms a ≡ 0 → ⊥) → hydrogens atoms a ≤ 1 → fit atoms a d ≡ eqb (d + hydrogens atoms a) 4
+unfolding fit
+fit-four atoms a d k h = rw (lt-ltb 0 (mark atoms a) (omega (arith, k)), le-leb (hydrogens atoms a) 1 h) (go (eqb (d + hydrogens atoms a) 4))
+  where
+    go : (x : Bool) → not (true && not (x && true)) ≡ x
+    go true = refl
+    go false = refl
+
+-- a loop over the atoms stands at i of n: all before are tight, and those before are fit where the flag says so
+pub record Degrees (atoms : List ℤ) (s : List ℕ) (n i : ℕ) (flag : Bool) : Type 0 where
+  pub loose : Left (λ a. tight atoms a (getD s a 0)) n i
+  pub unfit : each (λ a. fit atoms a (getD s a 0)) 0 n ≡ (flag && each (λ a. fit atoms a (getD s a 0)) i (n - i))
+
+and-assoc : (a b c : Bool) → (a && (b && c)) ≡ ((a && b) && c)
+and-assoc true b c = refl
+and-assoc false b c = refl
+
+and-true : (a : Bool) → (a && true) ≡ a
+and-true true = refl
+and-true false = refl
+
+module _ {atoms : List ℤ} {s : List ℕ} {n : ℕ} where
+  pub degrees-begin : Degrees atoms s n 0 true
+  degrees-begin = record { loose = left-start; unfit = let d : n - 0 ≡ n = omega arith in rw d }
+
+  module _ {i : ℕ} {flag : Bool} (w : Degrees atoms s n i flag) where
+    pub degrees-loose : i < n → tight atoms i (getD s i 0) ≡ false → 22 ≡ degreesCode atoms s n
+    unfolding degreesCode
+    degrees-loose h e = rw (left-fail (w .loose) h e)
+
+    pub degrees-next : (here : Bool) → i < n → tight atoms i (getD s i 0) ≡ true → here ≡ fit atoms i (getD s i 0) → Degrees atoms s n (i + 1) (flag && here)
+    unfolding each
+    degrees-next here h e f =
+        let d : n - i ≡ suc (n - (i + 1)) = omega arith in
+        record {
+          loose = left-pass (w .loose) h e;
+          unfit = w .unfit ∙ rw (d, f, add-one i) (and-assoc flag (fit atoms i (getD s i 0)) (each (λ a. fit atoms a (getD s a 0)) (suc i) (n - suc i)));
+        }
+
+    pub degrees-end : n ≤ i → degreesCode atoms s n ≡ pick flag 0 23
+    unfolding degreesCode each
+    degrees-end h =
+        let d : n - i ≡ 0 = omega arith in
+        let u : each (λ a. fit atoms a (getD s a 0)) 0 n ≡ flag = w .unfit ∙ rw d (and-true flag) in
+        rw (left-end (w .loose) h, u)
 
 -- what a late check says of tables found valid
 abbrev pub passes : Check → Bool

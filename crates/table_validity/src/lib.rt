@@ -23,6 +23,7 @@ use table::FIRST;
 use table::HYDROGENS;
 use table::ISOTOPE;
 use table::KIND;
+use table::MARK;
 use table::MAX_ATOMS;
 use table::MAX_BONDS;
 use table::SECOND;
@@ -46,7 +47,7 @@ fn selected_ok(element: i32, selected: i32) -> bool
     cell::within(selected, 0, 1) & (plain | selectable(cell::number(element)))
 }
 
-// The six cells of an atom's row are valid.
+// The cells of an atom's row are valid.
 fn atom_row_ok(
     element: i32,
     selected: i32,
@@ -54,8 +55,9 @@ fn atom_row_ok(
     hydrogens: i32,
     charge: i32,
     extension: i32,
+    mark: i32,
 ) -> bool
-    ensures { λ r. ⌜ r ≡ atomRowOk element selected isotope hydrogens charge extension ⌝ }
+    ensures { λ r. ⌜ r ≡ atomRowOk element selected isotope hydrogens charge extension mark ⌝ }
 {
     if !cell::within(element, 0, 118) {
         return false;
@@ -72,6 +74,9 @@ fn atom_row_ok(
     if !cell::within(extension, 0, 9999) {
         return false;
     }
+    if !cell::within(mark, 0, 2) {
+        return false;
+    }
     selected_ok(element, selected)
 }
 
@@ -85,13 +90,15 @@ fn atom_ok_beyond(t: &[i32], a: AtomId) -> bool
     let isotope = cell::atom_cell(t, a, ISOTOPE);
     let hydrogens = cell::atom_cell(t, a, HYDROGENS);
     let charge = cell::atom_cell(t, a, CHARGE);
+    let extension = cell::atom_cell(t, a, EXTENSION);
     atom_row_ok(
         element,
         selected,
         isotope,
         hydrogens,
         charge,
-        cell::atom_cell(t, a, EXTENSION),
+        extension,
+        cell::atom_cell(t, a, MARK),
     )
 }
 
@@ -101,7 +108,7 @@ fn atom_ok(t: &[i32], a: AtomId) -> bool
     ensures { λ r. ⌜ r ≡ atomOk (now (t .entry)) (a .0) ⌝ }
 {
     let p = ATOM_CELLS * a.0;
-    if t.len() <= p + EXTENSION {
+    if t.len() <= p + MARK {
         return atom_ok_beyond(t, a);
     }
     atom_row_ok(
@@ -111,6 +118,7 @@ fn atom_ok(t: &[i32], a: AtomId) -> bool
         t[p + HYDROGENS],
         t[p + CHARGE],
         t[p + EXTENSION],
+        t[p + MARK],
     )
 }
 

@@ -11,7 +11,7 @@ use borrow.Author.Tests.{eqb-true, eq-eqb}
 use Rattle.loops.specs.Loop.{upTo, run}
 use Rattle.loops.proofs.Loops.{length-upTo, upTo-at}
 use Rattle.table.specs.Limits.{ISOTOPE, EXTENSION, ELEMENT}
-use Rattle.table.specs.Cells.{number, atomCell, end1, end2}
+use Rattle.table.specs.Cells.{number, atomCell, mark, end1, end2}
 use Rattle.table.specs.Valid.{Valid, sameEnds}
 use Rattle.table.proofs.Valid.{atom-row, bond-row, kind-small, hydrogens-small, apart-at, range-high}
 use Rattle.table_graph.specs.Graph.{bondSum}
@@ -28,7 +28,8 @@ use Rattle.writing_walk.proofs.Trip.{renumbering, place-lt, size-length, back-o
 use Rattle.writing_walk.proofs.Twice.{Distinct}
 use Rattle.writing_walk.proofs.Rows.{rows-text}
 use Rattle.writing.specs.Spell.{atomBytes, tokensBytes, spelledAtom}
-use Rattle.writing.specs.Write.{walkBond, bondList, tokens, textOf, fewBridges}
+use Rattle.writing.specs.Write.{walkBond, bondList, tokens, marksWritten, textOf, fewBridges}
+use Rattle.writing.proofs.Marks.{spelled-but, written-but}
 use Rattle.buffer.specs.Buffer.{BufferAt}
 use Rattle.buffer.proofs.Laws.{as-is}
 use Rattle.writing_atoms.specs.Fields.{AtomFits}
@@ -40,6 +41,7 @@ use Rattle.writing_visit.proofs.Laws.{length-kinds, length-ups, room-kept}
 use Rattle.writing_bridges.specs.Slots.{slotCount, Slots, end, rest, closesFrom, opensFrom, closeBytes, openBytes}
 use Rattle.writing_bridges.specs.Unused.{bondArrays, addBond, inWalk, Numbered, BondRoom}
 use Rattle.writing_bridges.proofs.Listed.{Listed, listed}
+use Rattle.writing_marks.specs.Marks.{Turned}
 use Rattle.writer.specs.Emit.{Ready, headBytes, moreAt, leadBytes, Texted, Pending, bytesFrom, nextSlots}
 use Rattle.writer.specs.Nest.{nestFrom, depthAfter}
 use Rattle.writer.specs.Told.{Held, Counted, Said}
@@ -110,9 +112,9 @@ module _ {atoms bonds : List ℤ} {n m : ℕ} (v : Valid atoms bonds n m) where
         ups = r .up;
       }
 
--- an atom's bytes, with its bond sum
-spelled-is : (atoms bonds : List ℤ) (m a s : ℕ) → s ≡ bondSum bonds m a → spelledAtom atoms a s ≡ atomBytes atoms bonds m a
-spelled-is atoms bonds m a s e = ap (spelledAtom atoms a) e
+-- an atom's bytes, with its mark as it is written and its bond sum
+spelled-is : (atoms bonds : List ℤ) (n m a k s : ℕ) → k ≡ mark (marksWritten atoms bonds n m) a → s ≡ bondSum bonds m a → spelledAtom atoms a k s ≡ atomBytes (marksWritten atoms bonds n m) bonds m a
+spelled-is atoms bonds n m a k s e f = sym (spelled-but (written-but atoms bonds n m) a k s) ∙ (λ i. spelledAtom (marksWritten atoms bonds n m) a (e i) (f i))
 
 same-atoms : (G : Forest) → relabel (λ a. a) G ≡ G
 same-atoms leaf = refl
@@ -167,8 +169,8 @@ module _ {atoms bonds : List ℤ} {n m : ℕ} (v : Valid atoms bonds n m) {o w u
       let l = length-ups G 0 0 in
       rw (walked .up x h) (all-at (λ y. y ≤ n) (ups G 0 0) (ups-small G 0 0 n (omega arith) (omega arith)) x (omega arith))
 
-  pub ready : (last sums los his kinds : List ℕ) (k : ℕ) → n < length last → n ≤ length sums → k ≤ m → m ≤ length los → m ≤ length his → m ≤ length kinds → (x : ℕ) → x < n → Ready atoms o u kd last sums los his kinds k x
-  ready last sums los his kinds k a b c d e g x h =
+  pub ready : (last sums written los his kinds : List ℕ) (k : ℕ) → n < length last → n ≤ length sums → n ≤ length written → k ≤ m → m ≤ length los → m ≤ length his → m ≤ length kinds → (x : ℕ) → x < n → Ready atoms o u kd last sums written los his kinds k x
+  ready last sums written los his kinds k a b j c d e g x h =
       let f = v .few-atoms in
       let p = parents-fit x h in
       let q = order-below x h in
@@ -183,6 +185,7 @@ module _ {atoms bonds : List ℤ} {n m : ℕ} (v : Valid atoms bonds n m) {o w u
         later = omega arith;
         atom = omega arith;
         sum = omega arith;
+        mark = omega arith;
         fits = atom-fits v (getD o x 0) q;
         bridges = omega (arith, v .few-bonds);
         lower = omega arith;
@@ -191,11 +194,11 @@ module _ {atoms bonds : List ℤ} {n m : ℕ} (v : Valid atoms bonds n m) {o w u
       }
 
   -- THE STATEMENT
-  pub said : (last sums los his kds l0 : List ℕ) (k : ℕ) (few flat? : Bool) (p q : BufferAt) → Listed (bondList bonds m) n los his kds k → ((a : ℕ) → a < n → getD sums a 0 ≡ bondSum bonds m a)
+  pub said : (last sums written los his kds l0 : List ℕ) (k : ℕ) (few flat? : Bool) (p q : BufferAt) → Listed (bondList bonds m) n los his kds k → ((a : ℕ) → a < n → getD sums a 0 ≡ bondSum bonds m a) → Turned atoms bonds n m written
       → n < length l0 → last ≡ run (λ x l. set l (getD u x 0) x) 0 n l0
-      → Texted (headBytes atoms o u kd last sums) los his kds n k (replicate slotCount 0) few p q → flat? ≡ nestFrom u (moreAt u last) 0 n 0 → Said atoms bonds n m few flat? p q
+      → Texted (headBytes atoms o u kd last sums written) los his kds n k (replicate slotCount 0) few p q → flat? ≡ nestFrom u (moreAt u last) 0 n 0 → Said atoms bonds n m few flat? p q
   unfolding tokens write textOf
-  said last sums los his kds l0 k few flat? p q ls sm ll el tx sh =
+  said last sums written los his kds l0 k few flat? p q ls sm mk ll el tx sh =
       let f = ls .bond-at in
       let br = ls .bridged in
       let ws = pre G in
@@ -207,18 +210,18 @@ module _ {atoms bonds : List ℤ} {n m : ℕ} (v : Valid atoms bonds n m) {o w u
       let lu : length us ≡ n = length-ups G 0 0 ∙ sz in
       let U = unused n (bondList bonds m) in
       let N = upTo f 0 k in
-      let g = atomBytes atoms bonds m in
+      let g = atomBytes (marksWritten atoms bonds n m) bonds m in
       let pe : Pending N 0 [] = inv-start N (closingBonds n N) (openingBonds n N) (back-of n N (bridges-inside br)) in
       let T = tx .told f [] br (ls .kind-at) (zero-slots f k slotCount) pe in
       let tok : tokens bonds n m ≡ flat (closingBonds n N) (openingBonds n N) (rowsOf ws ks us 0) 0 [] =
       ap (λ (H : Forest). text (closingBonds n U) (openingBonds n U) H 0 []) (same-atoms G) ∙ sym (rows-text (closingBonds n U) (openingBonds n U) G [])
       ∙ ap (λ (W : List Bond). flat (closingBonds n W) (openingBonds n W) (rowsOf ws ks us 0) 0 []) (sym (ls .all)) in
       let mo : (x : ℕ) → x < n → moreAt u last x ≡ member (getD us x 0) (drop (suc x) us) = more-at u us last n l0 lu (walked .up) (λ x h. (let y = parents-fit x h in omega arith)) el in
-      let hd : (x : ℕ) → x < n → headBytes atoms o u kd last sums x ≡ leadBytes x (getD us x 0) (member (getD us x 0) (drop (suc x) us)) (getD ks x 0) ++ g (getD ws x 0) =
-      λ x h. (λ i. leadBytes x (walked .up x h i) (mo x h i) (walked .kind x h i) ++ spelledAtom atoms (getD o x 0) (getD sums (getD o x 0) 0))
-      ∙ ap (λ (l : List ℕ). leadBytes x (getD us x 0) (member (getD us x 0) (drop (suc x) us)) (getD ks x 0) ++ l) (spelled-is atoms bonds m (getD o x 0) (getD sums (getD o x 0) 0) (sm (getD o x 0) (order-below x h)) ∙ ap g (walked .order x h)) in
-      let tb : tokensBytes g (tokens bonds n m) ≡ bytesFrom (headBytes atoms o u kd last sums) f n k 0 n [] =
-      ap (tokensBytes g) tok ∙ text-bytes ws ks us n lw lk lu f k br g n [] refl (λ h. first-root G) ∙ sym (bytes-same (headBytes atoms o u kd last sums) (headAt ws ks us n lw lk lu f k br g) f n k n 0 [] (omega arith) hd) in
+      let hd : (x : ℕ) → x < n → headBytes atoms o u kd last sums written x ≡ leadBytes x (getD us x 0) (member (getD us x 0) (drop (suc x) us)) (getD ks x 0) ++ g (getD ws x 0) =
+      λ x h. (λ i. leadBytes x (walked .up x h i) (mo x h i) (walked .kind x h i) ++ spelledAtom atoms (getD o x 0) (getD written (getD o x 0) 0) (getD sums (getD o x 0) 0))
+      ∙ ap (λ (l : List ℕ). leadBytes x (getD us x 0) (member (getD us x 0) (drop (suc x) us)) (getD ks x 0) ++ l) (spelled-is atoms bonds n m (getD o x 0) (getD written (getD o x 0) 0) (getD sums (getD o x 0) 0) (mk .mark-at (getD o x 0) (order-below x h)) (sm (getD o x 0) (order-below x h)) ∙ ap g (walked .order x h)) in
+      let tb : tokensBytes g (tokens bonds n m) ≡ bytesFrom (headBytes atoms o u kd last sums written) f n k 0 n [] =
+      ap (tokensBytes g) tok ∙ text-bytes ws ks us n lw lk lu f k br g n [] refl (λ h. first-root G) ∙ sym (bytes-same (headBytes atoms o u kd last sums written) (headAt ws ks us n lw lk lu f k br g) f n k n 0 [] (omega arith) hd) in
       record {
         numbers = T .0 ∙ sym (ap fewBridges tok ∙ few-from ws ks us n lw lk lu f k br g n 0 [] (omega arith) pe (omega arith));
         depth = sh ∙ nest-same u us (moreAt u last) (laterOne ws ks us n lw lk lu) n n 0 0 (omega arith) (walked .up) mo ∙ sym (ap (λ (ts : List Tok). nests maxDepth ts 0) tok ∙ nests-from ws ks us n lw lk lu f k br g n 0 0 [] (omega arith) (omega arith));
@@ -226,7 +229,7 @@ module _ {atoms bonds : List ℤ} {n m : ℕ} (v : Valid atoms bonds n m) {o w u
       }
 
 -- the same from the arrays of the bonds
-module _ {atoms bonds : List ℤ} {n m : ℕ} {o w u kd ea eb ks sums : List ℕ} (h : Held atoms bonds n m o w u kd ea eb ks sums) where
+module _ {atoms bonds : List ℤ} {n m : ℕ} {o w u kd ea eb ks sums written : List ℕ} (h : Held atoms bonds n m o w u kd ea eb ks sums written) where
   pub held-fit : BondsFit (wires ea eb ks) n m
   held-fit = fit-same (wired-at (h .wired)) (fit (h .valid))
 
@@ -247,8 +250,8 @@ sums-at sums g n l e h a i = ap (λ (s : List ℕ). getD s a 0) e ∙ upTo-at g 
 
 -- what the walk leaves
 module _ {bonds : List ℤ} {n m : ℕ} {o₀ w₀ u₀ k₀ o w u k : List ℕ} (room : Room n o₀ w₀ u₀ k₀) (kept : Kept o₀ w₀ u₀ k₀ o w u k) (walked : Walked (bondList bonds m) n o w u k) where
-  pub held : {atoms : List ℤ} {ea eb ks sums : List ℕ} (len : ℕ) → Valid atoms bonds n m → Wired bonds m 0 ea eb ks → m ≤ length ea → m ≤ length eb → m ≤ length ks → sums ≡ upTo (bondSum bonds m) 0 len → n ≤ len → Held atoms bonds n m o w u k ea eb ks sums
-  held {atoms} {ea} {eb} {ks} {sums} len v wired a b c summed s =
+  pub held : {atoms : List ℤ} {ea eb ks sums written : List ℕ} (len : ℕ) → Valid atoms bonds n m → Wired bonds m 0 ea eb ks → m ≤ length ea → m ≤ length eb → m ≤ length ks → sums ≡ upTo (bondSum bonds m) 0 len → n ≤ len → Turned atoms bonds n m written → Held atoms bonds n m o w u k ea eb ks sums written
+  held {atoms} {ea} {eb} {ks} {sums} {written} len v wired a b c summed s t =
       let l : length sums ≡ len = ap length summed ∙ length-upTo (bondSum bonds m) 0 len in
       record {
         valid = v;
@@ -260,7 +263,11 @@ module _ {bonds : List ℤ} {n m : ℕ} {o₀ w₀ u₀ k₀ o w u k : List ℕ}
         kinds = c;
         summed = summed ∙ ap (upTo (bondSum bonds m) 0) (sym l);
         sums-long = omega (arith, s, l);
+        turned = t;
       }
+
+  pub numbered-walk : {atoms : List ℤ} → Valid atoms bonds n m → Numbered (bondList bonds m) n w u
+  numbered-walk v = numbered v (room-kept room kept) walked
 
   pub counted : Counted bonds n m w
   counted = record { long = room-kept room kept .number; place-at = walked .number }

@@ -58,10 +58,10 @@ piece-lead x zero k m h e = rw (ne-eqb x 0 e)
 piece-lead x (suc u) k m h e = absurd (omega arith)
 
 -- an atom
-pub emitted : (atoms : List ℤ) (order up kind last sums los his kinds : List ℕ) (k x : ℕ) (a c : List ℕ) (few : Bool) (p q r s : BufferAt) (m : Bool) → m ≡ moreAt up last x
-    → Wrote (leadBytes x (getD up x 0) m (getD kind x 0)) p q → Wrote (spelledAtom atoms (getD order x 0) (getD sums (getD order x 0) 0)) q r → Ended los his kinds k x a c few r s
-    → Emitted atoms order up kind last sums los his kinds k x a c few p s
-emitted atoms order up kind last sums los his kinds k x a c few p q r s m em w1 w2 e =
+pub emitted : (atoms : List ℤ) (order up kind last sums written los his kinds : List ℕ) (k x : ℕ) (a c : List ℕ) (few : Bool) (p q r s : BufferAt) (m : Bool) → m ≡ moreAt up last x
+    → Wrote (leadBytes x (getD up x 0) m (getD kind x 0)) p q → Wrote (spelledAtom atoms (getD order x 0) (getD written (getD order x 0) 0) (getD sums (getD order x 0) 0)) q r → Ended los his kinds k x a c few r s
+    → Emitted atoms order up kind last sums written los his kinds k x a c few p s
+emitted atoms order up kind last sums written los his kinds k x a c few p q r s m em w1 w2 e =
     record {
       told = λ f n t br kk sl wi.
           let E = e .told f n t br kk sl wi in
@@ -118,10 +118,10 @@ onward-start head los his kinds n k a p =
           record { within = omega arith; long = refl; now-open = t; slots = sl; waiting = pe; few = rw z; bytes = λ e w. rw z at w };
     }
 
-module _ (atoms : List ℤ) (order up kind last sums los his kinds : List ℕ) (n k x : ℕ) (a c d : List ℕ) (p q r : BufferAt) (few : Bool)
-    (on : Onward (headBytes atoms order up kind last sums) los his kinds n k a p x c q) (h : x < n) (em : Emitted atoms order up kind last sums los his kinds k x c d few q r) where
+module _ (atoms : List ℤ) (order up kind last sums written los his kinds : List ℕ) (n k x : ℕ) (a c d : List ℕ) (p q r : BufferAt) (few : Bool)
+    (on : Onward (headBytes atoms order up kind last sums written) los his kinds n k a p x c q) (h : x < n) (em : Emitted atoms order up kind last sums written los his kinds k x c d few q r) where
   -- the numbers do not suffice
-  pub onward-stop : few ≡ false → Texted (headBytes atoms order up kind last sums) los his kinds n k a few p r
+  pub onward-stop : few ≡ false → Texted (headBytes atoms order up kind last sums written) los his kinds n k a few p r
   unfolding fewFrom
   onward-stop e =
       record {
@@ -133,7 +133,7 @@ module _ (atoms : List ℤ) (order up kind last sums los his kinds : List ℕ) (
             (e ∙ sym (g .few ∙ rw (s, y)), λ z. absurd (let v : _≡_ {A = ℕ} 0 1 = cc in omega arith));
       }
 
-  pub onward-step : few ≡ true → length d ≡ length c → Onward (headBytes atoms order up kind last sums) los his kinds n k a p (x + 1) d r
+  pub onward-step : few ≡ true → length d ≡ length c → Onward (headBytes atoms order up kind last sums written) los his kinds n k a p (x + 1) d r
   unfolding fewFrom bytesFrom
   onward-step e len =
       record {

@@ -33,7 +33,7 @@ abbrev pub moreAt : List ℕ → List ℕ → ℕ → Bool
 moreAt up last x = not (eqb (getD last (getD up x 0) 0) x)
 
 -- the arrays are ready for the atom x
-pub record Ready (atoms : List ℤ) (order up kind last sums los his kinds : List ℕ) (k x : ℕ) : Type 0 where
+pub record Ready (atoms : List ℤ) (order up kind last sums written los his kinds : List ℕ) (k x : ℕ) : Type 0 where
   pub few : x < maxAtoms
   pub here : x < length order
   pub parent : x < length up
@@ -41,6 +41,7 @@ pub record Ready (atoms : List ℤ) (order up kind last sums los his kinds : Lis
   pub later : getD up x 0 < length last
   pub atom : getD order x 0 < maxAtoms
   pub sum : getD order x 0 < length sums
+  pub mark : getD order x 0 < length written
   pub fits : AtomFits atoms (getD order x 0)
   pub bridges : k ≤ maxBonds
   pub lower : k ≤ length los
@@ -48,15 +49,15 @@ pub record Ready (atoms : List ℤ) (order up kind last sums los his kinds : Lis
   pub opened : k ≤ length kinds
 
 -- the bytes of the atom x before its bridges
-abbrev pub headBytes : List ℤ → List ℕ → List ℕ → List ℕ → List ℕ → List ℕ → ℕ → List ℕ
-headBytes atoms order up kind last sums x =
-    leadBytes x (getD up x 0) (moreAt up last x) (getD kind x 0) ++ spelledAtom atoms (getD order x 0) (getD sums (getD order x 0) 0)
+abbrev pub headBytes : List ℤ → List ℕ → List ℕ → List ℕ → List ℕ → List ℕ → List ℕ → ℕ → List ℕ
+headBytes atoms order up kind last sums written x =
+    leadBytes x (getD up x 0) (moreAt up last x) (getD kind x 0) ++ spelledAtom atoms (getD order x 0) (getD written (getD order x 0) 0) (getD sums (getD order x 0) 0)
 
 -- the atom x was written, unless the bridge numbers did not suffice
-pub record Emitted (atoms : List ℤ) (order up kind last sums los his kinds : List ℕ) (k x : ℕ) (a c : List ℕ) (few : Bool) (p q : BufferAt) : Type 0 where
+pub record Emitted (atoms : List ℤ) (order up kind last sums written los his kinds : List ℕ) (k x : ℕ) (a c : List ℕ) (few : Bool) (p q : BufferAt) : Type 0 where
   pub told : (f : ℕ → Bond) (n : ℕ) (t : List Slot) → Bridged f n k los his → ((i : ℕ) → i < k → f i .kind ≡ getD kinds i 0) → Slots f k a t → Within (closesFrom f n k x 0) (openOf t)
       → (few ≡ fits (length a) (opensFrom f n k x 0) (closeAll (closesFrom f n k x 0) t))
-      × (few ≡ true → Wrote (headBytes atoms order up kind last sums x ++ (closeBytes (closesFrom f n k x 0) t ++ openBytes (opensFrom f n k x 0) (closeAll (closesFrom f n k x 0) t))) p q
+      × (few ≡ true → Wrote (headBytes atoms order up kind last sums written x ++ (closeBytes (closesFrom f n k x 0) t ++ openBytes (opensFrom f n k x 0) (closeAll (closesFrom f n k x 0) t))) p q
       × Slots f k c (openAll (opensFrom f n k x 0) (closeAll (closesFrom f n k x 0) t)))
 
 -- what stands open when the atom x begins

@@ -15,6 +15,7 @@ use Rattle.buffer.specs.Buffer.{BufferAt, Wrote}
 use Rattle.writing.specs.Write.{WriteResult, bondList, tokens, textOf, fewBridges, shallow}
 use Rattle.writing_visit.specs.Visit.{Room, Walked}
 use Rattle.writing_visit.specs.Wires.{Wired}
+use Rattle.writing_marks.specs.Marks.{Turned}
 use Rattle.writer.specs.declared.Written.{Written}
 use Rattle.writer.specs.declared.Written.the-variants.{Text, Refused}
 
@@ -29,8 +30,8 @@ pub record Said (atoms bonds : List ℤ) (n m : ℕ) (few flat : Bool) (p q : Bu
   pub depth : flat ≡ shallow (tokens bonds n m)
   pub text : few ≡ true → Wrote (textOf atoms bonds n m) p q
 
--- arrays hold the walk of a molecule, its bonds and its bond sums
-pub record Held (atoms bonds : List ℤ) (n m : ℕ) (order number up kind ea eb ks sums : List ℕ) : Type 0 where
+-- arrays hold the walk of a molecule, its bonds, its bond sums and its marks as they are written
+pub record Held (atoms bonds : List ℤ) (n m : ℕ) (order number up kind ea eb ks sums written : List ℕ) : Type 0 where
   pub valid : Valid atoms bonds n m
   pub room : Room n order number up kind
   pub walked : Walked (bondList bonds m) n order number up kind
@@ -40,6 +41,7 @@ pub record Held (atoms bonds : List ℤ) (n m : ℕ) (order number up kind ea eb
   pub kinds : m ≤ length ks
   pub summed : sums ≡ upTo (bondSum bonds m) 0 (length sums)
   pub sums-long : n ≤ length sums
+  pub turned : Turned atoms bonds n m written
 
 -- an array holds each atom's walk number plus 1
 pub record Counted (bonds : List ℤ) (n m : ℕ) (number : List ℕ) : Type 0 where

@@ -55,6 +55,7 @@ fn emit_atom(
     kind: &[u8],
     last: &[u16],
     sums: &[u16],
+    written: &[u8],
     los: &[u16],
     his: &[u16],
     kinds: &[u8],
@@ -65,17 +66,17 @@ fn emit_atom(
     out: &mut [u8],
     at: usize,
 ) -> Spot
-    requires { ⌜ Ready (now atoms) (now order) (now up) (now kind) (now last) (now sums) (now los) (now his) (now kinds) k (x .0) ⌝ }
+    requires { ⌜ Ready (now atoms) (now order) (now up) (now kind) (now last) (now sums) (now written) (now los) (now his) (now kinds) k (x .0) ⌝ }
     requires { ⌜ Marked (now marks) (now los) (now his) k ⌝ }
     requires { ⌜ (length (now slots) < bridges) × (x .0 < length (now marks)) ⌝ }
-    ensures { λ r. ⌜ Emitted (now (atoms .entry)) (now (order .entry)) (now (up .entry)) (now (kind .entry)) (now (last .entry)) (now (sums .entry)) (now (los .entry)) (now (his .entry)) (now (kinds .entry)) k (x .0) (now (slots .entry)) (now (slots .exit)) (r .few) (bufferAt (now (out .entry)) at) (bufferAt (now (out .exit)) (r .at)) ⌝ }
+    ensures { λ r. ⌜ Emitted (now (atoms .entry)) (now (order .entry)) (now (up .entry)) (now (kind .entry)) (now (last .entry)) (now (sums .entry)) (now (written .entry)) (now (los .entry)) (now (his .entry)) (now (kinds .entry)) k (x .0) (now (slots .entry)) (now (slots .exit)) (r .few) (bufferAt (now (out .entry)) at) (bufferAt (now (out .exit)) (r .at)) ⌝ }
 {
     let i = x.0;
     let a = order[i] as usize;
     let u = up[i] as usize;
     let more = last[u] as usize != i;
     let at = lead(out, at, x, u, more, kind[i] as usize);
-    let at = writing_atoms::fields::atom(atoms, AtomId(a), sums[a] as usize, out, at);
+    let at = writing_atoms::fields::atom(atoms, AtomId(a), written[a], sums[a] as usize, out, at);
     writing_bridges::ring_ends(los, his, kinds, marks, k, x, slots, out, at)
 }
 
@@ -88,6 +89,7 @@ pub fn emit(
     kind: &[u8],
     last: &[u16],
     sums: &[u16],
+    written: &[u8],
     los: &[u16],
     his: &[u16],
     kinds: &[u8],
@@ -95,10 +97,10 @@ pub fn emit(
     k: usize,
     out: &mut [u8],
 ) -> Spot
-    requires { ⌜ ((x : ℕ) → x < n → Ready (now atoms) (now order) (now up) (now kind) (now last) (now sums) (now los) (now his) (now kinds) k x) ⌝ }
+    requires { ⌜ ((x : ℕ) → x < n → Ready (now atoms) (now order) (now up) (now kind) (now last) (now sums) (now written) (now los) (now his) (now kinds) k x) ⌝ }
     requires { ⌜ Marked (now marks) (now los) (now his) k ⌝ }
     requires { ⌜ n ≤ length (now marks) ⌝ }
-    ensures { λ r. ⌜ Texted (headBytes (now (atoms .entry)) (now (order .entry)) (now (up .entry)) (now (kind .entry)) (now (last .entry)) (now (sums .entry))) (now (los .entry)) (now (his .entry)) (now (kinds .entry)) n k (replicate slotCount 0) (r .few) (bufferAt (now (out .entry)) 0) (bufferAt (now (out .exit)) (r .at)) ⌝ }
+    ensures { λ r. ⌜ Texted (headBytes (now (atoms .entry)) (now (order .entry)) (now (up .entry)) (now (kind .entry)) (now (last .entry)) (now (sums .entry)) (now (written .entry))) (now (los .entry)) (now (his .entry)) (now (kinds .entry)) n k (replicate slotCount 0) (r .few) (bufferAt (now (out .entry)) 0) (bufferAt (now (out .exit)) (r .at)) ⌝ }
 {
     let mut slots = [0u16; SLOTS];
     let mut at = 0;
@@ -111,6 +113,7 @@ pub fn emit(
             kind,
             last,
             sums,
+            written,
             los,
             his,
             kinds,

@@ -1,5 +1,6 @@
 // Writing: the public call, and the bytes of a walk.
 ghost use mathlib.Core.Path.{_≡_};
+ghost use mathlib.Core.Bool.{true};
 ghost use mathlib.Core.List.{List, _++_};
 ghost use Prim.Native.Nat.{ℕ, _-_, _<_, _≤_};
 ghost use lib.ListN.{length, getD, take, drop, replicate};
@@ -11,6 +12,7 @@ ghost use Rattle.ids.specs.Small.{small};
 ghost use Rattle.writing_bridges.specs.Unused.{BondRoom};
 ghost use Rattle.writing.specs.Write.{writeValid, writeOf};
 ghost use Rattle.table.specs.Valid.{Valid};
+ghost use Rattle.table.specs.Sound.{noneUnfit};
 ghost use Rattle.buffer.specs.Buffer.{bufferAt};
 ghost use Rattle.writer.specs.Told.{Held, Counted, Said, told};
 use ids::MAX_TEXT;
@@ -48,6 +50,7 @@ fn draw(
     eb: &[u16],
     ks: &[u8],
     sums: &[u16],
+    written: &[u8],
     los: &mut [u16],
     his: &mut [u16],
     kinds: &mut [u8],
@@ -58,8 +61,8 @@ fn draw(
     requires { ⌜ BondRoom m (now los) (now his) (now kinds) ⌝ }
     requires { ⌜ (now marks ≡ replicate (length (now marks)) 0) × (n ≤ length (now marks)) ⌝ }
     requires { ⌜ n < length (now last) ⌝ }
-    requires { ⌜ ((bonds : List ℤ) × Held (now atoms) bonds n m (now order) (now number) (now up) (now kind) (now ea) (now eb) (now ks) (now sums)) ⌝ }
-    ensures { λ r. ⌜ ((bonds : List ℤ) → Held (now (atoms .entry)) bonds n m (now (order .entry)) (now (number .entry)) (now (up .entry)) (now (kind .entry)) (now (ea .entry)) (now (eb .entry)) (now (ks .entry)) (now (sums .entry)) → Said (now (atoms .entry)) bonds n m (r .few) (r .flat) (bufferAt (now (out .entry)) 0) (bufferAt (now (out .exit)) (r .at))) ⌝ }
+    requires { ⌜ ((bonds : List ℤ) × Held (now atoms) bonds n m (now order) (now number) (now up) (now kind) (now ea) (now eb) (now ks) (now sums) (now written)) ⌝ }
+    ensures { λ r. ⌜ ((bonds : List ℤ) → Held (now (atoms .entry)) bonds n m (now (order .entry)) (now (number .entry)) (now (up .entry)) (now (kind .entry)) (now (ea .entry)) (now (eb .entry)) (now (ks .entry)) (now (sums .entry)) (now (written .entry)) → Said (now (atoms .entry)) bonds n m (r .few) (r .flat) (bufferAt (now (out .entry)) 0) (bufferAt (now (out .exit)) (r .at))) ⌝ }
 {
     let k = writing_bridges::unused::unused(ea, eb, ks, n, m, number, up, los, his, kinds, marks);
     nest::last_children(up, n, last);
@@ -71,6 +74,7 @@ fn draw(
         kind,
         last,
         sums,
+        written,
         los,
         his,
         kinds,
@@ -95,6 +99,7 @@ fn text_small(
     out: &mut [u8],
 ) -> Verdict
     requires { ⌜ Valid (now atoms) (now bonds) n m ⌝ }
+    requires { ⌜ noneUnfit (now atoms) (now bonds) n m ≡ true ⌝ }
     requires { ⌜ (now number ≡ replicate (length (now number)) 0) × (n ≤ length (now number)) ⌝ }
     requires { ⌜ (n ≤ small) × (m ≤ small) ⌝ }
     ensures { λ r. ⌜ Said (now (atoms .entry)) (now (bonds .entry)) n m (r .few) (r .flat) (bufferAt (now (out .entry)) 0) (bufferAt (now (out .exit)) (r .at)) ⌝ }
@@ -126,6 +131,8 @@ fn text_small(
         &mut after,
         &mut behind,
     );
+    let mut written = [0u8; SMALL];
+    writing_marks::turn(atoms, bonds, n, m, number, &up, &mut written);
     let mut los = [0u16; SMALL];
     let mut his = [0u16; SMALL];
     let mut kinds = [0u8; SMALL];
@@ -143,6 +150,7 @@ fn text_small(
         &eb,
         &ks,
         &sums,
+        &written,
         &mut los,
         &mut his,
         &mut kinds,
@@ -162,6 +170,7 @@ fn text_large(
     out: &mut [u8],
 ) -> Verdict
     requires { ⌜ Valid (now atoms) (now bonds) n m ⌝ }
+    requires { ⌜ noneUnfit (now atoms) (now bonds) n m ≡ true ⌝ }
     requires { ⌜ (now number ≡ replicate (length (now number)) 0) × (n ≤ length (now number)) ⌝ }
     ensures { λ r. ⌜ Said (now (atoms .entry)) (now (bonds .entry)) n m (r .few) (r .flat) (bufferAt (now (out .entry)) 0) (bufferAt (now (out .exit)) (r .at)) ⌝ }
     ensures { λ _. ⌜ Counted (now (bonds .entry)) n m (now (number .exit)) ⌝ }
@@ -192,6 +201,8 @@ fn text_large(
         &mut after,
         &mut behind,
     );
+    let mut written = [0u8; MAX_ATOMS];
+    writing_marks::turn(atoms, bonds, n, m, number, &up, &mut written);
     let mut los = [0u16; MAX_BONDS];
     let mut his = [0u16; MAX_BONDS];
     let mut kinds = [0u8; MAX_BONDS];
@@ -209,6 +220,7 @@ fn text_large(
         &eb,
         &ks,
         &sums,
+        &written,
         &mut los,
         &mut his,
         &mut kinds,
@@ -228,6 +240,7 @@ fn text(
     out: &mut [u8],
 ) -> Verdict
     requires { ⌜ Valid (now atoms) (now bonds) n m ⌝ }
+    requires { ⌜ noneUnfit (now atoms) (now bonds) n m ≡ true ⌝ }
     requires { ⌜ (now number ≡ replicate (length (now number)) 0) × (n ≤ length (now number)) ⌝ }
     ensures { λ r. ⌜ Said (now (atoms .entry)) (now (bonds .entry)) n m (r .few) (r .flat) (bufferAt (now (out .entry)) 0) (bufferAt (now (out .exit)) (r .at)) ⌝ }
     ensures { λ _. ⌜ Counted (now (bonds .entry)) n m (now (number .exit)) ⌝ }
@@ -295,6 +308,7 @@ pub fn write_valid(
     ren: &mut [u16],
 ) -> Written
     requires { ⌜ Valid (now atoms) (now bonds) n m ⌝ }
+    requires { ⌜ noneUnfit (now atoms) (now bonds) n m ≡ true ⌝ }
     requires { ⌜ (maxText ≤ length (now out)) × (maxAtoms ≤ length (now ren)) ⌝ }
     ensures { λ r. ⌜ told r (now (out .exit)) (now (ren .exit)) ≡ writeValid (now (atoms .entry)) (now (bonds .entry)) n m (now (out .entry)) (now (ren .entry)) ⌝ }
 {

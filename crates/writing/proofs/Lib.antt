@@ -1,3 +1,5 @@
 pub mod Bonds
 pub mod Limits
 pub mod Claims
+pub mod Marks
+pub mod Examples

@@ -9,7 +9,7 @@ use Rattle.loops.specs.Loop.{pick}
 use Rattle.element.specs.Lookup.{bare, bytesOf, selectedBytes}
 use Rattle.valence.specs.Valence.{implied}
 use Rattle.table.specs.Limits.{ISOTOPE, CHARGE, EXTENSION}
-use Rattle.table.specs.Cells.{number, atomCell, element, selected, hydrogens}
+use Rattle.table.specs.Cells.{number, atomCell, element, selected, hydrogens, mark}
 use Rattle.table_graph.specs.Graph.{bondSum}
 use Rattle.writing_walk.specs.Token.{Tok, apart, along, ring, branch, back}
 
@@ -31,6 +31,10 @@ isotopeBytes i = pick (eqb i 0) [] (decimal i)
 abbrev pub symbolBytes : ℕ → ℕ → List ℕ
 symbolBytes e s = pick (eqb s 1) (selectedBytes e) (bytesOf e)
 
+-- 02, P8: "0 none, 1 for `@`, 2 for `@@`"
+unfoldable pub markBytes : ℕ → List ℕ
+markBytes k = pick (eqb k 0) [] (pick (eqb k 1) (64 ∷ []) (64 ∷ 64 ∷ []))
+
 -- "`H` is 1, `H2` to `H9`"
 unfoldable pub hydrogenBytes : ℕ → List ℕ
 hydrogenBytes h = pick (eqb h 0) [] (pick (eqb h 1) (72 ∷ []) (72 ∷ digitByte h ∷ []))
@@ -46,30 +50,31 @@ chargeBytes (negsuc n) = sizeBytes 45 (suc n)
 abbrev pub extensionBytes : ℕ → List ℕ
 extensionBytes x = pick (eqb x 0) [] (58 ∷ decimal x)
 
-unfoldable pub bracketBytes : List ℤ → ℕ → List ℕ
-bracketBytes t a =
-    91 ∷ (isotopeBytes (number (atomCell t a ISOTOPE)) ++ (symbolBytes (element t a) (selected t a) ++ (hydrogenBytes (hydrogens t a)
-    ++ (chargeBytes (atomCell t a CHARGE) ++ (extensionBytes (number (atomCell t a EXTENSION)) ++ 93 ∷ [])))))
+-- the fields in their order, 02, P8: "`@` and `@@` between symbol and hydrogens"; k: the mark as it is written
+unfoldable pub bracketBytes : List ℤ → ℕ → ℕ → List ℕ
+bracketBytes t a k =
+    91 ∷ (isotopeBytes (number (atomCell t a ISOTOPE)) ++ (symbolBytes (element t a) (selected t a) ++ (markBytes k ++ (hydrogenBytes (hydrogens t a)
+    ++ (chargeBytes (atomCell t a CHARGE) ++ (extensionBytes (number (atomCell t a EXTENSION)) ++ 93 ∷ []))))))
 
 abbrev pub neutral : ℤ → Bool
 neutral (pos n) = eqb n 0
 neutral (negsuc n) = false
 
--- "without brackets exactly if isotope, charge and extension are 0, its letter is allowed outside, and read there it would get the same hydrogens"; sum: its bond sum
-unfoldable pub withoutBrackets : List ℤ → ℕ → ℕ → Bool
-withoutBrackets atoms a sum =
-    eqb (number (atomCell atoms a ISOTOPE)) 0 && neutral (atomCell atoms a CHARGE) && eqb (number (atomCell atoms a EXTENSION)) 0
+-- "without brackets exactly if isotope, charge and extension are 0, its letter is allowed outside, and read there it would get the same hydrogens"; 02, P8: "A marked atom is always written in brackets"; k: its mark; sum: its bond sum
+unfoldable pub withoutBrackets : List ℤ → ℕ → ℕ → ℕ → Bool
+withoutBrackets atoms a k sum =
+    eqb (number (atomCell atoms a ISOTOPE)) 0 && neutral (atomCell atoms a CHARGE) && eqb (number (atomCell atoms a EXTENSION)) 0 && eqb k 0
     && bare (element atoms a) && eqb (implied (element atoms a) (selected atoms a) sum) (hydrogens atoms a)
 
-unfoldable pub spelledAtom : List ℤ → ℕ → ℕ → List ℕ
-spelledAtom atoms a sum = pick (withoutBrackets atoms a sum) (symbolBytes (element atoms a) (selected atoms a)) (bracketBytes atoms a)
+unfoldable pub spelledAtom : List ℤ → ℕ → ℕ → ℕ → List ℕ
+spelledAtom atoms a k sum = pick (withoutBrackets atoms a k sum) (symbolBytes (element atoms a) (selected atoms a)) (bracketBytes atoms a k)
 
--- of an atom of a molecule
+-- of an atom of a molecule, with the mark that its row has
 abbrev pub unbracketed : List ℤ → List ℤ → ℕ → ℕ → Bool
-unbracketed atoms bonds m a = withoutBrackets atoms a (bondSum bonds m a)
+unbracketed atoms bonds m a = withoutBrackets atoms a (mark atoms a) (bondSum bonds m a)
 
 abbrev pub atomBytes : List ℤ → List ℤ → ℕ → ℕ → List ℕ
-atomBytes atoms bonds m a = spelledAtom atoms a (bondSum bonds m a)
+atomBytes atoms bonds m a = spelledAtom atoms a (mark atoms a) (bondSum bonds m a)
 
 -- "kind 0 is written as nothing"
 unfoldable pub kindBytes : ℕ → List ℕ

@@ -10,10 +10,12 @@ use Rattle.table.specs.Limits.{maxAtoms, maxBonds}
 use Rattle.table.specs.Cells.{end1, end2, kind}
 use Rattle.table.specs.Valid.{enough}
 use Rattle.table.specs.Sound.{sound}
+use Rattle.table.specs.Orders.{turnMarks}
 use Rattle.ids.specs.Limits.{maxDepth, bridges, maxText}
 use Rattle.writing_walk.specs.Token.{Bond, bond, Tok, apart, along, ring, branch, back}
-use Rattle.writing_walk.specs.Emit.{pre}
+use Rattle.writing_walk.specs.Emit.{Forest, pre}
 use Rattle.writing_walk.specs.Walk.{forestOf, place, write}
+use Rattle.writing_walk.specs.Parents.{ups, otherEnd, walkRank}
 use Rattle.writing_walk.specs.Depth.{nests}
 use Rattle.writing.specs.Spell.{atomBytes, tokensBytes}
 
@@ -28,9 +30,19 @@ bondList bonds m = upTo (walkBond bonds) 0 m
 unfoldable pub tokens : List ℤ → ℕ → ℕ → List Tok
 tokens bonds n m = write n (λ a. a) (bondList bonds m)
 
+-- 02, P8, the place of the bond b among the neighbours of the atom a in the text: "the preceding atom, the virtual hydrogen, bridges as their digits stand in the text at this atom, then children"
+unfoldable pub writtenRank : List ℤ → ℕ → ℕ → ℕ → ℕ → ℕ
+writtenRank bonds n m a b =
+    let walked : Forest = forestOf n (bondList bonds m) in
+    walkRank n (ups walked 0 0) (place (pre walked) a) (place (pre walked) (otherEnd a (walkBond bonds b)))
+
+-- "reading turns it when the two orders differ by an odd number of swaps, and writing turns it back": the atoms with their marks as they are written
+unfoldable pub marksWritten : List ℤ → List ℤ → ℕ → ℕ → List ℤ
+marksWritten atoms bonds n m = turnMarks (writtenRank bonds n m) bonds m n atoms
+
 -- the bytes of the walk
 unfoldable pub textOf : List ℤ → List ℤ → ℕ → ℕ → List ℕ
-textOf atoms bonds n m = tokensBytes (atomBytes atoms bonds m) (tokens bonds n m)
+textOf atoms bonds n m = tokensBytes (atomBytes (marksWritten atoms bonds n m) bonds m) (tokens bonds n m)
 
 -- "The renumbering gives each atom's walk number"
 unfoldable pub renumbering : List ℤ → ℕ → ℕ → List ℕ

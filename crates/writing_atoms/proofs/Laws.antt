@@ -19,7 +19,7 @@ use Rattle.element.specs.Lookup.{bytesOf, selectedBytes, spelling}
 use Rattle.element.specs.declared.Spelling.{Spelling}
 use Rattle.table.specs.Limits.{ISOTOPE, CHARGE, EXTENSION}
 use Rattle.table.specs.Cells.{number, inRange, atomCell, element, selected, hydrogens}
-use Rattle.writing.specs.Spell.{digitByte, decimal, kindBytes, bridgeBytes, isotopeBytes, symbolBytes, sizeBytes, hydrogenBytes, chargeBytes, extensionBytes, bracketBytes, neutral, withoutBrackets, spelledAtom}
+use Rattle.writing.specs.Spell.{digitByte, decimal, kindBytes, bridgeBytes, isotopeBytes, symbolBytes, markBytes, sizeBytes, hydrogenBytes, chargeBytes, extensionBytes, bracketBytes, neutral, withoutBrackets, spelledAtom}
 use Rattle.writing_atoms.specs.Fields.{letters}
 
 -- the digits of a number
@@ -78,6 +78,19 @@ size2 s n e f = simp (ne-eqb n 0 e, ne-eqb n 1 f)
 pub hydrogens-size : (h : ℕ) → hydrogenBytes h ≡ sizeBytes 72 h
 unfolding hydrogenBytes sizeBytes
 hydrogens-size h = refl
+
+-- the mark
+pub mark0 : (k : ℕ) → k ≡ 0 → markBytes k ≡ []
+unfolding markBytes
+mark0 k e = simp e
+
+pub mark1 : (k : ℕ) → k ≡ 1 → markBytes k ≡ 64 ∷ []
+unfolding markBytes
+mark1 k e = simp e
+
+pub mark2 : (k : ℕ) → (k ≡ 0 → ⊥) → (k ≡ 1 → ⊥) → markBytes k ≡ 64 ∷ 64 ∷ []
+unfolding markBytes
+mark2 k e f = simp (ne-eqb k 0 e, ne-eqb k 1 f)
 
 -- the letters of symbols
 pub letters0 : (s : Spelling) → s .first ≡ 0 → letters s ≡ []
@@ -176,10 +189,10 @@ pub plain : (e s : ℕ) (w : Spelling) → (s ≡ 1 → ⊥) → w ≡ spelling 
 plain e s w h g = simp (ne-eqb s 1 h) (sym (ap letters g ∙ symbol-letters e))
 
 -- a bracket, from its fields
-pub bracket-is : (t : List ℤ) (a i e s h x : ℕ) (z : ℤ) → i ≡ number (atomCell t a ISOTOPE) → e ≡ element t a → s ≡ selected t a → h ≡ hydrogens t a → z ≡ atomCell t a CHARGE → x ≡ number (atomCell t a EXTENSION)
-    → bracketBytes t a ≡ 91 ∷ (isotopeBytes i ++ (symbolBytes e s ++ (hydrogenBytes h ++ (chargeBytes z ++ (extensionBytes x ++ 93 ∷ [])))))
+pub bracket-is : (t : List ℤ) (a k i e s h x : ℕ) (z : ℤ) → i ≡ number (atomCell t a ISOTOPE) → e ≡ element t a → s ≡ selected t a → h ≡ hydrogens t a → z ≡ atomCell t a CHARGE → x ≡ number (atomCell t a EXTENSION)
+    → bracketBytes t a k ≡ 91 ∷ (isotopeBytes i ++ (symbolBytes e s ++ (markBytes k ++ (hydrogenBytes h ++ (chargeBytes z ++ (extensionBytes x ++ 93 ∷ []))))))
 unfolding bracketBytes
-bracket-is t a i e s h x z p q r u v w = sym (rw (p, q, r, u, v, w))
+bracket-is t a k i e s h x z p q r u v w = sym (rw (p, q, r, u, v, w))
 
 -- a charge of 0 lies between 0 and 0
 pub neutral-is : (z : ℤ) → inRange z (pos 0) (pos 0) ≡ neutral z
@@ -191,10 +204,10 @@ neutral-is (pos n) = go (eqb n 0) refl
     go true e = let z = eqb-true n 0 e in rw (le-leb 0 n (omega arith), le-leb n 0 (omega arith))
     go false e = let z = eqb-false n 0 e in rw (le-leb 0 n (omega arith), lt-leb n 0 (omega arith))
 
-pub bare-atom : (t : List ℤ) (a sum e s : ℕ) → withoutBrackets t a sum ≡ true → e ≡ element t a → s ≡ selected t a → spelledAtom t a sum ≡ symbolBytes e s
+pub bare-atom : (t : List ℤ) (a k sum e s : ℕ) → withoutBrackets t a k sum ≡ true → e ≡ element t a → s ≡ selected t a → spelledAtom t a k sum ≡ symbolBytes e s
 unfolding spelledAtom
-bare-atom t a sum e s h p q = simp (h, p, q)
+bare-atom t a k sum e s h p q = simp (h, p, q)
 
-pub bracket-atom : (t : List ℤ) (a sum : ℕ) → withoutBrackets t a sum ≡ false → spelledAtom t a sum ≡ bracketBytes t a
+pub bracket-atom : (t : List ℤ) (a k sum : ℕ) → withoutBrackets t a k sum ≡ false → spelledAtom t a k sum ≡ bracketBytes t a k
 unfolding spelledAtom
-bracket-atom t a sum h = simp h
+bracket-atom t a k sum h = simp h

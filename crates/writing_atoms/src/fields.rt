@@ -7,7 +7,7 @@ ghost use Rattle.table.specs.Limits.{maxAtoms};
 ghost use Rattle.table.specs.Cells.{inRange};
 ghost use Rattle.buffer.specs.Buffer.{bufferAt, Wrote};
 ghost use Rattle.writing_atoms.specs.Fields.{letters, AtomFits};
-ghost use Rattle.writing.specs.Spell.{isotopeBytes, symbolBytes, hydrogenBytes, sizeBytes, chargeBytes, extensionBytes, bracketBytes, withoutBrackets, spelledAtom};
+ghost use Rattle.writing.specs.Spell.{isotopeBytes, symbolBytes, markBytes, hydrogenBytes, sizeBytes, chargeBytes, extensionBytes, bracketBytes, withoutBrackets, spelledAtom};
 use crate::decimal;
 use element::Spelling;
 use ids::AtomId;
@@ -52,6 +52,20 @@ fn symbol(out: &mut [u8], at: usize, e: usize, selected: usize) -> usize
         return spelled(out, at, element::spell_selected(e as u8));
     }
     spelled(out, at, element::spell(e as u8))
+}
+
+// The mark, nothing for 0.
+fn mark(out: &mut [u8], at: usize, k: u8) -> usize
+    ensures { λ r. ⌜ Wrote (markBytes k) (bufferAt (now (out .entry)) at) (bufferAt (now (out .exit)) r) ⌝ }
+{
+    if k == 0 {
+        return at;
+    }
+    let at = buffer::put(out, at, b'@');
+    if k == 1 {
+        return at;
+    }
+    buffer::put(out, at, b'@')
 }
 
 // The hydrogens, nothing for 0.
@@ -100,46 +114,48 @@ fn extension(out: &mut [u8], at: usize, x: usize) -> usize
     decimal(out, at, x)
 }
 
-// An atom in brackets.
-fn bracket(atoms: &[i32], a: AtomId, out: &mut [u8], at: usize) -> usize
+// An atom in brackets, with its mark as it is written.
+fn bracket(atoms: &[i32], a: AtomId, k: u8, out: &mut [u8], at: usize) -> usize
     requires { ⌜ a .0 < maxAtoms ⌝ }
     requires { ⌜ AtomFits (now atoms) (a .0) ⌝ }
-    ensures { λ r. ⌜ Wrote (bracketBytes (now (atoms .entry)) (a .0)) (bufferAt (now (out .entry)) at) (bufferAt (now (out .exit)) r) ⌝ }
+    ensures { λ r. ⌜ Wrote (bracketBytes (now (atoms .entry)) (a .0) k) (bufferAt (now (out .entry)) at) (bufferAt (now (out .exit)) r) ⌝ }
 {
     let at = buffer::put(out, at, b'[');
     let at = isotope(out, at, table::cell::atom_number(atoms, a, ISOTOPE));
     let e = table::cell::atom_number(atoms, a, ELEMENT);
     let at = symbol(out, at, e, table::cell::atom_number(atoms, a, SELECTED));
+    let at = mark(out, at, k);
     let at = hydrogens(out, at, table::cell::atom_number(atoms, a, HYDROGENS));
     let at = charge(out, at, table::cell::atom_cell(atoms, a, CHARGE));
     let at = extension(out, at, table::cell::atom_number(atoms, a, EXTENSION));
     buffer::put(out, at, b']')
 }
 
-// Whether an atom with this bond sum stands without brackets.
-fn is_outside(atoms: &[i32], a: AtomId, sum: usize) -> bool
+// Whether an atom with this mark and this bond sum stands without brackets.
+fn is_outside(atoms: &[i32], a: AtomId, k: u8, sum: usize) -> bool
     requires { ⌜ a .0 < maxAtoms ⌝ }
     requires { ⌜ AtomFits (now atoms) (a .0) ⌝ }
-    ensures { λ r. ⌜ r ≡ withoutBrackets (now (atoms .entry)) (a .0) sum ⌝ }
+    ensures { λ r. ⌜ r ≡ withoutBrackets (now (atoms .entry)) (a .0) k sum ⌝ }
 {
     let e = table::cell::atom_number(atoms, a, ELEMENT);
     let implied = valence::implied(e, table::cell::atom_number(atoms, a, SELECTED), sum);
     (table::cell::atom_number(atoms, a, ISOTOPE) == 0)
         & table::cell::atom_within(atoms, a, CHARGE, 0, 0)
         & (table::cell::atom_number(atoms, a, EXTENSION) == 0)
+        & (k == 0)
         & element::is_bare(e as u8)
         & (implied.count == table::cell::atom_number(atoms, a, HYDROGENS))
 }
 
-// internal: an atom with its bond sum.
-pub fn atom(atoms: &[i32], a: AtomId, sum: usize, out: &mut [u8], at: usize) -> usize
+// internal: an atom with its mark as it is written and its bond sum.
+pub fn atom(atoms: &[i32], a: AtomId, k: u8, sum: usize, out: &mut [u8], at: usize) -> usize
     requires { ⌜ a .0 < maxAtoms ⌝ }
     requires { ⌜ AtomFits (now atoms) (a .0) ⌝ }
-    ensures { λ r. ⌜ Wrote (spelledAtom (now (atoms .entry)) (a .0) sum) (bufferAt (now (out .entry)) at) (bufferAt (now (out .exit)) r) ⌝ }
+    ensures { λ r. ⌜ Wrote (spelledAtom (now (atoms .entry)) (a .0) k sum) (bufferAt (now (out .entry)) at) (bufferAt (now (out .exit)) r) ⌝ }
 {
-    if is_outside(atoms, a, sum) {
+    if is_outside(atoms, a, k, sum) {
         let e = table::cell::atom_number(atoms, a, ELEMENT);
         return symbol(out, at, e, table::cell::atom_number(atoms, a, SELECTED));
     }
-    bracket(atoms, a, out, at)
+    bracket(atoms, a, k, out, at)
 }

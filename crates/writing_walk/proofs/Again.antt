@@ -136,7 +136,7 @@ inside-mono n m h l a = all-map (λ b. (b .lo < b .hi) × (b .hi < n)) (λ b. (b
 clear-mono : (a a′ b b′ : ℕ) → a ≤ a′ → b′ ≤ b → (l : List Bond) → Clear a b l → Clear a′ b′ l
 clear-mono a a′ b b′ h g l c = all-map (λ x. (b ≤ x .hi) × (a ≤ x .lo → x .lo < b → ⊥)) (λ x. (b′ ≤ x .hi) × (a′ ≤ x .lo → x .lo < b′ → ⊥)) (λ x r. (omega arith, λ p q. r .1 (omega arith) (omega arith))) l c
 
-and-less : (p q : Bond → Bool) (l : List Bond) → count (λ b. p b && q b) l ≤ count p l
+pub and-less : (p q : Bond → Bool) (l : List Bond) → count (λ b. p b && q b) l ≤ count p l
 and-less p q [] = omega arith
 and-less p q (b ∷ l) = omega (arith, go (p b) (q b), and-less p q l)
   where
@@ -145,12 +145,12 @@ and-less p q (b ∷ l) = omega (arith, go (p b) (q b), and-less p q l)
     go true false = omega arith
     go false y = omega arith
 
-self-in : (l : List Bond) → All (λ b. 0 < count (eqBond b) l) l
+pub self-in : (l : List Bond) → All (λ b. 0 < count (eqBond b) l) l
 self-in [] = none
 self-in (x ∷ l) = more {b = x} (omega (arith, ap bit (bond-same x))) (all-map (λ b. 0 < count (eqBond b) l) (λ b. 0 < count (eqBond b) (x ∷ l)) (λ b h. omega arith) l (self-in l))
 
 module _ (N : List Bond) (c o : ℕ → List Bond) (k : Back N c o) where
-  from-all : (P : Bond → Type 0) → All P N → (n : ℕ) → All P (c n)
+  pub from-all : (P : Bond → Type 0) → All P N → (n : ℕ) → All P (c n)
   from-all P a n = all-map (λ b. 0 < count (eqBond b) (c n)) P
       (λ b h. all-has P N a b (let p = k .closes n (eqBond b) in let q = and-less (eqBond b) (λ x. eqb (x .hi) n) N in omega arith)) (c n) (self-in (c n))
 

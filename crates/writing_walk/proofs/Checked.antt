@@ -185,7 +185,7 @@ fits-before am bm ts s f = record {
   proper = omega (arith, f .proper, run-bonds loop ts s);
 }
 
-some-count : (p : Bond → Bool) (l : List Bond) → count p l ≡ 0 → some p l ≡ false
+pub some-count : (p : Bond → Bool) (l : List Bond) → count p l ≡ 0 → some p l ≡ false
 some-count p [] h = refl
 some-count p (b ∷ l) h = go (p b) h (some-count p l)
   where

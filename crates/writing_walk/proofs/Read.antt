@@ -39,7 +39,7 @@ insert-count p b (free ∷ t) = refl
 insert-count p b (held x ∷ t) = omega (arith, insert-count p b t)
 
 -- one slot more, by whether it holds the bond
-find-hook : (b : Bond) (t : List Slot) → 0 < count (eqBond b) (openOf t) → closureAt (hooks t) (find b t) ≡ at (b .lo) (b .kind)
+pub find-hook : (b : Bond) (t : List Slot) → 0 < count (eqBond b) (openOf t) → closureAt (hooks t) (find b t) ≡ at (b .lo) (b .kind)
 find-hook b [] h = absurd (omega arith)
 find-hook b (free ∷ t) h = find-hook b t h
 find-hook b (held x ∷ t) h = go (eqBond b x) refl h (find-hook b t)
@@ -99,7 +99,7 @@ joined-at n b h = rw (lt-ltb (b .lo) n (h .below)) (λ i. record { lo = b .lo; h
 pub bridged : (x y : Closure) → x ≡ y → (k m : ℕ) (xs : List ℕ) (bs : List Bond) (h n : ℕ) (hs : List Closure) (stk : List ℕ) → bridge x k m xs bs h n hs stk ≡ bridge y k m xs bs h n hs stk
 bridged x y e k m xs bs h n hs stk = ap (λ (z : Closure). bridge z k m xs bs h n hs stk) e
 
-step-close : (n m : ℕ) (xs stk : List ℕ) (b : Bond) (t : List Slot) (bs : List Bond) → ClosesAt n b → 0 < count (eqBond b) (openOf t)
+pub step-close : (n m : ℕ) (xs stk : List ℕ) (b : Bond) (t : List Slot) (bs : List Bond) → ClosesAt n b → 0 < count (eqBond b) (openOf t)
     → stepToken (ring 0 (find b t)) (st xs bs n m (hooks t) stk) ≡ st xs (bs ++ (b ∷ [])) n m (hooks (release b t)) stk
 step-close n m xs stk b t bs a h =
     bridged (closureAt (hooks t) (find b t)) (at (b .lo) (b .kind)) (find-hook b t h) 0 (find b t) xs bs n m (hooks t) stk

@@ -101,7 +101,7 @@ ways-join v (b ∷ bs) = go (eqb (b .lo) v) refl (eqb (b .hi) v) refl (all-map (
     go false p true q r = more {b = neighbour (b .lo) (turned (b .kind))} (let z : eqBond (bond (b .lo) v (turned (turned (b .kind)))) b ≡ true = rw (turned-twice (b .kind), eqb-same (b .lo), eq-eqb v (b .hi) (sym (eqb-true (b .hi) v q)), eqb-same (b .kind)) in omega (arith, ap bit z)) r
     go false p false q r = r
 
-in-map : (f : Bond → Bond) (b : Bond) (l : List Bond) → 0 < count (eqBond b) l → 0 < count (eqBond (f b)) (map f l)
+pub in-map : (f : Bond → Bond) (b : Bond) (l : List Bond) → 0 < count (eqBond b) l → 0 < count (eqBond (f b)) (map f l)
 in-map f b [] h = absurd (omega arith)
 in-map f b (x ∷ l) h = go (eqBond b x) refl h (in-map f b l)
   where
@@ -288,7 +288,7 @@ module _ (c o : ℕ → List Bond) (pay : ℕ → ℕ) where
   done-relabel leaf h n = refl
   done-relabel (node w k f g) h n = rw (size-relabel pay f, done-relabel f n (suc n), done-relabel g h (suc n + size f))
 
-  doneAll-relabel : (F : Forest) (n : ℕ) → doneAll c o (relabel pay F) n ≡ doneAll c o F n
+  pub doneAll-relabel : (F : Forest) (n : ℕ) → doneAll c o (relabel pay F) n ≡ doneAll c o F n
   doneAll-relabel leaf n = refl
   doneAll-relabel (node w k f g) n = rw (size-relabel pay f, done-relabel f n (suc n), doneAll-relabel g (suc n + size f))
 
@@ -296,12 +296,12 @@ tree-relabel : (pay : ℕ → ℕ) (F : Forest) (h n : ℕ) → tree (relabel pa
 tree-relabel pay leaf h n = refl
 tree-relabel pay (node w k f g) h n = rw (size-relabel pay f, tree-relabel pay f n (suc n), tree-relabel pay g h (suc n + size f))
 
-trees-relabel : (pay : ℕ → ℕ) (F : Forest) (n : ℕ) → trees (relabel pay F) n ≡ trees F n
+pub trees-relabel : (pay : ℕ → ℕ) (F : Forest) (n : ℕ) → trees (relabel pay F) n ≡ trees F n
 trees-relabel pay leaf n = refl
 trees-relabel pay (node w k f g) n = rw (size-relabel pay f, tree-relabel pay f n (suc n), trees-relabel pay g (suc n + size f))
 
 -- as many atoms as the walk visits
-eqb-turn : (a b : ℕ) → eqb a b ≡ eqb b a
+pub eqb-turn : (a b : ℕ) → eqb a b ≡ eqb b a
 eqb-turn a b = go (eqb a b) refl
   where
     go : (x : Bool) → eqb a b ≡ x → x ≡ eqb b a

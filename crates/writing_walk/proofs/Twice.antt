@@ -120,7 +120,7 @@ found p P (b ∷ l) (more g a) h = go (p b) refl h (found p P l a)
     go true e h f = record { it = b; passes = e; has = g }
     go false e h f = f (omega arith)
 
-count-less : (p q : Bond → Bool) (l : List Bond) → All (λ b. bit (p b) ≤ bit (q b)) l → count p l ≤ count q l
+pub count-less : (p q : Bond → Bool) (l : List Bond) → All (λ b. bit (p b) ≤ bit (q b)) l → count p l ≤ count q l
 count-less p q [] none = omega arith
 count-less p q (b ∷ l) (more h a) = omega (arith, count-less p q l a)
 
@@ -179,7 +179,7 @@ module _ (n : ℕ) (order : List ℕ) (all : (v : ℕ) → v < n → 0 < times v
           let r = d (b0 .lo) (b0 .hi) in
           omega arith
 
-distinct-unused : (n : ℕ) (bs : List Bond) → Inside n bs → Distinct bs → Distinct (unused n bs)
+pub distinct-unused : (n : ℕ) (bs : List Bond) → Inside n bs → Distinct bs → Distinct (unused n bs)
 unfolding unused renumbered
 distinct-unused n bs i d a c =
     let M = map (renumber (pre (forestOf n bs))) bs in
@@ -212,7 +212,7 @@ sweep-same key l m h s a (suc d) = λ i. one i ++ sweep-same key l m h s (suc a)
     one : keep (λ b. eqb (key b) a) l ≡ keep (λ b. eqb (key b) a) m
     one = one-bond (keep (λ b. eqb (key b) a) l) (keep (λ b. eqb (key b) a) m) (alike-keep (λ b. eqb (key b) a) l m h) (let z = keep-count (λ b. true) (λ b. eqb (key b) a) l in let y = s a in omega arith)
 
-and-turn : (p q : Bond → Bool) (l : List Bond) → count (λ b. p b && q b) l ≡ count (λ b. q b && p b) l
+pub and-turn : (p q : Bond → Bool) (l : List Bond) → count (λ b. p b && q b) l ≡ count (λ b. q b && p b) l
 and-turn p q [] = refl
 and-turn p q (b ∷ l) = omega (arith, go (p b) (q b), and-turn p q l)
   where

@@ -6,6 +6,7 @@ use lib.Dec.{eqb}
 use Rattle.writing_walk.specs.Token.{Bond, Tok, apart, along, branch, back}
 use Rattle.writing_walk.specs.Emit.{Forest, leaf, node, size, Slot, rings, ringToks}
 use Rattle.writing_walk.specs.Walk.{member}
+pub use Rattle.writing_walk.specs.Parents.{ups}
 
 -- a root; the first child: its parent is the atom just before it; or a later child
 pub data Position : Type 0 where
@@ -52,10 +53,6 @@ module _ (c o : ℕ → List Bond) where
 abbrev pub kinds : Forest → List ℕ
 kinds leaf = []
 kinds (node w k f g) = k ∷ (kinds f ++ kinds g)
-
-abbrev pub ups : Forest → ℕ → ℕ → List ℕ
-ups leaf p n = []
-ups (node w k f g) p n = p ∷ (ups f (suc n) (suc n) ++ ups g p (suc n + size f))
 
 abbrev pub positionOf : ℕ → ℕ → Position
 positionOf zero n = root

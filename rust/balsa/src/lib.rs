@@ -27,4 +27,4 @@ pub use symbol::{symbol, Symbol};
 
 /// The edition of the rules: it grows with each change of an answer (`include/balsa.h` lists them).
 /// What is stored of answers is good for one edition.
-pub const EDITION: u32 = 6;
+pub const EDITION: u32 = 7;

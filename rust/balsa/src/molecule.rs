@@ -1,7 +1,10 @@
 //! A molecule that owns its tables.
 
 use crate::refusal::{Code, Refusal};
-use crate::tables::{self, Counts, Read, Step, ATOM_TABLE, BOND_TABLE, RENUMBERING, ROW, TEXT};
+use crate::tables::{
+    self, Counts, Read, Step, ATOM_CELLS, ATOM_TABLE, BOND_CELLS, BOND_TABLE, RENUMBERING, ROW,
+    TEXT,
+};
 
 /// A molecule that was read.
 ///
@@ -36,7 +39,7 @@ impl Molecule {
     /// Reads a text.
     ///
     /// # Errors
-    /// The refusals 2 to 11, with their places.
+    /// The refusals 2 to 11 and 20 to 23, with their places.
     ///
     /// ```
     /// use balsa::{Code, Molecule, Refusal};
@@ -56,14 +59,25 @@ impl Molecule {
         })
     }
 
-    /// Six cells for each atom: element, selected, isotope, hydrogens, charge, extension.
+    /// Seven cells for each atom: element, selected, isotope, hydrogens, charge, extension, mark. The
+    /// mark is 1 for `@` and 2 for `@@`; it speaks of the hydrogen, if there is one, and then the bonds
+    /// by ascending number.
+    ///
+    /// ```
+    /// use balsa::Molecule;
+    ///
+    /// let alanine = Molecule::read(b"N[C@@H](C)C(=O)O")?;
+    /// assert_eq!(alanine.atoms()[7..14], [6, 0, 0, 1, 0, 0, 1]);
+    /// assert_eq!(alanine.write()?.text, b"N[C@@H](C)C(=O)O");
+    /// # Ok::<(), balsa::Refusal>(())
+    /// ```
     pub fn atoms(&self) -> &[i32] {
-        &self.atoms[..6 * self.counts.atoms]
+        &self.atoms[..ATOM_CELLS * self.counts.atoms]
     }
 
     /// Three cells for each bond: first end, second end, kind.
     pub fn bonds(&self) -> &[i32] {
-        &self.bonds[..3 * self.counts.bonds]
+        &self.bonds[..BOND_CELLS * self.counts.bonds]
     }
 
     /// How many atoms and bonds there are.

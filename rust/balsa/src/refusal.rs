@@ -1,6 +1,6 @@
 //! Why a call says no, and the words for it.
 
-use crate::tables::{ATOM_TABLE, ROW, TEXT};
+use crate::tables::{RENUMBERING, ROW, TEXT};
 use std::fmt;
 
 /// The refusals of the rules, each once: name, number and words.
@@ -61,10 +61,11 @@ refusals! {
     CrowdedEnd = 20, "two marked neighbours of one end lie on the same side";
     StrayMark = 21, "a mark touches no double bond";
     LooseAtom = 22, "a selected atom has fewer than two bonds";
+    UnfitMark = 23, "a tetrahedral mark without four neighbours";
 }
 
 // The limits that the words above name.
-const _: () = assert!(TEXT == 16384 && ATOM_TABLE == 6 * 1000 && ROW == 1100);
+const _: () = assert!(TEXT == 16384 && RENUMBERING == 1000 && ROW == 1100);
 
 impl Code {
     /// The number of the rules.

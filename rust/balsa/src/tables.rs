@@ -3,8 +3,12 @@
 use crate::ffi;
 use crate::refusal::{Code, Refusal};
 
+/// Cells of an atom: element, selected, isotope, hydrogens, charge, extension, mark.
+pub const ATOM_CELLS: usize = 7;
+/// Cells of a bond: first end, second end, kind.
+pub const BOND_CELLS: usize = 3;
 /// Cells of a full atom table.
-pub const ATOM_TABLE: usize = 6000;
+pub const ATOM_TABLE: usize = 7000;
 /// Cells of a full bond table.
 pub const BOND_TABLE: usize = 3300;
 /// Cells of a matching row.
@@ -51,7 +55,7 @@ fn accepted(code: u32) -> Result<(), Code> {
 /// Reads a text into the tables.
 ///
 /// # Errors
-/// 1 leaves the tables as they were; 2 to 11 zero them.
+/// 1 leaves the tables as they were; 2 to 11 and 20 to 23 zero them.
 pub fn read(text: &[u8], atoms: &mut [i32], bonds: &mut [i32]) -> Result<Read, Refusal> {
     let reply = ffi::read(text, atoms, bonds);
     match reply.code {

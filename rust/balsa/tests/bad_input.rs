@@ -1,6 +1,8 @@
 //! Short buffers, invalid tables and rubbish rows give the numbers of the rules.
 
-use balsa::tables::{self, Counts, Read, Step, ATOM_TABLE, BOND_TABLE, RENUMBERING, ROW, TEXT};
+use balsa::tables::{
+    self, Counts, Read, Step, ATOM_CELLS, ATOM_TABLE, BOND_TABLE, RENUMBERING, ROW, TEXT,
+};
 use balsa::{Code, Molecule};
 
 const BENZENE: &[u8] = b"c1ccccc1";
@@ -48,6 +50,30 @@ fn invalid_tables_are_told() {
         bonds: usize::MAX,
     };
     assert_eq!(tables::check(&atoms, &bonds, huge), Err(Code::Invalid));
+}
+
+#[test]
+fn tetrahedral_marks_are_judged() {
+    let mut atoms = vec![7; ATOM_TABLE];
+    let mut bonds = vec![9; BOND_TABLE];
+    let read = tables::read(b"F[C@](Cl)(Br)I", &mut atoms, &mut bonds).unwrap();
+    let mark = ATOM_CELLS + 6;
+    assert_eq!((atoms[6], atoms[mark]), (0, 1));
+    for (value, expected) in [
+        (0, Ok(())),
+        (2, Ok(())),
+        (3, Err(Code::Invalid)),
+        (-1, Err(Code::Invalid)),
+        (i32::MIN, Err(Code::Invalid)),
+    ] {
+        atoms[mark] = value;
+        assert_eq!(tables::check(&atoms, &bonds, read.counts), expected);
+    }
+    (atoms[6], atoms[mark]) = (1, 1);
+    let checked = tables::check(&atoms, &bonds, read.counts);
+    assert_eq!(checked, Err(Code::Invalid));
+    let refusal = Molecule::read(b"C[S@](=O)C").unwrap_err();
+    assert_eq!((refusal.code, refusal.place), (Code::UnfitMark, 0));
 }
 
 #[test]

@@ -1,6 +1,6 @@
 //! The calls of the engine that forces pairs: their refusals, their list, and that they answer as the other calls do.
 
-use balsa::tables::{self, Counts, Step, ATOM_TABLE, BOND_TABLE, RENUMBERING, ROW};
+use balsa::tables::{self, Counts, Step, ATOM_CELLS, ATOM_TABLE, BOND_CELLS, BOND_TABLE, ROW};
 use balsa::{Code, Molecule};
 
 fn read(text: &str) -> (Vec<i32>, Vec<i32>, Counts) {
@@ -17,15 +17,11 @@ fn read(text: &str) -> (Vec<i32>, Vec<i32>, Counts) {
 fn star() -> (Vec<i32>, Vec<i32>, Counts) {
     let ends = [[0, 1], [0, 2], [0, 3], [1, 4], [2, 5], [3, 6]];
     let mut atoms = vec![0; ATOM_TABLE];
-    for (atom, row) in atoms
-        .chunks_exact_mut(ATOM_TABLE / RENUMBERING)
-        .take(7)
-        .enumerate()
-    {
+    for (atom, row) in atoms.chunks_exact_mut(ATOM_CELLS).take(7).enumerate() {
         row[..2].copy_from_slice(&[6, i32::from(atom < 4)]);
     }
     let mut bonds = vec![0; BOND_TABLE];
-    for (row, ends) in bonds.chunks_exact_mut(BOND_TABLE / ROW).zip(&ends) {
+    for (row, ends) in bonds.chunks_exact_mut(BOND_CELLS).zip(&ends) {
         row[..2].copy_from_slice(ends);
     }
     let counts = Counts {
@@ -130,7 +126,7 @@ fn both_engines_list_the_same() {
 fn an_odd_ring_behind_30_benzenes_ends() {
     let (mut atoms, bonds, counts) = read(&("c1ccccc1.".repeat(30) + "C1CCCC1"));
     for row in atoms
-        .chunks_exact_mut(ATOM_TABLE / RENUMBERING)
+        .chunks_exact_mut(ATOM_CELLS)
         .take(counts.atoms)
         .skip(180)
     {

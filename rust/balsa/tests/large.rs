@@ -145,6 +145,9 @@ fn complete(atoms: usize) -> String {
     text
 }
 
+/// Six atoms with a hydrogen and marks in a row, each joined to the third from it.
+const MARKED: &str = "[C@H]1[C@@H]2[C@@H]3[C@H]1[C@H]2[C@@H]3";
+
 /// Texts in which each of many bridges looks at all bonds, and the longest one.
 #[test]
 fn texts_near_the_limits() {
@@ -164,6 +167,11 @@ fn texts_near_the_limits() {
             "a text of 16,384 bytes",
             "C".repeat(13) + &"-[999CoH9-9:9999]".repeat(963),
             975,
+        ),
+        (
+            "726 atoms with tetrahedral marks",
+            format!("F{}F", MARKED.repeat(121)),
+            1090,
         ),
     ];
     for (name, text, count) in texts {

@@ -1,16 +1,12 @@
 //! Families of molecules whose matchings are hard or many: fused hexagons, fullerenes, random graphs.
 
-use balsa::tables::{Counts, ATOM_TABLE, BOND_TABLE, RENUMBERING, ROW};
+use balsa::tables::{Counts, ATOM_CELLS, ATOM_TABLE, BOND_CELLS, BOND_TABLE, RENUMBERING, ROW};
 use std::collections::{BTreeMap, BTreeSet};
 
 /// The most atoms of a molecule.
 const MOST_ATOMS: usize = RENUMBERING;
 /// The most bonds of a molecule.
 const MOST_BONDS: usize = ROW;
-/// The cells of an atom's row.
-const ATOM_CELLS: usize = ATOM_TABLE / MOST_ATOMS;
-/// The cells of a bond's row.
-const BOND_CELLS: usize = BOND_TABLE / MOST_BONDS;
 
 /// Selected carbons, each with the hydrogens that make it want one partner.
 pub struct Graph {

@@ -118,6 +118,7 @@ fn refused_texts() -> Vec<String> {
         r"F/C(\F)=C".into(),
         "C/C".into(),
         "cc".into(),
+        "C[S@](=O)C".into(),
     ]
 }
 
@@ -182,9 +183,9 @@ fn answers_in_lines() {
     );
     assert_run(&["check", "-q", "c1ccccc1", "C11"], 1, "", "");
     assert_run(
-        &["kekulize", "c1ccccc1", "", "o1cccc1"],
+        &["kekulize", "c1ccccc1", "", "C[C@@H](F)c1ccco1"],
         0,
-        "C1=CC=CC=C1\n\nO1C=CC=C1\n",
+        "C1=CC=CC=C1\n\nC[C@@H](F)C1=CC=CO1\n",
         "",
     );
     let benzene = "1: 101010 C1=CC=CC=C1\n1: 010101 C=1C=CC=CC1\n";

@@ -6,6 +6,9 @@ use crate::random::Random;
 use balsa_reference::tables::{self, Counts, ATOM_TABLE, BOND_TABLE, RENUMBERING, ROW, TEXT};
 use balsa_reference::{first, next, Molecule, ATOM_CELLS, BOND_CELLS, MAX_ATOMS, MAX_BONDS};
 
+/// The place of the tetrahedral mark in an atom's row.
+const MARK: usize = 6;
+
 /// All buffers that the calls need.
 #[derive(Clone, Debug, PartialEq, Eq)]
 pub struct Buffers {
@@ -110,12 +113,20 @@ impl Buffers {
         let bonds = self.counts.bonds.min(MAX_BONDS);
         let atom_cell = random.below(ATOM_CELLS * atoms + 1);
         let bond_cell = random.below(BOND_CELLS * bonds + 1);
-        match random.below(6) {
+        match random.below(7) {
             0 | 1 => set(&mut self.atoms, atom_cell, value),
             2 | 3 => set(&mut self.bonds, bond_cell, value),
             4 if bonds > 1 => self.repeat_bond(random),
+            5 => self.damage_mark(random),
             _ => self.damage_counts(random),
         }
+    }
+
+    /// Stores a tetrahedral mark, or a cell that is none.
+    fn damage_mark(&mut self, random: &mut Random) {
+        let atom = random.below(self.counts.atoms.min(MAX_ATOMS) + 1);
+        let value = *random.pick(&[-1, 0, 1, 1, 2, 2, 3, 256]);
+        set(&mut self.atoms, ATOM_CELLS * atom + MARK, value);
     }
 
     /// Stores one bond's ends over another's.

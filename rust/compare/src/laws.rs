@@ -3,6 +3,7 @@
 use crate::buffers::Buffers;
 use crate::implementation::{Answer, Implementation};
 use balsa_reference::{ATOM_CELLS, BOND_CELLS};
+use std::collections::BTreeMap;
 
 /// The number of the refusal of a buffer that is too short.
 const SHORT_BUFFER: u8 = 1;
@@ -10,8 +11,10 @@ const SHORT_BUFFER: u8 = 1;
 const NO_MATCHING: u8 = 11;
 /// The number of the refusal of two marked neighbours on the same side.
 const CROWDED_END: u8 = 20;
-/// The marks, as kinds.
+/// The marks of bonds, as kinds.
 const MARKS: [i32; 2] = [4, 5];
+/// The place of the tetrahedral mark in an atom's row.
+const MARK: usize = 6;
 
 fn holds(law: bool, message: &str) -> Result<(), String> {
     law.then_some(()).ok_or_else(|| message.to_string())
@@ -40,8 +43,8 @@ pub fn check(implementation: &dyn Implementation, buffers: &Buffers) -> Result<(
     Ok(())
 }
 
-/// A written text, read back, has every atom and every bond under the renumbering; or it has no
-/// matching, and neither has the molecule.
+/// A written text, read back, has every atom and every bond under the renumbering, and written again
+/// it has the same bytes; or it has no matching, and neither has the molecule.
 fn check_read_back(
     implementation: &dyn Implementation,
     buffers: &mut Buffers,
@@ -66,18 +69,59 @@ fn check_read_back(
     if answer != Answer::of_read(buffers.counts.atoms, buffers.counts.bonds, overfull) {
         return Err(format!("read back: {answer:?}"));
     }
-    check_renumbered(buffers, &back)
+    check_renumbered(buffers, &back)?;
+    let again = implementation.write(&mut back);
+    holds(
+        again == written && back.text == buffers.text,
+        "written otherwise when read back",
+    )
+}
+
+/// The ends of the bonds, by ascending number.
+fn ends(tables: &Buffers) -> impl Iterator<Item = [i32; 2]> + '_ {
+    let rows = tables.bonds.chunks_exact(BOND_CELLS);
+    let rows = rows.take(tables.counts.bonds);
+    rows.map(|row| [row[0], row[1]])
+}
+
+/// For each atom the new numbers of its bonds, by ascending old number.
+fn new_orders(buffers: &Buffers, back: &Buffers) -> Vec<Vec<Option<usize>>> {
+    let renumber = |atom: i32| i32::from(buffers.renumbering[atom as usize]);
+    let numbers: BTreeMap<[i32; 2], usize> = ends(back).zip(0..).collect();
+    let mut orders = vec![Vec::new(); buffers.counts.atoms];
+    for [first, second] in ends(buffers) {
+        let (one, other) = (renumber(first), renumber(second));
+        let number = numbers.get(&[one.min(other), one.max(other)]).copied();
+        orders[first as usize].push(number);
+        orders[second as usize].push(number);
+    }
+    orders
+}
+
+/// Whether an order is an odd number of swaps from the ascending one: its pairs out of order are odd.
+fn is_odd<T: PartialOrd>(order: &[T]) -> bool {
+    let items = order.iter().enumerate();
+    let out_of_order = items.map(|(place, item)| {
+        let later = order[place + 1..].iter();
+        later.filter(|&other| other < item).count()
+    });
+    out_of_order.sum::<usize>() % 2 == 1
 }
 
 fn check_renumbered(buffers: &Buffers, back: &Buffers) -> Result<(), String> {
     let renumber = |atom: i32| i32::from(buffers.renumbering[atom as usize]);
+    let orders = new_orders(buffers, back);
     let atoms = buffers
         .atoms
         .chunks_exact(ATOM_CELLS)
         .take(buffers.counts.atoms);
     for (number, cells) in atoms.enumerate() {
         let start = ATOM_CELLS * renumber(number as i32) as usize;
-        if back.atoms[start..start + ATOM_CELLS] != *cells {
+        let mut expected = cells.to_vec();
+        if cells[MARK] != 0 && is_odd(&orders[number]) {
+            expected[MARK] = 3 - cells[MARK];
+        }
+        if back.atoms[start..start + ATOM_CELLS] != expected {
             return Err(format!("atom {number} changed"));
         }
     }

@@ -1,7 +1,8 @@
 //! Molecules at the limits of writing.
 
+use crate::molecules::mark_centers;
 use crate::random::Random;
-use balsa_reference::{Atom, Bond, Kind, Molecule, MAX_ATOMS, MAX_BONDS};
+use balsa_reference::{Atom, Bond, Kind, Mark, Molecule, MAX_ATOMS, MAX_BONDS};
 
 const CARBON: Atom = Atom {
     element: 6,
@@ -10,6 +11,7 @@ const CARBON: Atom = Atom {
     hydrogens: 0,
     charge: 0,
     extension: 0,
+    mark: Mark::None,
 };
 
 /// The longest spelling of an atom.
@@ -20,6 +22,7 @@ pub const LONG: Atom = Atom {
     hydrogens: 9,
     charge: -9,
     extension: 9999,
+    mark: Mark::None,
 };
 
 fn of_ends(atoms: usize, ends: impl Iterator<Item = (usize, usize)>, kind: Kind) -> Molecule {
@@ -95,12 +98,16 @@ pub fn longest(random: &mut Random) -> Molecule {
     molecule
 }
 
-/// A molecule at one of the limits.
+/// A molecule at one of the limits, perhaps with tetrahedral marks.
 pub fn molecule(random: &mut Random) -> Molecule {
-    match random.below(4) {
+    let mut molecule = match random.below(4) {
         0 => complete(random),
         1 => fan(random),
         2 => nested(random),
         _ => longest(random),
+    };
+    if random.percent(30) {
+        mark_centers(random, &mut molecule);
     }
+    molecule
 }

@@ -2,7 +2,8 @@
 
 use crate::random::Random;
 use balsa_reference::{
-    delocalized, implied_hydrogens, is_shorthand, Atom, Bond, Kind, Molecule, MAX_ATOMS, MAX_BONDS,
+    delocalized, implied_hydrogens, is_shorthand, Atom, Bond, Kind, Mark, Molecule, MAX_ATOMS,
+    MAX_BONDS,
 };
 
 /// How hard the matchings of the molecules may be.
@@ -255,7 +256,42 @@ pub fn molecule(random: &mut Random, effort: Effort) -> Molecule {
     if random.percent(5) {
         add_marked_pair(random, &mut molecule);
     }
+    mark_centers(random, &mut molecule);
     molecule
+}
+
+/// Gives tetrahedral marks to atoms with three or four bonds, mostly with the hydrogens that fit, and
+/// in some molecules to any other atom.
+pub fn mark_centers(random: &mut Random, molecule: &mut Molecule) {
+    let chance = *random.pick(&[0, 0, 50, 100]);
+    let careless = *random.pick(&[0, 0, 0, 3]);
+    let degrees = molecule.degrees();
+    for (atom, degree) in molecule.atoms.iter_mut().zip(degrees) {
+        let hydrogens = match degree {
+            3 => 1,
+            4 => 0,
+            _ => continue,
+        };
+        if !random.percent(chance) {
+            continue;
+        }
+        let is_careless = random.percent(careless);
+        // the hydrogens of a selected atom stay: they decide whether there is a matching
+        if !atom.selected && !is_careless {
+            atom.hydrogens = hydrogens;
+        }
+        if atom.hydrogens == hydrogens || is_careless {
+            atom.mark = tetrahedral_mark(random);
+        }
+    }
+    if random.percent(4) && !molecule.atoms.is_empty() {
+        let number = random.below(molecule.atoms.len());
+        molecule.atoms[number].mark = tetrahedral_mark(random);
+    }
+}
+
+fn tetrahedral_mark(random: &mut Random) -> Mark {
+    *random.pick(&[Mark::Counterclockwise, Mark::Clockwise])
 }
 
 /// Adds `C=C/c(\C=C)cC` with any two marks: a pair of selected atoms, one of which has two marked

@@ -2,7 +2,8 @@
 
 use crate::random::Random;
 use balsa_reference::{
-    implied_hydrogens, is_shorthand, symbol_of, Atom, Molecule, Neighbour, Neighbours, MAX_BRIDGES,
+    implied_hydrogens, is_shorthand, symbol_of, Atom, Mark, Molecule, Neighbour, Neighbours,
+    MAX_BRIDGES,
 };
 
 /// A text of the molecule, if not a limit or the lack of a matching stands against it.
@@ -27,7 +28,7 @@ pub fn text(random: &mut Random, molecule: &Molecule) -> Vec<u8> {
             speller.text.push(b'.');
         }
         is_first = false;
-        speller.sequence(root, &mut roots);
+        speller.sequence(root, None, &mut roots);
     }
     speller.text
 }
@@ -81,10 +82,10 @@ impl<'a> Speller<'a> {
         neighbours.filter(is_child).collect()
     }
 
-    /// Writes an atom and all that hangs on it; atoms of `roots` may come in as parts of their own.
-    fn sequence(&mut self, atom: usize, roots: &mut Vec<usize>) {
+    /// Writes an atom, which hangs on another one by the bond `preceding`, and all that hangs on it;
+    /// atoms of `roots` may come in as parts of their own.
+    fn sequence(&mut self, atom: usize, preceding: Option<usize>, roots: &mut Vec<usize>) {
         self.is_reached[atom] = true;
-        self.atom(atom);
         let neighbours = self.neighbours.of(atom).to_vec();
         let is_bridge = |to: &&Neighbour| self.is_bridge[to.bond];
         let bridges: Vec<_> = neighbours.iter().filter(is_bridge).copied().collect();
@@ -97,6 +98,8 @@ impl<'a> Speller<'a> {
         if self.random.percent(15) {
             self.random.shuffle(&mut pieces);
         }
+        let mark = self.mark(atom, preceding, &pieces);
+        self.atom(atom, mark);
         for (index, &(is_bridge, to)) in pieces.iter().enumerate() {
             let is_last = index + 1 == pieces.len();
             if self.random.percent(5) {
@@ -106,11 +109,11 @@ impl<'a> Speller<'a> {
                 self.bridge(to.bond, atom);
             } else if is_last && self.random.percent(92) {
                 self.symbol(to.bond, atom);
-                self.sequence(to.atom, roots);
+                self.sequence(to.atom, Some(to.bond), roots);
             } else {
                 self.text.push(b'(');
                 self.symbol(to.bond, atom);
-                self.sequence(to.atom, roots);
+                self.sequence(to.atom, Some(to.bond), roots);
                 self.text.push(b')');
             }
         }
@@ -119,7 +122,7 @@ impl<'a> Speller<'a> {
     fn part_of_its_own(&mut self, roots: &mut Vec<usize>) {
         if let Some(root) = roots.pop() {
             self.text.extend(b"(.");
-            self.sequence(root, roots);
+            self.sequence(root, None, roots);
             self.text.push(b')');
         }
     }
@@ -165,17 +168,34 @@ impl<'a> Speller<'a> {
         lowest.unwrap_or(MAX_BRIDGES)
     }
 
-    fn atom(&mut self, number: usize) {
+    /// The mark of an atom as the text puts its neighbours: the preceding atom, the hydrogen, the
+    /// bridges, the children.
+    fn mark(&self, number: usize, preceding: Option<usize>, pieces: &[(bool, Neighbour)]) -> Mark {
+        let atom = self.molecule.atoms[number];
+        let hydrogen = (atom.hydrogens == 1).then_some(None);
+        let those = |bridges: bool| {
+            let pieces = pieces.iter().filter(move |piece| piece.0 == bridges);
+            pieces.map(|(_, to)| Some(to.bond))
+        };
+        let before = preceding.map(Some).into_iter().chain(hydrogen);
+        let in_text: Vec<_> = before.chain(those(true)).chain(those(false)).collect();
+        let bonds = self.neighbours.of(number).iter().map(|to| Some(to.bond));
+        let stored: Vec<_> = hydrogen.into_iter().chain(bonds).collect();
+        atom.mark.between(&stored, &in_text)
+    }
+
+    fn atom(&mut self, number: usize, mark: Mark) {
         let atom = self.molecule.atoms[number];
         let implied = |atom: &Atom, sum| implied_hydrogens(atom.element, atom.selected, sum);
         let has_fields = atom.isotope != 0 || atom.charge != 0 || atom.extension != 0;
         let is_short = !has_fields
+            && mark == Mark::None
             && is_shorthand(atom.element)
             && atom.hydrogens == implied(&atom, self.bond_sums[number]);
         if is_short && self.random.percent(95) {
             self.text.extend(symbol(&atom).bytes());
         } else {
-            self.text.extend(bracket(&atom).bytes());
+            self.text.extend(bracket(&atom, mark).bytes());
         }
     }
 }
@@ -214,7 +234,7 @@ fn symbol(atom: &Atom) -> String {
     }
 }
 
-fn bracket(atom: &Atom) -> String {
+fn bracket(atom: &Atom, mark: Mark) -> String {
     let or_nothing = |number: u16| match number {
         0 => String::new(),
         number => number.to_string(),
@@ -230,6 +250,7 @@ fn bracket(atom: &Atom) -> String {
         "[",
         &or_nothing(atom.isotope),
         &symbol(atom),
+        mark.symbol(),
         &counted("H", atom.hydrogens),
         &counted(sign, atom.charge.unsigned_abs()),
         colon,

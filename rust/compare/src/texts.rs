@@ -36,7 +36,7 @@ fn damaged(random: &mut Random, effort: Effort) -> Vec<u8> {
 fn damage(random: &mut Random, text: &mut Vec<u8>) {
     let place = random.below(text.len() + 1);
     let end = random.between(place, text.len().min(place + 8));
-    match random.below(8) {
+    match random.below(9) {
         0 => text.truncate(place),
         1 => drop(text.drain(place..end)),
         2 => text.insert(place, byte(random)),
@@ -51,6 +51,13 @@ fn damage(random: &mut Random, text: &mut Vec<u8>) {
             let digits = text.iter().skip(place).position(u8::is_ascii_digit);
             text.insert(place + digits.unwrap_or(0), *random.pick(b"-=#/\\"));
         }
+        8 => {
+            let fields = text
+                .iter()
+                .skip(place)
+                .position(|byte| b"H]@".contains(byte));
+            text.insert(place + fields.unwrap_or(0), b'@');
+        }
         _ => drop(text.drain(..place)),
     }
 }
@@ -64,12 +71,13 @@ fn byte(random: &mut Random) -> u8 {
     }
 }
 
-const TOKENS: [&str; 68] = [
+const TOKENS: [&str; 80] = [
     "C", "C", "C", "c", "c", "n", "o", "s", "p", "N", "O", "S", "P", "F", "I", "B", "Cl", "Br",
     "At", "Ts", "*", "(", "(", ")", ")", "(=", "(.", ".", "-", "=", "#", "1", "1", "2", "2", "3",
     "%10", "%11", "=1", "-2", "#%10", "[", "]", "[C", "H", "H2", "+", "-2", ":1", "[nH]", "[O-]",
     "[13C]", "[Cu+2]", "[*:9999]", "[H]", "[HH]", "[cH-]", "%", "0", "[Sc]", "/", "\\", "/C",
-    "\\C", "(/", "(\\", "/1", "\\1",
+    "\\C", "(/", "(\\", "/1", "\\1", "@", "@@", "[C@", "[C@@", "[C@]", "[C@@]", "[C@H]", "[C@@H]",
+    "[C@H](F)", "[N@@+]", "[Si@]12", "(.[C@H]",
 ];
 
 /// Tokens in any order.

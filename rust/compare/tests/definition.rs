@@ -1,13 +1,18 @@
 //! First and next against the paper's definition: all rows of 0 and 1 are tried.
 
 use balsa_reference::tables::{self, Counts, Step, Tables, ATOM_TABLE, BOND_TABLE, ROW};
-use balsa_reference::{tables::fill, Atom, Bond, Code, Kind, Molecule};
+use balsa_reference::{tables::fill, Atom, Bond, Code, Kind, Molecule, ATOM_CELLS, BOND_CELLS};
 use compare::molecules::{self, Effort};
 use compare::random::Random;
 
+/// The row of an atom.
+fn atom_row(tables: Tables<'_>, atom: usize) -> &[i32] {
+    &tables.atoms[ATOM_CELLS * atom..][..ATOM_CELLS]
+}
+
 /// The rows of the bonds at an atom.
 fn bonds_at(tables: Tables<'_>, atom: usize) -> impl Iterator<Item = &[i32]> {
-    let bonds = tables.bonds.chunks(3).take(tables.counts.bonds);
+    let bonds = tables.bonds.chunks(BOND_CELLS).take(tables.counts.bonds);
     bonds.filter(move |bond| bond[0] as usize == atom || bond[1] as usize == atom)
 }
 
@@ -22,7 +27,7 @@ fn order(bond: &[i32]) -> i32 {
 /// The delocalized atoms, from the cells of valid tables.
 fn delocalized(tables: Tables) -> Vec<bool> {
     let is_delocalized = |atom: usize| {
-        let cells = &tables.atoms[6 * atom..6 * atom + 6];
+        let cells = atom_row(tables, atom);
         let sum: i32 = bonds_at(tables, atom).map(order).sum();
         let target = match (cells[0], cells[4]) {
             (6, charge) => 4 - charge.abs(),
@@ -37,8 +42,21 @@ fn delocalized(tables: Tables) -> Vec<bool> {
 /// Whether a selected atom has fewer than two bonds (request P6).
 fn has_loose(tables: Tables) -> bool {
     let is_loose =
-        |atom: usize| tables.atoms[6 * atom + 1] == 1 && bonds_at(tables, atom).count() < 2;
+        |atom: usize| atom_row(tables, atom)[1] == 1 && bonds_at(tables, atom).count() < 2;
     (0..tables.counts.atoms).any(is_loose)
+}
+
+/// Whether a tetrahedral mark stands at an atom whose bonds and hydrogens are not four, or that has
+/// more than one hydrogen (request P8).
+fn has_unfit(tables: Tables) -> bool {
+    let is_unfit = |atom: usize| {
+        let [_, _, _, hydrogens, _, _, mark] = *atom_row(tables, atom) else {
+            return true;
+        };
+        let bonds = bonds_at(tables, atom).count() as i32;
+        mark != 0 && (bonds + hydrogens != 4 || hydrogens > 1)
+    };
+    (0..tables.counts.atoms).any(is_unfit)
 }
 
 /// Whether an atom with a double bond has two marked neighbours on the same side (request P5): `/`
@@ -55,7 +73,7 @@ fn has_crowded(tables: Tables) -> bool {
 
 /// Whether a mark touches no double bond (request P5).
 fn has_stray(tables: Tables) -> bool {
-    let mut bonds = tables.bonds.chunks(3).take(tables.counts.bonds);
+    let mut bonds = tables.bonds.chunks(BOND_CELLS).take(tables.counts.bonds);
     let touches = |atom: i32| has_double(tables, atom as usize);
     bonds.any(|bond| bond[2] >= 4 && !touches(bond[0]) && !touches(bond[1]))
 }
@@ -67,7 +85,7 @@ fn has_double(tables: Tables, atom: usize) -> bool {
 /// Whether a row is a matching, word by word.
 fn is_matching(tables: Tables, delocalized: &[bool], row: &[u8]) -> bool {
     let mut ends = vec![0; tables.counts.atoms];
-    for (bond, &cell) in tables.bonds.chunks(3).zip(row) {
+    for (bond, &cell) in tables.bonds.chunks(BOND_CELLS).zip(row) {
         let (one, other) = (bond[0] as usize, bond[1] as usize);
         if cell == 1 {
             if bond[2] != 0 || !delocalized[one] || !delocalized[other] {
@@ -104,7 +122,8 @@ fn check(molecule: &Molecule) -> usize {
         bonds: &bonds,
         counts,
     };
-    if has_loose(tables) || has_crowded(tables) || has_stray(tables) {
+    let is_late = has_loose(tables) || has_crowded(tables) || has_stray(tables);
+    if is_late || has_unfit(tables) {
         let answer = tables::first(tables, &mut [9; ROW]);
         assert_eq!(answer, Err(Code::InvalidTables), "{molecule:?}");
         return 0;

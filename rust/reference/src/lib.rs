@@ -17,6 +17,7 @@ pub mod register;
 mod report;
 mod search;
 pub mod tables;
+mod tetrahedral;
 mod valence;
 mod write;
 
@@ -28,6 +29,7 @@ pub use molecule::{Atom, Bond, Kind, Molecule, Neighbour, Neighbours};
 pub use read::{read, reading, Reading};
 pub use refusal::{Code, Refusal};
 pub use report::{report, report_line, Accepted};
+pub use tetrahedral::Mark;
 pub use valence::{delocalized, implied_hydrogens, is_shorthand, reached, Reached};
 pub use write::{write, Written};
 
@@ -42,6 +44,6 @@ pub const MAX_BRANCHES: usize = 64;
 /// The highest bridge number, and so the most bridges open at once.
 pub const MAX_BRIDGES: usize = 99;
 /// The cells of an atom's row in a table.
-pub const ATOM_CELLS: usize = 6;
+pub const ATOM_CELLS: usize = 7;
 /// The cells of a bond's row in a table.
 pub const BOND_CELLS: usize = 3;

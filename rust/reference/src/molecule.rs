@@ -2,6 +2,7 @@
 
 use crate::conformation::marks;
 use crate::refusal::Code;
+use crate::tetrahedral::{is_unfit, Mark};
 
 /// An atom.
 #[derive(Clone, Copy, Debug, Default, PartialEq, Eq)]
@@ -18,6 +19,8 @@ pub struct Atom {
     pub charge: i8,
     /// The extension, 0 for none.
     pub extension: u16,
+    /// The tetrahedral mark, which refers to the hydrogen and then the bonds by ascending number.
+    pub mark: Mark,
 }
 
 /// The kind of a bond, under its number in a table.
@@ -161,9 +164,14 @@ impl Molecule {
         if let Err(code) = marks(self) {
             return Some(code);
         }
-        let mut atoms = self.atoms.iter().zip(self.degrees());
-        let is_loose = atoms.any(|(atom, degree)| atom.selected && degree < 2);
-        is_loose.then_some(Code::LooseSelected)
+        let degrees = self.degrees();
+        let mut atoms = self.atoms.iter().zip(&degrees);
+        if atoms.any(|(atom, &degree)| atom.selected && degree < 2) {
+            return Some(Code::LooseSelected);
+        }
+        let mut atoms = self.atoms.iter().zip(&degrees);
+        let has_unfit = atoms.any(|(atom, &degree)| is_unfit(atom, degree));
+        has_unfit.then_some(Code::UnfitMark)
     }
 
     /// Each atom's neighbours.

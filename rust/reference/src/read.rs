@@ -4,6 +4,7 @@ use crate::element::{begins_symbol, number_of};
 use crate::matching::has_matching;
 use crate::molecule::{Atom, Bond, Kind, Molecule};
 use crate::refusal::{Code, Refusal};
+use crate::tetrahedral::{stored_order, InText, Mark};
 use crate::valence::{implied_hydrogens, reached, Reached};
 use crate::{MAX_ATOMS, MAX_BONDS, MAX_BRANCHES, MAX_BRIDGES, MAX_TEXT};
 
@@ -54,6 +55,8 @@ struct Opening {
     atom: usize,
     kind: Kind,
     place: usize,
+    /// How many bridges stand before it at the atom, where the atom is marked.
+    before: usize,
 }
 
 /// The reading so far.
@@ -64,6 +67,8 @@ struct Reader<'t> {
     bonds: Vec<Bond>,
     /// The atoms outside brackets, whose hydrogens are counted at the end.
     shorthands: Vec<usize>,
+    /// For each marked atom its bonds as they stand in the text.
+    in_text: Vec<Option<Box<InText>>>,
     /// The atom to which the next one is joined.
     hub: usize,
     /// The hub to return to, for each open branch.
@@ -80,6 +85,7 @@ impl<'t> Reader<'t> {
             atoms: Vec::with_capacity(atoms),
             bonds: Vec::with_capacity(atoms),
             shorthands: Vec::with_capacity(atoms),
+            in_text: Vec::with_capacity(atoms),
             hub: 0,
             branches: Vec::new(),
             bridges: [None; MAX_BRIDGES + 1],
@@ -178,16 +184,34 @@ impl<'t> Reader<'t> {
         let number = self.bridge_number()?;
         match self.bridges[number].take() {
             None => {
-                let atom = self.hub;
-                self.bridges[number] = Some(Opening { atom, kind, place });
+                let opening = Opening {
+                    atom: self.hub,
+                    kind,
+                    place,
+                    before: self.stand_bridge(usize::MAX),
+                };
+                self.bridges[number] = Some(opening);
             }
             Some(opening) => {
                 let bond = self.join(opening, kind);
-                self.bonds
-                    .push(bond.map_err(|code| Refusal::at(code, place))?);
+                let bond = bond.map_err(|code| Refusal::at(code, place))?;
+                self.stand_bridge(self.bonds.len());
+                if let Some(in_text) = &mut self.in_text[opening.atom] {
+                    in_text.bridges[opening.before] = self.bonds.len();
+                }
+                self.bonds.push(bond);
             }
         }
         Ok(())
+    }
+
+    /// Notes that a bridge of a bond stands at the hub, if that is marked; how many stood there.
+    fn stand_bridge(&mut self, bond: usize) -> usize {
+        let Some(in_text) = &mut self.in_text[self.hub] else {
+            return 0;
+        };
+        in_text.bridges.push(bond);
+        in_text.bridges.len() - 1
     }
 
     /// One digit, or `%` and two, neither with a leading zero.
@@ -231,10 +255,15 @@ impl<'t> Reader<'t> {
             return Err(Refusal::at(Code::TooManyAtoms, self.at));
         }
         let number = self.atoms.len();
+        let mut preceding = None;
         if let Link::Bond(kind) = link {
             if self.bonds.len() == MAX_BONDS {
                 return Err(Refusal::at(Code::TooManyBonds, self.at));
             }
+            if let Some(in_text) = &mut self.in_text[self.hub] {
+                in_text.children.push(self.bonds.len());
+            }
+            preceding = Some(self.bonds.len());
             self.bonds.push(Bond::between(self.hub, number, kind));
         }
         self.at += 1;
@@ -244,6 +273,12 @@ impl<'t> Reader<'t> {
             self.shorthands.push(number);
             self.shorthand(byte)?
         };
+        self.in_text.push((atom.mark != Mark::None).then(|| {
+            Box::new(InText {
+                preceding,
+                ..InText::default()
+            })
+        }));
         self.atoms.push(atom);
         self.hub = number;
         Ok(())
@@ -272,6 +307,7 @@ impl<'t> Reader<'t> {
     fn bracket(&mut self) -> Result<Atom, Refusal> {
         let isotope = self.number(3);
         let symbol = self.bracket_symbol()?;
+        let mark = self.mark();
         let hydrogens = if self.eat(b'H') { self.count() } else { 0 };
         let charge = self.charge();
         let extension = self.extension()?;
@@ -283,8 +319,18 @@ impl<'t> Reader<'t> {
             hydrogens,
             charge,
             extension,
+            mark,
             ..symbol
         })
+    }
+
+    /// Perhaps a tetrahedral mark.
+    fn mark(&mut self) -> Mark {
+        match (self.eat(b'@'), self.eat(b'@')) {
+            (false, _) => Mark::None,
+            (true, false) => Mark::Counterclockwise,
+            (true, true) => Mark::Clockwise,
+        }
     }
 
     /// The symbol in a bracket, as an atom without any other field.
@@ -378,6 +424,12 @@ impl<'t> Reader<'t> {
             atom.hydrogens = implied_hydrogens(atom.element, atom.selected, sum);
             let reached = reached(atom.element, atom.selected, sum);
             overfull += usize::from(reached == Reached::AboveAll);
+        }
+        for (atom, in_text) in molecule.atoms.iter_mut().zip(self.in_text) {
+            if let Some(in_text) = in_text {
+                let stored = stored_order(atom, in_text.bonds());
+                atom.mark = atom.mark.between(&in_text.order(atom), &stored);
+            }
         }
         Ok(Reading { molecule, overfull })
     }

@@ -46,6 +46,8 @@ pub enum Code {
     StrayMark = 21,
     /// A selected atom has fewer than two bonds.
     LooseSelected = 22,
+    /// A tetrahedral mark stands at an atom without four neighbours.
+    UnfitMark = 23,
 }
 
 impl Code {

@@ -1,4 +1,4 @@
-//! The calls on tables: six `i32` cells for an atom, three for a bond.
+//! The calls on tables: seven `i32` cells for an atom, three for a bond.
 //!
 //! Every call that gets a buffer that is too short gives [`Code::ShortBuffer`] and changes
 //! nothing. Any other refusal fills the outputs with 0; an acceptance fills their unused rest.
@@ -9,6 +9,7 @@ use crate::matching;
 use crate::molecule::{Atom, Bond, Kind, Molecule};
 use crate::read::Reading;
 use crate::refusal::{Code, Refusal};
+use crate::tetrahedral::Mark;
 use crate::valence::is_selectable;
 use crate::{ATOM_CELLS, BOND_CELLS, MAX_ATOMS, MAX_BONDS, MAX_TEXT};
 
@@ -272,7 +273,13 @@ fn atom_of_cells(cells: &[i32]) -> Option<Atom> {
         hydrogens: within(cells[3], 0, 9)? as u8,
         charge: within(cells[4], -9, 9)? as i8,
         extension: within(cells[5], 0, 9999)? as u16,
+        mark: mark_of_cell(cells[6])?,
     })
+}
+
+fn mark_of_cell(cell: i32) -> Option<Mark> {
+    let marks = [Mark::None, Mark::Counterclockwise, Mark::Clockwise];
+    marks.into_iter().find(|&mark| mark as i32 == cell)
 }
 
 fn bond_of_cells(cells: &[i32], atoms: usize) -> Option<Bond> {
@@ -338,6 +345,7 @@ fn cells_of_atom(atom: &Atom) -> [i32; ATOM_CELLS] {
         atom.hydrogens.into(),
         atom.charge.into(),
         atom.extension.into(),
+        atom.mark as i32,
     ]
 }
 

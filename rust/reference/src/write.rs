@@ -3,6 +3,7 @@
 use crate::element::symbol_of;
 use crate::molecule::{Atom, Molecule, Neighbour, Neighbours};
 use crate::refusal::Code;
+use crate::tetrahedral::{stored_order, InText, Mark};
 use crate::valence::{implied_hydrogens, is_shorthand};
 use crate::{MAX_BRANCHES, MAX_BRIDGES, MAX_TEXT};
 
@@ -98,6 +99,24 @@ impl Walk {
         let mut ends: Vec<_> = neighbours.filter(|to| !self.is_walked[to.bond]).collect();
         ends.sort_unstable_by_key(|to| self.number[to.atom]);
         ends
+    }
+
+    /// The bonds of an atom as they stand in the text.
+    fn in_text(&self, atom: usize) -> InText {
+        let is_parent = |to: &&Neighbour| self.is_walked[to.bond] && self.is_before(to.atom, atom);
+        let parent = self.neighbours.of(atom).iter().find(is_parent);
+        InText {
+            preceding: parent.map(|to| to.bond),
+            bridges: self.bridges(atom).iter().map(|to| to.bond).collect(),
+            children: self.children(atom).map(|to| to.bond).collect(),
+        }
+    }
+
+    /// The mark of an atom as it is written.
+    fn mark(&self, number: usize, atom: &Atom) -> Mark {
+        let in_text = self.in_text(number);
+        let stored = stored_order(atom, in_text.bonds());
+        atom.mark.between(&stored, &in_text.order(atom))
     }
 }
 
@@ -196,7 +215,11 @@ impl<'m> Writer<'m> {
     fn atom(&mut self, number: usize) {
         let atom = &self.molecule.atoms[number];
         if needs_bracket(atom, self.bond_sums[number]) {
-            push_bracket(&mut self.text, atom);
+            let mark = match atom.mark {
+                Mark::None => Mark::None,
+                _ => self.walk.mark(number, atom),
+            };
+            push_bracket(&mut self.text, atom, mark);
         } else {
             push_symbol(&mut self.text, atom);
         }
@@ -207,16 +230,19 @@ impl<'m> Writer<'m> {
 fn needs_bracket(atom: &Atom, bond_sum: u32) -> bool {
     let has_fields = atom.isotope != 0 || atom.charge != 0 || atom.extension != 0;
     has_fields
+        || atom.mark != Mark::None
         || !is_shorthand(atom.element)
         || atom.hydrogens != implied_hydrogens(atom.element, atom.selected, bond_sum)
 }
 
-fn push_bracket(text: &mut Vec<u8>, atom: &Atom) {
+/// An atom in brackets, with its mark as it is written.
+fn push_bracket(text: &mut Vec<u8>, atom: &Atom, mark: Mark) {
     text.push(b'[');
     if atom.isotope > 0 {
         push_number(text, atom.isotope.into());
     }
     push_symbol(text, atom);
+    text.extend(mark.symbol().bytes());
     if atom.hydrogens > 0 {
         text.push(b'H');
         push_count(text, atom.hydrogens);

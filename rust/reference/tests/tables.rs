@@ -3,7 +3,7 @@
 use balsa_reference::tables::{
     self, Counts, Step, Tables, ATOM_TABLE, BOND_TABLE, RENUMBERING, ROW, TEXT,
 };
-use balsa_reference::{read, Code, Refusal};
+use balsa_reference::{read, Code, Refusal, ATOM_CELLS, BOND_CELLS};
 
 /// What buffers hold before a call.
 const DIRT: u8 = 77;
@@ -22,8 +22,8 @@ impl Lent {
         let mut atoms = vec![0; ATOM_TABLE + 5];
         let mut bonds = vec![0; BOND_TABLE + 4];
         tables::fill(&molecule, &mut atoms, &mut bonds);
-        atoms[6 * counts.atoms..].fill(-3);
-        bonds[3 * counts.bonds..].fill(-3);
+        atoms[ATOM_CELLS * counts.atoms..].fill(-3);
+        bonds[BOND_CELLS * counts.bonds..].fill(-3);
         Lent {
             atoms,
             bonds,
@@ -69,10 +69,10 @@ fn reading_fills_the_tables() {
     let read = tables::read(b"[13nH-:5]1=CC1", &mut atoms, &mut bonds).unwrap();
     assert_eq!(read.counts, Counts { atoms: 3, bonds: 3 });
     assert_eq!(read.overfull, 0);
-    assert_eq!(atoms[..6], [7, 1, 13, 1, -1, 5]);
-    assert_eq!(atoms[6..18], [6, 0, 0, 1, 0, 0, 6, 0, 0, 2, 0, 0]);
+    assert_eq!(atoms[..7], [7, 1, 13, 1, -1, 5, 0]);
+    assert_eq!(atoms[7..21], [6, 0, 0, 1, 0, 0, 0, 6, 0, 0, 2, 0, 0, 0]);
     assert_eq!(bonds[..9], [0, 1, 2, 1, 2, 0, 0, 2, 0]);
-    let unused = atoms[18..].iter().chain(&bonds[9..]);
+    let unused = atoms[21..].iter().chain(&bonds[9..]);
     assert!(unused.copied().all(|cell| cell == 0));
 }
 
@@ -179,7 +179,7 @@ fn kekulizing_changes_kinds_and_selected_cells_only() {
     let answer = tables::kekulize(&mut atoms, &mut bonds, lent.counts, &cells);
     assert_eq!(answer, Ok(()));
     for atom in 0..5 {
-        lent.atoms[6 * atom + 1] = 0;
+        lent.atoms[ATOM_CELLS * atom + 1] = 0;
     }
     lent.bonds[3 + 2] = 2;
     lent.bonds[3 * 4 + 2] = 2;
@@ -287,7 +287,15 @@ fn is_valid(lent: &Lent) -> bool {
 
 #[test]
 fn cells_have_bounds() {
-    let bounds = [(0, 118), (0, 0), (0, 999), (0, 9), (-9, 9), (0, 9999)];
+    let bounds = [
+        (0, 118),
+        (0, 0),
+        (0, 999),
+        (0, 9),
+        (-9, 9),
+        (0, 9999),
+        (0, 2),
+    ];
     for (cell, (low, high)) in bounds.into_iter().enumerate() {
         for (value, expected) in [
             (low, true),
@@ -297,8 +305,8 @@ fn cells_have_bounds() {
             (i32::MIN, false),
             (i32::MAX, false),
         ] {
-            let mut lent = Lent::of("[Fe].[Fe]");
-            lent.atoms[6 + cell] = value;
+            let mut lent = Lent::of("[Fe].[Fe](F)(F)(F)F");
+            lent.atoms[ATOM_CELLS + cell] = value;
             assert_eq!(is_valid(&lent), expected, "{cell} {value}");
         }
     }

@@ -1,7 +1,7 @@
 //! The texts of the paper, read, matched and refused.
 
 use balsa_reference::{
-    first, next, reached, read, reading, Atom, Bond, Code, Kind, Molecule, Reached, Refusal,
+    first, next, reached, read, reading, Atom, Bond, Code, Kind, Mark, Molecule, Reached, Refusal,
 };
 
 fn molecule(text: &str) -> Molecule {
@@ -257,7 +257,17 @@ fn the_grammar_is_kept() {
         ("C\r", 1),
         ("C$C", 1),
         ("C:C", 1),
-        ("[C@]", 2),
+        ("C@", 1),
+        ("[@C]", 1),
+        ("[C@", 3),
+        ("[C@@", 4),
+        ("[C@@@]", 4),
+        ("[C@1]", 3),
+        ("[C@TH1]", 3),
+        ("[C@+@]", 4),
+        ("[CH@]", 3),
+        ("[C:1@]", 4),
+        ("[Cl@l]", 4),
         ("C~", 1),
         ("l", 0),
         ("C-)", 2),
@@ -354,6 +364,7 @@ fn the_fields_of_a_bracket_are_read() {
         hydrogens: 9,
         charge: -9,
         extension: 9999,
+        mark: Mark::None,
     };
     assert_eq!(molecule("[999FeH9-9:9999]").atoms, [atom]);
     let atom = Atom {
@@ -363,6 +374,7 @@ fn the_fields_of_a_bracket_are_read() {
         hydrogens: 1,
         charge: 1,
         extension: 10,
+        mark: Mark::None,
     };
     assert_eq!(molecule("[10nH+:10]1nC1").atoms[0], atom);
     assert_eq!(molecule("[*-2]").atoms[0].charge, -2);

@@ -1,7 +1,8 @@
 //! Writing: the rules of the paper one by one, the limits, and reading back.
 
 use balsa_reference::{
-    first, kekulize, read, report_line, write, Atom, Bond, Code, Kind, Molecule, Refusal, MAX_TEXT,
+    first, kekulize, read, report_line, write, Atom, Bond, Code, Kind, Mark, Molecule, Refusal,
+    MAX_TEXT,
 };
 
 const CARBON: Atom = Atom {
@@ -11,6 +12,7 @@ const CARBON: Atom = Atom {
     hydrogens: 0,
     charge: 0,
     extension: 0,
+    mark: Mark::None,
 };
 
 /// The longest spelling of an atom.
@@ -21,6 +23,7 @@ const LONG: Atom = Atom {
     hydrogens: 9,
     charge: -9,
     extension: 9999,
+    mark: Mark::None,
 };
 
 fn rewritten(text: &str) -> String {

@@ -1,4 +1,6 @@
 use native.Mathlib.Omega.{arith}
+use native.Mathlib.Nat.{add-zero}
+use native.Mathlib.Numerals.{towards-suc}
 use lib.ListN.{length-set}
 use mir.Facts.{toZ-ofZ}
 use Rattle.table.specs.Rows.{withAtom}
@@ -63,6 +65,15 @@ mul-extension c = search needs
 slice-set-from-extension : tie.Need-slice-set-from-extension
 slice-set-from-extension c = simp length-set (omega arith)
 
+add-mark : tie.Need-add-mark
+add-mark c = search needs
+
+mul-mark : tie.Need-mul-mark
+mul-mark c = search needs
+
+slice-set-from-mark : tie.Need-slice-set-from-mark
+slice-set-from-mark c = simp length-set (omega arith)
+
 same-length : tie.Need-same-length
 same-length c = simp length-set
 
@@ -70,7 +81,7 @@ returns : tie.Need-returns
 unfolding withAtom
 returns c =
     let f = c .before .fits in
-    simp (toZ-ofZ (f .element), toZ-ofZ (f .selected), toZ-ofZ (f .isotope), toZ-ofZ (f .hydrogens), toZ-ofZ (f .charge), toZ-ofZ (f .extension))
+    simp (toZ-ofZ (f .element), toZ-ofZ (f .selected), toZ-ofZ (f .isotope), toZ-ofZ (f .hydrogens), toZ-ofZ (f .charge), toZ-ofZ (f .extension), toZ-ofZ (f .mark), add-zero, towards-suc)
 
 pub lay-atom-spec : {M : Type 1} → statement M
 lay-atom-spec =
@@ -95,5 +106,8 @@ lay-atom-spec =
     add-extension
     mul-extension
     slice-set-from-extension
+    add-mark
+    mul-mark
+    slice-set-from-mark
     same-length
     returns)

@@ -1,4 +1,6 @@
 use native.Mathlib.Omega.{arith}
+use native.Mathlib.Nat.{add-zero}
+use native.Mathlib.Numerals.{towards-suc}
 use lib.ListN.{length-set}
 use mir.Facts.{toZ-ofZ}
 use Rattle.table.specs.Rows.{withBond}
@@ -43,7 +45,7 @@ returns : tie.Need-returns
 unfolding withBond
 returns c =
     let f = c .before .fits in
-    simp (toZ-ofZ (f .first), toZ-ofZ (f .second), toZ-ofZ (f .kind))
+    simp (toZ-ofZ (f .first), toZ-ofZ (f .second), toZ-ofZ (f .kind), add-zero, towards-suc)
 
 pub lay-bond-spec : {M : Type 1} → statement M
 lay-bond-spec =

@@ -37,16 +37,17 @@ same-length-2 c = search needs
 returns-3 : tie.Need-returns-3
 unfolding putAtom
 returns-3 c =
-    let c0 = c .before .before .before .before .before .before .before .before .before .before .before in
+    let c0 = c .before .before .before .before .before .before .before .before .before .before .before .before in
     let x = c0 .before .before .args .x in
-    let w = c .before .before .struct-told6 .given in
+    let w = c .before .before .struct-told7 .given in
     let e1 : SFits w32 (x .element) = record { sfits = w .0 .1 } in
     let e2 : SFits w32 (x .selected) = record { sfits = w .1 .0 .1 } in
     let e3 : SFits w32 (x .isotope) = record { sfits = w .1 .1 .0 .1 } in
     let e4 : SFits w32 (x .hydrogens) = record { sfits = w .1 .1 .1 .0 .1 } in
     let e5 : SFits w32 (x .charge) = record { sfits = w .1 .1 .1 .1 .0 .1 } in
     let e6 : SFits w32 (x .extension) = record { sfits = w .1 .1 .1 .1 .1 .0 .1 } in
-    simp (lt-ltb _ _ (c0 .if1 .left)) (c .before .lay-atom .ensures ∙ simp (toZ-ofZ e1, toZ-ofZ e2, toZ-ofZ e3, toZ-ofZ e4, toZ-ofZ e5, toZ-ofZ e6))
+    let e7 : SFits w32 (x .mark) = record { sfits = w .1 .1 .1 .1 .1 .1 .0 .1 } in
+    simp (lt-ltb _ _ (c0 .if1 .left)) (c .before .lay-atom .ensures ∙ simp (toZ-ofZ e1, toZ-ofZ e2, toZ-ofZ e3, toZ-ofZ e4, toZ-ofZ e5, toZ-ofZ e6, toZ-ofZ e7))
 
 pub put-atom-spec : {M : Type 1} → statement M
 put-atom-spec =

@@ -4,7 +4,7 @@ use mir.Syntax.{w32}
 use mir.Facts.{toZ-ofZ}
 use borrow.Author.Needs.{sfits-of}
 use denote.Ref.{now}
-use Rattle.table.specs.Limits.{ELEMENT, SELECTED, ISOTOPE, HYDROGENS, CHARGE, EXTENSION}
+use Rattle.table.specs.Limits.{ELEMENT, SELECTED, ISOTOPE, HYDROGENS, CHARGE, EXTENSION, MARK}
 use Rattle.table.specs.Cells.{atomCell}
 use Rattle.table.specs.Valid.{selectedOk, atomOk, atomRowOk}
 use borrow.Author.Needs.{needs}
@@ -77,13 +77,23 @@ mul-atom-row-ok-6 c = search needs
 shared-slice-copy-out-atom-row-ok-6 : tie.Need-shared-slice-copy-out-atom-row-ok-6
 shared-slice-copy-out-atom-row-ok-6 c = search needs
 
+add-atom-row-ok-7 : tie.Need-add-atom-row-ok-7
+add-atom-row-ok-7 c = search needs
+
+mul-atom-row-ok-7 : tie.Need-mul-atom-row-ok-7
+mul-atom-row-ok-7 c = search needs
+
+shared-slice-copy-out-atom-row-ok-7 : tie.Need-shared-slice-copy-out-atom-row-ok-7
+shared-slice-copy-out-atom-row-ok-7 c = search needs
+
 atom-row-ok-requires : tie.Need-atom-row-ok-requires
 atom-row-ok-requires c κs = search needs
 
 returns-2 : tie.Need-returns-2
 unfolding selectedOk atomOk atomRowOk
 returns-2 c =
-    let c6 = c .before in
+    let c7 = c .before in
+    let c6 = c7 .before in
     let c5 = c6 .before in
     let c4 = c5 .before in
     let c3 = c4 .before in
@@ -97,7 +107,8 @@ returns-2 c =
     let e4 : SFits w32 (atomCell t (a .a .0) HYDROGENS) = sfits-of (c4 .atom-row-ok-arg4 .given) in
     let e5 : SFits w32 (atomCell t (a .a .0) CHARGE) = sfits-of (c5 .atom-row-ok-arg5 .given) in
     let e6 : SFits w32 (atomCell t (a .a .0) EXTENSION) = sfits-of (c6 .atom-row-ok-arg6 .given) in
-    c .atom-row-ok .ensures ∙ simp (toZ-ofZ e1, toZ-ofZ e2, toZ-ofZ e3, toZ-ofZ e4, toZ-ofZ e5, toZ-ofZ e6)
+    let e7 : SFits w32 (atomCell t (a .a .0) MARK) = sfits-of (c7 .atom-row-ok-arg7 .given) in
+    c .atom-row-ok .ensures ∙ simp (toZ-ofZ e1, toZ-ofZ e2, toZ-ofZ e3, toZ-ofZ e4, toZ-ofZ e5, toZ-ofZ e6, toZ-ofZ e7)
 
 pub atom-ok-spec : {M : Type 1} → statement M
 atom-ok-spec =
@@ -125,5 +136,8 @@ atom-ok-spec =
     add-atom-row-ok-6
     mul-atom-row-ok-6
     shared-slice-copy-out-atom-row-ok-6
+    add-atom-row-ok-7
+    mul-atom-row-ok-7
+    shared-slice-copy-out-atom-row-ok-7
     atom-row-ok-requires
     returns-2)

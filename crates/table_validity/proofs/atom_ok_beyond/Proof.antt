@@ -23,13 +23,17 @@ atom-cell-requires-5 c κs = search needs
 atom-cell-requires-6 : tie.Need-atom-cell-requires-6
 atom-cell-requires-6 c κs = search needs
 
+atom-cell-requires-7 : tie.Need-atom-cell-requires-7
+atom-cell-requires-7 c κs = search needs
+
 atom-row-ok-requires : tie.Need-atom-row-ok-requires
 atom-row-ok-requires c κs = search needs
 
 returns : tie.Need-returns
 unfolding selectedOk atomOk atomRowOk
 returns c =
-    let c6 = c .before in
+    let c7 = c .before in
+    let c6 = c7 .before in
     let c5 = c6 .before in
     let c4 = c5 .before in
     let c3 = c4 .before in
@@ -40,8 +44,9 @@ returns c =
     let e4 = c4 .atom-cell4 .ensures in
     let e5 = c5 .atom-cell5 .ensures in
     let e6 = c6 .atom-cell6 .ensures in
+    let e7 = c7 .atom-cell7 .ensures in
     c .atom-row-ok .ensures
-    ∙ simp (toZ-ofZ (e1 .1), toZ-ofZ (e2 .1), toZ-ofZ (e3 .1), toZ-ofZ (e4 .1), toZ-ofZ (e5 .1), toZ-ofZ (e6 .1)) (simp (e1 .0, e2 .0, e3 .0, e4 .0, e5 .0, e6 .0))
+    ∙ simp (toZ-ofZ (e1 .1), toZ-ofZ (e2 .1), toZ-ofZ (e3 .1), toZ-ofZ (e4 .1), toZ-ofZ (e5 .1), toZ-ofZ (e6 .1), toZ-ofZ (e7 .1)) (simp (e1 .0, e2 .0, e3 .0, e4 .0, e5 .0, e6 .0, e7 .0))
 
 pub atom-ok-beyond-spec : {M : Type 1} → statement M
 atom-ok-beyond-spec =
@@ -53,5 +58,6 @@ atom-ok-beyond-spec =
     atom-cell-requires-4
     atom-cell-requires-5
     atom-cell-requires-6
+    atom-cell-requires-7
     atom-row-ok-requires
     returns)

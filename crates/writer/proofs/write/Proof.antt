@@ -1,5 +1,5 @@
 use Rattle.writer.proofs.Answer.{zeroed, short1, short2, short3, told13, told-valid}
-use Rattle.table.proofs.Sound.{sound-valid}
+use Rattle.table.proofs.Sound.{sound-valid, sound-late, late-none}
 use borrow.Author.Tests.{not-true, not-false}
 use mathlib.Core.Path.{refl, sym, _∙_}
 use borrow.Author.Needs.{needs}
@@ -34,7 +34,9 @@ returns-4 : tie.Need-returns-4
 returns-4 c = let a = c .before .before .before .before .before .before .before .before .before .before .before .before .before .before .before .args in zeroed 13 (a .out .now) (a .ren .now) (a .out .now) (c .before .before .before .before .clear-all .last .0) (c .before .before .before .before .clear-all .last .1 .0) refl (c .before .before .before .before .clear-all .ensures .0) (c .before .before .before .before .clear-all .ensures .1) ∙ told13 _ _ _ _ _ _ (sym (c .before .before .before .before .before .before .before .before .before .before .before .before .enough .ensures) ∙ not-false _ (c .before .before .before .before .before .before .before .before .before .before .before .if1 .left)) (c .before .before .before .before .before .before .before .before .before .before .if2 .left) (c .before .before .before .before .before .before .before .before .before .if3 .left) (sym (c .before .before .before .before .before .before .before .before .sound .ensures) ∙ not-true _ (c .before .before .before .before .before .before .before .if4 .taken))
 
 write-valid-requires : tie.Need-write-valid-requires
-write-valid-requires c κs = (sound-valid _ _ _ _ (sym (c .before .before .before .sound .ensures) ∙ not-false _ (c .before .before .if4 .left)), (c .before .before .before .before .before .if2 .left, c .before .before .before .before .if3 .left))
+write-valid-requires c κs =
+    let t = sym (c .before .before .before .sound .ensures) ∙ not-false _ (c .before .before .if4 .left) in
+    (sound-valid _ _ _ _ t, (late-none _ _ _ _ (sound-late _ _ _ _ t) .fit, (c .before .before .before .before .before .if2 .left, c .before .before .before .before .if3 .left)))
 
 same-length-3 : tie.Need-same-length-3
 same-length-3 c = search needs

@@ -19,12 +19,12 @@ slice-relend-prefix-text c = search needs
 slice-aggregate-text-2 : tie.Need-slice-aggregate-text-2
 slice-aggregate-text-2 c =
     let s = c .before .before .before .before in
-    sym (length-take-le maxText (s .args .out .now) (s .pre .1 .0))
+    sym (length-take-le maxText (s .args .out .now) (s .pre .1 .1 .0))
 
 text-requires : tie.Need-text-requires
 text-requires c κs =
     let s = c .before .before .before .before in
-    (s .pre .0, (refl, omega (arith, s .pre .0 .few-atoms)))
+    (s .pre .0, (s .pre .1 .0, (refl, omega (arith, s .pre .0 .few-atoms))))
 
 clear-all-requires : tie.Need-clear-all-requires
 clear-all-requires c κs = search needs
@@ -38,7 +38,7 @@ same-length-2 c = search needs
 returns : tie.Need-returns
 returns c =
     let s = c .before .before .before .before .before .before .before .before .before .before .before .before .before .before .before .before in
-    let room = s .pre .1 .0 in
+    let room = s .pre .1 .1 .0 in
     let out = s .args .out .now in
     let ren = s .args .ren .now in
     let t = c .before .before .before .before .before .before .before .before .before .before .before .text in
@@ -59,7 +59,7 @@ same-length-4 c = search needs
 returns-2 : tie.Need-returns-2
 returns-2 c =
     let s = c .before .before .before .before .before .before .before .before .before .before .before .before .before .before .before .before .before in
-    let room = s .pre .1 .0 in
+    let room = s .pre .1 .1 .0 in
     let out = s .args .out .now in
     let ren = s .args .ren .now in
     let t = c .before .before .before .before .before .before .before .before .before .before .before .before .text in
@@ -80,7 +80,7 @@ same-length-6 c = search needs
 returns-3 : tie.Need-returns-3
 returns-3 c =
     let s = c .before .before .before .before .before .before .before .before .before .before .before .before .before .before .before .before .before .before in
-    let room = s .pre .1 .0 in
+    let room = s .pre .1 .1 .0 in
     let out = s .args .out .now in
     let ren = s .args .ren .now in
     let t = c .before .before .before .before .before .before .before .before .before .before .before .before .before .text in
@@ -100,7 +100,7 @@ renumber-requires c κs =
     let s = c .before .before .before .before .before .before .before .before .before .before .before .before .before .before .before .before .before in
     let v = s .pre .0 in
     let n = c .before .before .before .before .before .before .before .before .before .before .before .before .text .ensures .1 in
-    ((n .long, omega (arith, v .few-atoms, s .pre .1 .1)), λ a h. (let q = n .place-at a h in omega arith))
+    ((n .long, omega (arith, v .few-atoms, s .pre .1 .1 .1)), λ a h. (let q = n .place-at a h in omega arith))
 
 same-length-7 : tie.Need-same-length-7
 same-length-7 c = search needs
@@ -111,7 +111,7 @@ same-length-8 c = search needs
 returns-4 : tie.Need-returns-4
 returns-4 c =
     let s = c .before .before .before .before .before .before .before .before .before .before .before .before .before .before .before .before .before .before .before .before in
-    let room = s .pre .1 .0 in
+    let room = s .pre .1 .1 .0 in
     let out = s .args .out .now in
     let ren = s .args .ren .now in
     let t = c .before .before .before .before .before .before .before .before .before .before .before .before .before .before .before .text in

@@ -3,7 +3,7 @@
 // each test program uses a part of them
 #![allow(dead_code)]
 
-use balsa::tables::{Counts, ATOM_TABLE, BOND_TABLE, RENUMBERING, ROW};
+use balsa::tables::{Counts, ATOM_CELLS, ATOM_TABLE, BOND_CELLS, BOND_TABLE, RENUMBERING, ROW};
 use std::collections::BTreeSet;
 
 /// The most atoms and the most bonds.
@@ -144,13 +144,13 @@ impl Graph {
     pub fn tables(&self) -> (Vec<i32>, Vec<i32>, Counts) {
         let mut degrees = vec![0; self.atoms];
         let mut bonds = vec![0; BOND_TABLE];
-        for (row, &(a, b)) in bonds.chunks_exact_mut(3).zip(&self.bonds) {
+        for (row, &(a, b)) in bonds.chunks_exact_mut(BOND_CELLS).zip(&self.bonds) {
             row[..2].copy_from_slice(&[a.min(b) as i32, a.max(b) as i32]);
             degrees[a] += 1;
             degrees[b] += 1;
         }
         let mut atoms = vec![0; ATOM_TABLE];
-        for (row, degree) in atoms.chunks_exact_mut(6).zip(&degrees) {
+        for (row, degree) in atoms.chunks_exact_mut(ATOM_CELLS).zip(&degrees) {
             row[..4].copy_from_slice(&[6, 1, 0, (3 - degree).max(0)]);
         }
         let counts = Counts {

@@ -27,7 +27,7 @@ same-length : tie.Need-same-length
 same-length c = search needs
 
 returns : tie.Need-returns
-returns c = λ p x. adds-unbonded _ _ _ _ _ _ (c .before .before .before .before .before .before .room-for .result) (c .before .before .before .before .before .before .room-for .ensures) (c .before .before .before .before .before .before .before .before .before .before .before .is-bonded .ensures) (as-row (c .before .before .before .before .before .before .before .before .before .before .read-spelling .ensures) (c .before .before .before .before .before .before .before .before .x .given .1)) (c .before .before .before .before .enum-told .given .1) (c .before .before .put-atom .ensures) (not-true _ (c .if1 .taken))
+returns c = λ p x y. adds-unbonded _ _ _ _ _ _ (c .before .before .before .before .before .before .room-for .result) (c .before .before .before .before .before .before .room-for .ensures) (c .before .before .before .before .before .before .before .before .before .before .before .is-bonded .ensures) (as-row (c .before .before .before .before .before .before .before .before .before .before .read-spelling .ensures) (c .before .before .before .before .before .before .before .before .x .given .1)) (c .before .before .before .before .enum-told .given .1) (c .before .before .put-atom .ensures) (not-true _ (c .if1 .taken))
 
 kind-of-requires : tie.Need-kind-of-requires
 kind-of-requires c κs = search needs
@@ -63,19 +63,19 @@ same-length-3 : tie.Need-same-length-3
 same-length-3 c = search needs
 
 returns-2 : tie.Need-returns-2
-returns-2 c = λ p x. adds-bonded _ _ _ _ _ _ (c .before .before .before .before .before .before .before .before .before .before .before .room-for .result) (c .before .before .before .before .before .before .before .before .before .before .before .room-for .ensures) (c .before .before .before .before .before .before .before .before .before .before .before .before .before .before .before .before .is-bonded .ensures) (as-row (c .before .before .before .before .before .before .before .before .before .before .before .before .before .before .before .read-spelling .ensures) (c .before .before .before .before .before .before .before .before .before .before .before .before .before .x .given .1)) (c .before .before .before .before .before .before .before .before .before .enum-told .given .1) (c .before .before .before .before .before .before .before .put-atom .ensures) (not-false _ (c .before .before .before .before .before .if1 .left)) (c .before .before .before .kind-of .ensures) (c .before .before .bond-of .ensures) (c .before .put-bond .ensures)
+returns-2 c = λ p x y. adds-bonded _ _ _ _ _ _ (c .before .before .before .before .before .before .before .before .before .before .before .room-for .result) (c .before .before .before .before .before .before .before .before .before .before .before .room-for .ensures) (c .before .before .before .before .before .before .before .before .before .before .before .before .before .before .before .before .is-bonded .ensures) (as-row (c .before .before .before .before .before .before .before .before .before .before .before .before .before .before .before .read-spelling .ensures) (c .before .before .before .before .before .before .before .before .before .before .before .before .before .x .given .1)) (c .before .before .before .before .before .before .before .before .before .enum-told .given .1) (c .before .before .before .before .before .before .before .put-atom .ensures) (not-false _ (c .before .before .before .before .before .if1 .left)) (c .before .before .before .kind-of .ensures) (c .before .before .bond-of .ensures) (c .before .put-bond .ensures)
 
 returns-3 : tie.Need-returns-3
-returns-3 c = λ p x. adds-crowded _ _ _ _ _ _ (c .before .before .before .room-for .result) (c .before .before .before .room-for .ensures) (c .before .before .before .before .before .before .before .before .is-bonded .ensures) (as-row (c .before .before .before .before .before .before .before .read-spelling .ensures) (c .before .before .before .before .before .x .given .1) .begins) (c .before .r .given .1)
+returns-3 c = λ p x y. adds-crowded _ _ _ _ _ _ (c .before .before .before .room-for .result) (c .before .before .before .room-for .ensures) (c .before .before .before .before .before .before .before .before .is-bonded .ensures) (as-row (c .before .before .before .before .before .before .before .read-spelling .ensures) (c .before .before .before .before .before .x .given .1) .begins) (c .before .r .given .1)
 
 returns-4 : tie.Need-returns-4
-returns-4 c = λ p x. adds-nothing _ _ _ _ _ _ (as-nothing (c .before .before .read-spelling .ensures) (c .enum-told2 .given .1))
+returns-4 c = λ p x y. adds-nothing _ _ _ _ _ _ (as-nothing (c .before .before .read-spelling .ensures) (c .enum-told2 .given .1))
 
 returns-5 : tie.Need-returns-5
-returns-5 c = λ p x. adds-broken _ _ _ _ _ _ (c .before .before .room-for2 .result) (c .before .before .room-for2 .ensures) (c .before .before .before .before .before .before .before .is-bonded .ensures) (as-broken (c .before .before .before .before .before .before .read-spelling .ensures) (c .before .before .before .before .p .given .1)) (c .enum-told3 .given .1)
+returns-5 c = λ p x y. adds-broken _ _ _ _ _ _ (c .before .before .room-for2 .result) (c .before .before .room-for2 .ensures) (c .before .before .before .before .before .before .before .is-bonded .ensures) (as-broken (c .before .before .before .before .before .before .read-spelling .ensures) (c .before .before .before .before .p .given .1)) (c .enum-told3 .given .1)
 
 returns-6 : tie.Need-returns-6
-returns-6 c = λ p x. adds-crowded _ _ _ _ _ _ (c .before .before .before .room-for2 .result) (c .before .before .before .room-for2 .ensures) (c .before .before .before .before .before .before .before .before .is-bonded .ensures) (as-broken (c .before .before .before .before .before .before .before .read-spelling .ensures) (c .before .before .before .before .before .p .given .1) .begins) (c .before .r2 .given .1)
+returns-6 c = λ p x y. adds-crowded _ _ _ _ _ _ (c .before .before .before .room-for2 .result) (c .before .before .before .room-for2 .ensures) (c .before .before .before .before .before .before .before .before .is-bonded .ensures) (as-broken (c .before .before .before .before .before .before .before .read-spelling .ensures) (c .before .before .before .before .before .p .given .1) .begins) (c .before .r2 .given .1)
 
 pub atom-at-spec : {M : Type 1} → statement M
 atom-at-spec =

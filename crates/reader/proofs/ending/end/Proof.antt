@@ -1,5 +1,6 @@
 use mathlib.Core.Path.{sym, ap, _∙_}
 use Rattle.table.specs.Valid.{checkCode}
+use Rattle.table.proofs.Sound.{late-none}
 use Rattle.reader.proofs.Ends.{ended-open, ended-late, ended-placed}
 use borrow.Author.Needs.{needs}
 use Rattle.reader.proofs.ending.end.Statement.{statement}
@@ -24,13 +25,16 @@ complete-requires : tie.Need-complete-requires
 complete-requires c κs = search needs
 
 late-check-requires : tie.Need-late-check-requires
-late-check-requires c κs = rw (c .before .before .before .complete .ensures .hydrogens) (c .before .before .before .before .before .before .before .before .before .before .pre .1)
+late-check-requires c κs = rw (c .before .before .before .complete .ensures .hydrogens) (c .before .before .before .before .before .before .before .before .before .before .pre .1 .0)
 
 enum-told : tie.Need-enum-told
 enum-told c = search needs
 
 place-requires : tie.Need-place-requires
-place-requires c κs = search needs
+place-requires c κs =
+    let s = c .before .before .before .before .before .before .before .before .before .before .before .before .before .before .before .before in
+    let k = c .before .before .before .before .before .late-check in
+    (rw (c .before .before .before .before .before .before .before .before .before .complete .ensures .hydrogens) (s .pre .1 .0), (late-none _ _ _ _ (sym (ap checkCode (sym (c .before .before .before .enum-told .given .1)) ∙ k .ensures)) .fit, s .pre .1 .1))
 
 enum-known-r : tie.Need-enum-known-r
 enum-known-r c = search needs
@@ -46,9 +50,9 @@ same-length-4 c = search needs
 
 returns-2 : tie.Need-returns-2
 returns-2 c =
-    let e = c .before .before .before .before .before .before .before .before .before .before .before .complete .ensures in
-    let k = c .before .before .before .before .before .before .before .late-check in
-    ended-placed _ _ _ (c .before .before .before .before .before .before .before .before .before .before .before .before .before .before .before .leftmost .ensures) (c .before .before .before .before .before .before .before .before .before .before .before .before .before .before .if1 .left) (e .hydrogens) (ap checkCode (sym (c .before .before .before .before .before .enum-told .given .1)) ∙ k .ensures) (e .overfull) (e .matched) (c .before .before .place .ensures)
+    let e = c .before .before .before .before .before .before .before .before .before .before .before .before .complete .ensures in
+    let k = c .before .before .before .before .before .before .before .before .late-check in
+    ended-placed _ _ _ (c .before .before .before .before .before .before .before .before .before .before .before .before .before .before .before .before .leftmost .ensures) (c .before .before .before .before .before .before .before .before .before .before .before .before .before .before .before .if1 .left) (e .hydrogens) (ap checkCode (sym (c .before .before .before .before .before .before .enum-told .given .1)) ∙ k .ensures) (e .overfull) (e .matched) (c .before .before .place .ensures)
 
 same-length-5 : tie.Need-same-length-5
 same-length-5 c = search needs

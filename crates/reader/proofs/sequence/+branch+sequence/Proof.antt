@@ -6,7 +6,7 @@ use native.Mathlib.Omega.{arith}
 use borrow.Author.Needs.{needs}
 use Rattle.reading_state.specs.State.{steering}
 use Rattle.reader.proofs.Branches.{bounded-opened, inner-closable, branch-ends}
-use Rattle.reader.proofs.Turns.{bounded-beside, closable-beside, Turn, turn-start, atom-lies, atom-in, atom-later, atom-room, turn-atom, end-atom, bridge-lies, bridge-later, turn-bridge, end-bridge, branch-moved, branch-lies, branch-in, branch-byte, branch-past, turn-branch, end-deep, end-branch, end-wrong, end-fine}
+use Rattle.reader.proofs.Turns.{bounded-beside, closable-alone, Turn, turn-start, atom-lies, atom-in, atom-later, atom-room, turn-atom, end-atom, bridge-lies, bridge-later, turn-bridge, end-bridge, branch-moved, branch-lies, branch-in, branch-byte, branch-past, turn-branch, end-deep, end-branch, end-wrong, end-fine}
 use borrow.Fn.Kinds.{In}
 use borrow.Fn.PlainCycle.{Measures, is, falls, and}
 use Rattle.reader.proofs.sequence.branch.Reads as branch
@@ -27,24 +27,24 @@ use Rattle.reading_state.proofs.State.open.Reads as open-reads
 use Rattle.reader.proofs.sequence.+branch+sequence.{statement}
 use Rattle.reader.proofs.sequence.+branch+sequence.Tie.{close}
 
-abbrev μ-branch : Measures 5 branch-kinds.ps ℕ
+abbrev μ-branch : Measures 6 branch-kinds.ps ℕ
 μ-branch κs a = length (a .0 .now) + 1 - a .1 .0
 
-abbrev μ-sequence : Measures 5 sequence-kinds.ps ℕ
+abbrev μ-sequence : Measures 6 sequence-kinds.ps ℕ
 μ-sequence κs a = length (a .0 .now) + 1 - a .1 .0 .at
 
-abbrev branch-at : ℕ → In 5 branch-kinds.ps
-branch-at t = and 5 branch-kinds.ps (is 5 branch-kinds.ps μ-branch t) branch.Pre
+abbrev branch-at : ℕ → In 6 branch-kinds.ps
+branch-at t = and 6 branch-kinds.ps (is 6 branch-kinds.ps μ-branch t) branch.Pre
 
-abbrev branch-below : ℕ → In 5 branch-kinds.ps
-branch-below t = and 5 branch-kinds.ps (falls 5 branch-kinds.ps _<_ μ-branch t) branch.Pre
+abbrev branch-below : ℕ → In 6 branch-kinds.ps
+branch-below t = and 6 branch-kinds.ps (falls 6 branch-kinds.ps _<_ μ-branch t) branch.Pre
 
-abbrev sequence-at : ℕ → In 5 sequence-kinds.ps
-sequence-at t = and 5 sequence-kinds.ps (is 5 sequence-kinds.ps μ-sequence t) sequence.Pre
+abbrev sequence-at : ℕ → In 6 sequence-kinds.ps
+sequence-at t = and 6 sequence-kinds.ps (is 6 sequence-kinds.ps μ-sequence t) sequence.Pre
 
-abbrev sequence-below : ℕ → In 5 sequence-kinds.ps
+abbrev sequence-below : ℕ → In 6 sequence-kinds.ps
 sequence-below t =
-    and 5 sequence-kinds.ps (falls 5 sequence-kinds.ps _<_ μ-sequence t) sequence.Pre
+    and 6 sequence-kinds.ps (falls 6 sequence-kinds.ps _<_ μ-sequence t) sequence.Pre
 
 -- what the calls of `branch` ask and give, below t
 abbrev branch-claims : ℕ → branch-lts.Claims
@@ -64,10 +64,10 @@ branch-joint-at-requires : (t : ℕ) → branch-lts.Need-joint-at-requires (bran
 branch-joint-at-requires t c κs = search needs
 
 branch-sequence-requires : (t : ℕ) → branch-lts.Need-sequence-requires (branch-claims t) (branch-at t) branch.Post
-branch-sequence-requires t c κs = (omega (arith, c .before .before .before .before .before .before .before .pre .0, c .before .before .before .before .before .before .before .pre .1 .1 .1 .0, c .before .before .before .before .joint-at .ensures .later), (bounded-opened (c .before .before .before .before .before .«open» .ensures [] []) (c .before .before .before .before .before .before .before .pre .1 .0) (c .before .before .before .before .before .before .before .pre .1 .1 .0), (c .before .before .before .before .joint-at .ensures .within, c .before .before .before .before .before .before .before .pre .1 .1 .1 .1 .1)))
+branch-sequence-requires t c κs = (omega (arith, c .before .before .before .before .before .before .before .before .pre .0, c .before .before .before .before .before .before .before .before .pre .1 .1 .1 .0, c .before .before .before .before .before .joint-at .ensures .later), (bounded-opened (c .before .before .before .before .before .before .«open» .ensures _ [] []) (c .before .before .before .before .before .before .before .before .pre .1 .0) (c .before .before .before .before .before .before .before .before .pre .1 .1 .0), (c .before .before .before .before .before .joint-at .ensures .within, c .before .before .before .before .before .before .before .before .pre .1 .1 .1 .1 .1)))
 
 branch-end-branch-requires : (t : ℕ) → branch-lts.Need-end-branch-requires (branch-claims t) (branch-at t) branch.Post
-branch-end-branch-requires t c κs = (c .before .before .before .before .before .before .before .before .before .before .pre .1 .1 .1 .1 .1, closable-beside (c .before .before .sequence .result .why) (c .before .before .sequence .result .st) _ _ [] [] (inner-closable _ _ _ _ _ (c .before .before .before .before .before .before .before .before .before .before .pre .1 .1 .1 .0) (c .before .before .before .before .before .before .before .before .before .before .pre .1 .1 .1 .1 .0) (c .before .before .before .before .before .before .before .before .before .before .pre .1 .1 .0) (c .before .before .before .before .before .before .before .before .«open» .ensures _ _) (c .before .before .before .before .before .before .before .joint-at .ensures) (c .before .before .sequence .ensures)))
+branch-end-branch-requires t c κs = (c .before .before .before .before .before .before .before .before .before .before .before .pre .1 .1 .1 .1 .1, closable-alone (c .before .before .sequence .result .why) (c .before .before .sequence .result .st) _ _ _ (inner-closable _ _ _ _ _ (c .before .before .before .before .before .before .before .before .before .before .before .pre .1 .1 .1 .0) (c .before .before .before .before .before .before .before .before .before .before .before .pre .1 .1 .1 .1 .0) (c .before .before .before .before .before .before .before .before .before .before .before .pre .1 .1 .0) (c .before .before .before .before .before .before .before .before .before .«open» .ensures _ _ _) (c .before .before .before .before .before .before .before .before .joint-at .ensures) (c .before .before .sequence .ensures)))
 
 branch-same-length : (t : ℕ) → branch-lts.Need-same-length (branch-claims t) (branch-at t) branch.Post
 branch-same-length t c = search needs
@@ -76,14 +76,14 @@ branch-same-length-2 : (t : ℕ) → branch-lts.Need-same-length-2 (branch-claim
 branch-same-length-2 t c = search needs
 
 branch-returns : (t : ℕ) → branch-lts.Need-returns (branch-claims t) (branch-at t) branch.Post
-branch-returns t c = branch-ends _ _ _ _ _ (c .before .before .before .before .before .before .before .before .before .before .before .pre .1 .1 .1 .0) (c .before .before .before .before .before .before .before .before .before .before .before .pre .1 .1 .1 .1 .0) (c .before .before .before .before .before .before .before .before .before .before .before .pre .1 .1 .0) (c .before .before .before .before .before .before .before .before .before .«open» .ensures _ _) (c .before .before .before .before .before .before .before .before .joint-at .ensures) (c .before .before .before .sequence .ensures) (c .end-branch .ensures _ _)
+branch-returns t c = branch-ends _ _ _ _ _ (c .before .before .before .before .before .before .before .before .before .before .before .before .pre .1 .1 .1 .0) (c .before .before .before .before .before .before .before .before .before .before .before .before .pre .1 .1 .1 .1 .0) (c .before .before .before .before .before .before .before .before .before .before .before .before .pre .1 .1 .0) (c .before .before .before .before .before .before .before .before .before .before .«open» .ensures _ _ _) (c .before .before .before .before .before .before .before .before .before .joint-at .ensures) (c .before .before .before .sequence .ensures) (c .end-branch .ensures _ _ _)
 
 abbrev sequence-Inv-loop : sequence-lts.InvT-loop
-sequence-Inv-loop s atoms₀ bonds₀ outsides₀ offsets₀ joint at₀ st₀ fresh₀ atoms bonds outsides offsets at st fresh =
-    Turn s joint at₀ (steering st₀ offsets₀ outsides₀) atoms₀ bonds₀ at fresh (steering st offsets outsides) atoms bonds
+sequence-Inv-loop s atoms₀ bonds₀ outsides₀ offsets₀ keys₀ joint at₀ st₀ fresh₀ atoms bonds outsides offsets keys at st fresh =
+    Turn s joint at₀ (steering st₀ offsets₀ outsides₀ keys₀) atoms₀ bonds₀ at fresh (steering st offsets outsides keys) atoms bonds
 
 abbrev sequence-μ-loop : sequence-lts.MeasureT-loop
-sequence-μ-loop s atoms₀ bonds₀ outsides₀ offsets₀ joint at₀ st₀ fresh₀ atoms bonds outsides offsets at st fresh =
+sequence-μ-loop s atoms₀ bonds₀ outsides₀ offsets₀ keys₀ joint at₀ st₀ fresh₀ atoms bonds outsides offsets keys at st fresh =
     length s - at
 
 sequence-loop-holds : (t : ℕ) → sequence-lts.Need-loop-holds (sequence-claims t) (sequence-at t) sequence.Post sequence-Inv-loop sequence-μ-loop
@@ -102,16 +102,16 @@ sequence-enum-known-outside : (t : ℕ) → sequence-lts.Need-enum-known-outside
 sequence-enum-known-outside t c = search needs
 
 sequence-element-write-outsides : (t : ℕ) → sequence-lts.Need-element-write-outsides (sequence-claims t) (sequence-at t) sequence.Post sequence-Inv-loop sequence-μ-loop
-sequence-element-write-outsides t c = atom-room (c .before .before .before .before .before .before .before .before .before .before .before .before .loop .inv) (c .before .before .before .before .before .before .before .before .before .before .before .piece-at .result) (c .before .before .before .before .before .before .before .before .before .before .before .piece-at .ensures) (c .before .before .before .before .before .before .before .before .before .piece .given .1) _ _ _ (c .before .before .before .before .before .atom-at .ensures _ _) (c .before .outside .given .1)
+sequence-element-write-outsides t c = atom-room (c .before .before .before .before .before .before .before .before .before .before .before .before .loop .inv) (c .before .before .before .before .before .before .before .before .before .before .before .piece-at .result) (c .before .before .before .before .before .before .before .before .before .before .before .piece-at .ensures) (c .before .before .before .before .before .before .before .before .before .piece .given .1) _ _ _ (c .before .before .before .before .before .atom-at .ensures _ _ _) (c .before .outside .given .1)
 
 sequence-extend-requires : (t : ℕ) → sequence-lts.Need-extend-requires (sequence-claims t) (sequence-at t) sequence.Post sequence-Inv-loop sequence-μ-loop
-sequence-extend-requires t c κs = (omega (arith, atom-room (c .before .before .before .before .before .before .before .before .before .before .before .before .loop .inv) (c .before .before .before .before .before .before .before .before .before .before .before .piece-at .result) (c .before .before .before .before .before .before .before .before .before .before .before .piece-at .ensures) (c .before .before .before .before .before .before .before .before .before .piece .given .1) _ _ _ (c .before .before .before .before .before .atom-at .ensures _ _) (c .before .outside .given .1)), omega (arith, (c .before .before .before .before .before .before .before .before .before .before .before .before .loop .inv) .bounded .bonds))
+sequence-extend-requires t c κs = (omega (arith, atom-room (c .before .before .before .before .before .before .before .before .before .before .before .before .loop .inv) (c .before .before .before .before .before .before .before .before .before .before .before .piece-at .result) (c .before .before .before .before .before .before .before .before .before .before .before .piece-at .ensures) (c .before .before .before .before .before .before .before .before .before .piece .given .1) _ _ _ (c .before .before .before .before .before .atom-at .ensures _ _ _) (c .before .outside .given .1)), omega (arith, (c .before .before .before .before .before .before .before .before .before .before .before .before .loop .inv) .bounded .bonds))
 
 sequence-loop-less : (t : ℕ) → sequence-lts.Need-loop-less (sequence-claims t) (sequence-at t) sequence.Post sequence-Inv-loop sequence-μ-loop
-sequence-loop-less t c = omega (arith, atom-later (c .before .before .before .before .before .before .before .before .before .before .before .before .before .loop .inv) (c .before .before .before .before .before .before .before .before .before .before .before .before .piece-at .result) (c .before .before .before .before .before .before .before .before .before .before .before .before .piece-at .ensures) (c .before .before .before .before .before .before .before .before .before .before .piece .given .1) _ _ _ (c .before .before .before .before .before .before .atom-at .ensures _ _) (c .before .before .outside .given .1), atom-in (c .before .before .before .before .before .before .before .before .before .before .before .before .before .loop .inv) (c .before .before .before .before .before .before .before .before .before .before .before .before .piece-at .result) (c .before .before .before .before .before .before .before .before .before .before .before .before .piece-at .ensures) (c .before .before .before .before .before .before .before .before .before .before .piece .given .1) _ _ _ (c .before .before .before .before .before .before .atom-at .ensures _ _) (c .before .before .outside .given .1))
+sequence-loop-less t c = omega (arith, atom-later (c .before .before .before .before .before .before .before .before .before .before .before .before .before .loop .inv) (c .before .before .before .before .before .before .before .before .before .before .before .before .piece-at .result) (c .before .before .before .before .before .before .before .before .before .before .before .before .piece-at .ensures) (c .before .before .before .before .before .before .before .before .before .before .piece .given .1) _ _ _ (c .before .before .before .before .before .before .atom-at .ensures _ _ _) (c .before .before .outside .given .1), atom-in (c .before .before .before .before .before .before .before .before .before .before .before .before .before .loop .inv) (c .before .before .before .before .before .before .before .before .before .before .before .before .piece-at .result) (c .before .before .before .before .before .before .before .before .before .before .before .before .piece-at .ensures) (c .before .before .before .before .before .before .before .before .before .before .piece .given .1) _ _ _ (c .before .before .before .before .before .before .atom-at .ensures _ _ _) (c .before .before .outside .given .1))
 
 sequence-loop-again : (t : ℕ) → sequence-lts.Need-loop-again (sequence-claims t) (sequence-at t) sequence.Post sequence-Inv-loop sequence-μ-loop
-sequence-loop-again t c = turn-atom (c .before .before .before .before .before .before .before .before .before .before .before .before .before .loop .inv) (c .before .before .before .before .before .before .before .before .before .before .before .before .piece-at .result) (c .before .before .before .before .before .before .before .before .before .before .before .before .piece-at .ensures) (c .before .before .before .before .before .before .before .before .before .before .piece .given .1) _ _ _ (c .before .before .before .before .before .before .atom-at .ensures _ _) (c .before .before .outside .given .1) (c .extend .ensures (c .before .before .before .before .before .before .before .before .before .before .before .before .before .loop .offsets) (c .before .before .before .before .before .before .before .before .before .before .before .before .before .loop .outsides) (c .before .before .outside .given .0 .0)) (c .before .before .before .before .before .before .atom-at .kept .1 .1 .1 .1 .0) (c .before .before .before .before .before .before .atom-at .kept .1 .1 .1 .1 .1 .0)
+sequence-loop-again t c = turn-atom (c .before .before .before .before .before .before .before .before .before .before .before .before .before .loop .inv) (c .before .before .before .before .before .before .before .before .before .before .before .before .piece-at .result) (c .before .before .before .before .before .before .before .before .before .before .before .before .piece-at .ensures) (c .before .before .before .before .before .before .before .before .before .before .piece .given .1) _ _ _ (c .before .before .before .before .before .before .atom-at .ensures _ _ _) (c .before .before .outside .given .1) (c .extend .ensures (c .before .before .before .before .before .before .before .before .before .before .before .before .before .loop .offsets) (c .before .before .before .before .before .before .before .before .before .before .before .before .before .loop .outsides) (c .before .before .before .before .before .before .before .before .before .before .before .before .before .loop .keys) (c .before .before .outside .given .0 .0)) (c .before .before .before .before .before .before .atom-at .kept .1 .1 .1 .1 .0) (c .before .before .before .before .before .before .atom-at .kept .1 .1 .1 .1 .1 .0)
 
 sequence-enum-known-r : (t : ℕ) → sequence-lts.Need-enum-known-r (sequence-claims t) (sequence-at t) sequence.Post sequence-Inv-loop sequence-μ-loop
 sequence-enum-known-r t c = search needs
@@ -126,13 +126,13 @@ sequence-same-length-2 : (t : ℕ) → sequence-lts.Need-same-length-2 (sequence
 sequence-same-length-2 t c = c .before .before .before .before .before .before .atom-at .kept .1 .1 .1 .1 .1 .0 ∙ (c .before .before .before .before .before .before .before .before .before .before .before .before .before .loop .inv) .long-b
 
 sequence-returns : (t : ℕ) → sequence-lts.Need-returns (sequence-claims t) (sequence-at t) sequence.Post sequence-Inv-loop sequence-μ-loop
-sequence-returns t c = end-atom (c .before .before .before .before .before .before .before .before .before .before .before .before .before .loop .inv) (c .before .before .before .before .before .before .before .before .before .before .before .before .piece-at .result) (c .before .before .before .before .before .before .before .before .before .before .before .before .piece-at .ensures) (c .before .before .before .before .before .before .before .before .before .before .piece .given .1) _ _ _ (c .before .before .before .before .before .before .atom-at .ensures _ _) (c .before .before .r .given .1) (c .refuse .ensures _ _)
+sequence-returns t c = end-atom (c .before .before .before .before .before .before .before .before .before .before .before .before .before .loop .inv) (c .before .before .before .before .before .before .before .before .before .before .before .before .piece-at .result) (c .before .before .before .before .before .before .before .before .before .before .before .before .piece-at .ensures) (c .before .before .before .before .before .before .before .before .before .before .piece .given .1) _ _ _ (c .before .before .before .before .before .before .atom-at .ensures _ _ _) (c .before .before .r .given .1) (c .refuse .ensures _ _ _)
 
 sequence-enum-known-piece-2 : (t : ℕ) → sequence-lts.Need-enum-known-piece-2 (sequence-claims t) (sequence-at t) sequence.Post sequence-Inv-loop sequence-μ-loop
 sequence-enum-known-piece-2 t c = search needs
 
 sequence-bridge-requires : (t : ℕ) → sequence-lts.Need-bridge-requires (sequence-claims t) (sequence-at t) sequence.Post sequence-Inv-loop sequence-μ-loop
-sequence-bridge-requires t c κs = let w = bridge-lies (c .before .before .before .before .before .before .loop .inv) (c .before .before .before .before .before .piece-at .result) (c .before .before .before .before .before .piece-at .ensures) (c .before .before .before .piece2 .given .1) in (bounded-beside ((c .before .before .before .before .before .before .loop .inv) .bounded), (w .0, omega (arith, w .1, w .2, c .before .before .before .before .before .before .before .before .pre .1 .1 .1)))
+sequence-bridge-requires t c κs = let w = bridge-lies (c .before .before .before .before .before .before .before .loop .inv) (c .before .before .before .before .before .before .piece-at .result) (c .before .before .before .before .before .before .piece-at .ensures) (c .before .before .before .before .piece2 .given .1) in (bounded-beside ((c .before .before .before .before .before .before .before .loop .inv) .bounded), (w .0, omega (arith, w .1, w .2, c .before .before .before .before .before .before .before .before .before .pre .1 .1 .1)))
 
 sequence-enum-told : (t : ℕ) → sequence-lts.Need-enum-told (sequence-claims t) (sequence-at t) sequence.Post sequence-Inv-loop sequence-μ-loop
 sequence-enum-told t c = search needs
@@ -141,22 +141,22 @@ sequence-enum-told-2 : (t : ℕ) → sequence-lts.Need-enum-told-2 (sequence-cla
 sequence-enum-told-2 t c = search needs
 
 sequence-same-length-3 : (t : ℕ) → sequence-lts.Need-same-length-3 (sequence-claims t) (sequence-at t) sequence.Post sequence-Inv-loop sequence-μ-loop
-sequence-same-length-3 t c = (c .before .before .before .before .before .before .before .before .before .before .loop .inv) .long-a
+sequence-same-length-3 t c = (c .before .before .before .before .before .before .before .before .before .before .before .loop .inv) .long-a
 
 sequence-same-length-4 : (t : ℕ) → sequence-lts.Need-same-length-4 (sequence-claims t) (sequence-at t) sequence.Post sequence-Inv-loop sequence-μ-loop
-sequence-same-length-4 t c = c .before .before .before .bridge .kept .1 .1 .1 .1 .0 ∙ (c .before .before .before .before .before .before .before .before .before .before .loop .inv) .long-b
+sequence-same-length-4 t c = c .before .before .before .bridge .kept .1 .1 .1 .1 .0 ∙ (c .before .before .before .before .before .before .before .before .before .before .before .loop .inv) .long-b
 
 sequence-returns-2 : (t : ℕ) → sequence-lts.Need-returns-2 (sequence-claims t) (sequence-at t) sequence.Post sequence-Inv-loop sequence-μ-loop
-sequence-returns-2 t c = end-bridge (c .before .before .before .before .before .before .before .before .before .before .loop .inv) (c .before .before .before .before .before .before .before .before .before .piece-at .result) (c .before .before .before .before .before .before .before .before .before .piece-at .ensures) (c .before .before .before .before .before .before .before .piece2 .given .1) _ _ (c .before .before .before .bridge .result) (c .before .before .before .bridge .ensures _) (c .enum-told2 .given .1)
+sequence-returns-2 t c = end-bridge (c .before .before .before .before .before .before .before .before .before .before .before .loop .inv) (c .before .before .before .before .before .before .before .before .before .before .piece-at .result) (c .before .before .before .before .before .before .before .before .before .before .piece-at .ensures) (c .before .before .before .before .before .before .before .before .piece2 .given .1) _ _ _ (c .before .before .before .bridge .result) (c .before .before .before .bridge .ensures _) (c .enum-told2 .given .1)
 
 sequence-join-requires : (t : ℕ) → sequence-lts.Need-join-requires (sequence-claims t) (sequence-at t) sequence.Post sequence-Inv-loop sequence-μ-loop
-sequence-join-requires t c κs = (bridge-lies (c .before .before .before .before .before .before .before .before .before .before .loop .inv) (c .before .before .before .before .before .before .before .before .before .piece-at .result) (c .before .before .before .before .before .before .before .before .before .piece-at .ensures) (c .before .before .before .before .before .before .before .piece2 .given .1) .0, (omega (arith, (c .before .before .before .before .before .before .before .before .before .before .loop .inv) .bounded .hub), omega (arith, (c .before .before .before .before .before .before .before .before .before .before .loop .inv) .bounded .bonds)))
+sequence-join-requires t c κs = (bridge-lies (c .before .before .before .before .before .before .before .before .before .before .before .loop .inv) (c .before .before .before .before .before .before .before .before .before .before .piece-at .result) (c .before .before .before .before .before .before .before .before .before .before .piece-at .ensures) (c .before .before .before .before .before .before .before .before .piece2 .given .1) .0, (omega (arith, (c .before .before .before .before .before .before .before .before .before .before .before .loop .inv) .bounded .hub), omega (arith, (c .before .before .before .before .before .before .before .before .before .before .before .loop .inv) .bounded .bonds)))
 
 sequence-loop-less-2 : (t : ℕ) → sequence-lts.Need-loop-less-2 (sequence-claims t) (sequence-at t) sequence.Post sequence-Inv-loop sequence-μ-loop
-sequence-loop-less-2 t c = omega (arith, bridge-later (c .before .before .before .before .before .before .before .before .before .before .before .loop .inv) (c .before .before .before .before .before .before .before .before .before .before .piece-at .result) (c .before .before .before .before .before .before .before .before .before .before .piece-at .ensures) (c .before .before .before .before .before .before .before .before .piece2 .given .1), bridge-lies (c .before .before .before .before .before .before .before .before .before .before .before .loop .inv) (c .before .before .before .before .before .before .before .before .before .before .piece-at .result) (c .before .before .before .before .before .before .before .before .before .before .piece-at .ensures) (c .before .before .before .before .before .before .before .before .piece2 .given .1) .2)
+sequence-loop-less-2 t c = omega (arith, bridge-later (c .before .before .before .before .before .before .before .before .before .before .before .before .loop .inv) (c .before .before .before .before .before .before .before .before .before .before .before .piece-at .result) (c .before .before .before .before .before .before .before .before .before .before .before .piece-at .ensures) (c .before .before .before .before .before .before .before .before .before .piece2 .given .1), bridge-lies (c .before .before .before .before .before .before .before .before .before .before .before .before .loop .inv) (c .before .before .before .before .before .before .before .before .before .before .before .piece-at .result) (c .before .before .before .before .before .before .before .before .before .before .before .piece-at .ensures) (c .before .before .before .before .before .before .before .before .before .piece2 .given .1) .2)
 
 sequence-loop-again-2 : (t : ℕ) → sequence-lts.Need-loop-again-2 (sequence-claims t) (sequence-at t) sequence.Post sequence-Inv-loop sequence-μ-loop
-sequence-loop-again-2 t c = turn-bridge (c .before .before .before .before .before .before .before .before .before .before .before .loop .inv) (c .before .before .before .before .before .before .before .before .before .before .piece-at .result) (c .before .before .before .before .before .before .before .before .before .before .piece-at .ensures) (c .before .before .before .before .before .before .before .before .piece2 .given .1) _ _ (c .before .before .before .before .bridge .result) (c .before .before .before .before .bridge .ensures _) (c .before .enum-told .given .1) (c .join .ensures _ _ _) (c .before .before .before .before .bridge .kept .1 .1 .1 .1 .0)
+sequence-loop-again-2 t c = turn-bridge (c .before .before .before .before .before .before .before .before .before .before .before .before .loop .inv) (c .before .before .before .before .before .before .before .before .before .before .before .piece-at .result) (c .before .before .before .before .before .before .before .before .before .before .before .piece-at .ensures) (c .before .before .before .before .before .before .before .before .before .piece2 .given .1) _ _ _ (c .before .before .before .before .bridge .result) (c .before .before .before .before .bridge .ensures _) (c .before .enum-told .given .1) (c .before .before .before .before .before .before .before .before .before .before .before .before .before .before .pre .1 .1 .1) (c .join .ensures _ _ _ _) (c .before .before .before .before .bridge .kept .1 .1 .1 .1 .0)
 
 sequence-enum-known-piece-3 : (t : ℕ) → sequence-lts.Need-enum-known-piece-3 (sequence-claims t) (sequence-at t) sequence.Post sequence-Inv-loop sequence-μ-loop
 sequence-enum-known-piece-3 t c = search needs
@@ -171,31 +171,31 @@ sequence-same-length-6 : (t : ℕ) → sequence-lts.Need-same-length-6 (sequence
 sequence-same-length-6 t c = (c .before .before .before .before .before .before .before .loop .inv) .long-b
 
 sequence-returns-3 : (t : ℕ) → sequence-lts.Need-returns-3 (sequence-claims t) (sequence-at t) sequence.Post sequence-Inv-loop sequence-μ-loop
-sequence-returns-3 t c = end-deep (c .before .before .before .before .before .before .before .loop .inv) (c .before .before .before .before .before .before .piece-at .result) (c .before .before .before .before .before .before .piece-at .ensures) (c .before .before .before .before .piece3 .given .1) (c .before .if1 .taken) (c .refuse2 .ensures _ _)
+sequence-returns-3 t c = end-deep (c .before .before .before .before .before .before .before .loop .inv) (c .before .before .before .before .before .before .piece-at .result) (c .before .before .before .before .before .before .piece-at .ensures) (c .before .before .before .before .piece3 .given .1) (c .before .if1 .taken) (c .refuse2 .ensures _ _ _)
 
 sequence-branch-requires : (t : ℕ) → sequence-lts.Need-branch-requires (sequence-claims t) (sequence-at t) sequence.Post sequence-Inv-loop sequence-μ-loop
-sequence-branch-requires t c κs = (omega (arith, c .before .before .before .before .before .before .before .before .before .before .before .before .pre .0, branch-moved (c .before .before .before .before .before .before .before .before .before .before .loop .inv) (c .before .before .before .before .before .before .before .before .before .piece-at .result) (c .before .before .before .before .before .before .before .before .before .piece-at .ensures) (c .before .before .before .before .before .before .before .piece3 .given .1), branch-in (c .before .before .before .before .before .before .before .before .before .before .loop .inv) (c .before .before .before .before .before .before .before .before .before .piece-at .result) (c .before .before .before .before .before .before .before .before .before .piece-at .ensures) (c .before .before .before .before .before .before .before .piece3 .given .1)), (bounded-beside ((c .before .before .before .before .before .before .before .before .before .before .loop .inv) .bounded), (c .before .before .before .before .if1 .left, (branch-in (c .before .before .before .before .before .before .before .before .before .before .loop .inv) (c .before .before .before .before .before .before .before .before .before .piece-at .result) (c .before .before .before .before .before .before .before .before .before .piece-at .ensures) (c .before .before .before .before .before .before .before .piece3 .given .1), (branch-byte (c .before .before .before .before .before .before .before .before .before .before .loop .inv) (c .before .before .before .before .before .before .before .before .before .piece-at .result) (c .before .before .before .before .before .before .before .before .before .piece-at .ensures) (c .before .before .before .before .before .before .before .piece3 .given .1), c .before .before .before .before .before .before .before .before .before .before .before .before .pre .1 .1 .1)))))
+sequence-branch-requires t c κs = (omega (arith, c .before .before .before .before .before .before .before .before .before .before .before .before .before .pre .0, branch-moved (c .before .before .before .before .before .before .before .before .before .before .before .loop .inv) (c .before .before .before .before .before .before .before .before .before .before .piece-at .result) (c .before .before .before .before .before .before .before .before .before .before .piece-at .ensures) (c .before .before .before .before .before .before .before .before .piece3 .given .1), branch-in (c .before .before .before .before .before .before .before .before .before .before .before .loop .inv) (c .before .before .before .before .before .before .before .before .before .before .piece-at .result) (c .before .before .before .before .before .before .before .before .before .before .piece-at .ensures) (c .before .before .before .before .before .before .before .before .piece3 .given .1)), (bounded-beside ((c .before .before .before .before .before .before .before .before .before .before .before .loop .inv) .bounded), (c .before .before .before .before .before .if1 .left, (branch-in (c .before .before .before .before .before .before .before .before .before .before .before .loop .inv) (c .before .before .before .before .before .before .before .before .before .before .piece-at .result) (c .before .before .before .before .before .before .before .before .before .before .piece-at .ensures) (c .before .before .before .before .before .before .before .before .piece3 .given .1), (branch-byte (c .before .before .before .before .before .before .before .before .before .before .before .loop .inv) (c .before .before .before .before .before .before .before .before .before .before .piece-at .result) (c .before .before .before .before .before .before .before .before .before .before .piece-at .ensures) (c .before .before .before .before .before .before .before .before .piece3 .given .1), c .before .before .before .before .before .before .before .before .before .before .before .before .before .pre .1 .1 .1)))))
 
 sequence-enum-told-3 : (t : ℕ) → sequence-lts.Need-enum-told-3 (sequence-claims t) (sequence-at t) sequence.Post sequence-Inv-loop sequence-μ-loop
 sequence-enum-told-3 t c = search needs
 
 sequence-loop-less-3 : (t : ℕ) → sequence-lts.Need-loop-less-3 (sequence-claims t) (sequence-at t) sequence.Post sequence-Inv-loop sequence-μ-loop
-sequence-loop-less-3 t c = let w = branch-past (c .before .before .before .before .before .before .before .before .before .before .before .before .before .before .before .before .loop .inv) (c .before .before .before .before .before .before .before .before .before .before .before .before .before .before .before .piece-at .result) (c .before .before .before .before .before .before .before .before .before .before .before .before .before .before .before .piece-at .ensures) (c .before .before .before .before .before .before .before .before .before .before .before .before .before .piece3 .given .1) (c .before .before .before .before .before .branch .ensures) (c .enum-told3 .given .1) in omega (arith, w .later, w .within, branch-lies (c .before .before .before .before .before .before .before .before .before .before .before .before .before .before .before .before .loop .inv) (c .before .before .before .before .before .before .before .before .before .before .before .before .before .before .before .piece-at .result) (c .before .before .before .before .before .before .before .before .before .before .before .before .before .before .before .piece-at .ensures) (c .before .before .before .before .before .before .before .before .before .before .before .before .before .piece3 .given .1))
+sequence-loop-less-3 t c = let w = branch-past (c .before .before .before .before .before .before .before .before .before .before .before .before .before .before .before .before .before .loop .inv) (c .before .before .before .before .before .before .before .before .before .before .before .before .before .before .before .before .piece-at .result) (c .before .before .before .before .before .before .before .before .before .before .before .before .before .before .before .before .piece-at .ensures) (c .before .before .before .before .before .before .before .before .before .before .before .before .before .before .piece3 .given .1) (c .before .before .before .before .before .branch .ensures) (c .enum-told3 .given .1) in omega (arith, w .later, w .within, branch-lies (c .before .before .before .before .before .before .before .before .before .before .before .before .before .before .before .before .before .loop .inv) (c .before .before .before .before .before .before .before .before .before .before .before .before .before .before .before .before .piece-at .result) (c .before .before .before .before .before .before .before .before .before .before .before .before .before .before .before .before .piece-at .ensures) (c .before .before .before .before .before .before .before .before .before .before .before .before .before .before .piece3 .given .1))
 
 sequence-loop-again-3 : (t : ℕ) → sequence-lts.Need-loop-again-3 (sequence-claims t) (sequence-at t) sequence.Post sequence-Inv-loop sequence-μ-loop
-sequence-loop-again-3 t c = turn-branch (c .before .before .before .before .before .before .before .before .before .before .before .before .before .before .before .before .loop .inv) (c .before .before .before .before .before .before .before .before .before .before .before .before .before .before .before .piece-at .result) (c .before .before .before .before .before .before .before .before .before .before .before .before .before .before .before .piece-at .ensures) (c .before .before .before .before .before .before .before .before .before .before .before .before .before .piece3 .given .1) (c .before .before .before .before .before .branch .ensures) (c .enum-told3 .given .1) (c .before .before .before .before .before .branch .kept .1 .1 .1 .0) (c .before .before .before .before .before .branch .kept .1 .1 .1 .1 .0)
+sequence-loop-again-3 t c = turn-branch (c .before .before .before .before .before .before .before .before .before .before .before .before .before .before .before .before .before .loop .inv) (c .before .before .before .before .before .before .before .before .before .before .before .before .before .before .before .before .piece-at .result) (c .before .before .before .before .before .before .before .before .before .before .before .before .before .before .before .before .piece-at .ensures) (c .before .before .before .before .before .before .before .before .before .before .before .before .before .before .piece3 .given .1) (c .before .before .before .before .before .branch .ensures) (c .enum-told3 .given .1) (c .before .before .before .before .before .branch .kept .1 .1 .1 .0) (c .before .before .before .before .before .branch .kept .1 .1 .1 .1 .0)
 
 sequence-enum-told-4 : (t : ℕ) → sequence-lts.Need-enum-told-4 (sequence-claims t) (sequence-at t) sequence.Post sequence-Inv-loop sequence-μ-loop
 sequence-enum-told-4 t c = search needs
 
 sequence-same-length-7 : (t : ℕ) → sequence-lts.Need-same-length-7 (sequence-claims t) (sequence-at t) sequence.Post sequence-Inv-loop sequence-μ-loop
-sequence-same-length-7 t c = c .before .before .before .before .before .branch .kept .1 .1 .1 .0 ∙ (c .before .before .before .before .before .before .before .before .before .before .before .before .before .before .before .before .loop .inv) .long-a
+sequence-same-length-7 t c = c .before .before .before .before .before .branch .kept .1 .1 .1 .0 ∙ (c .before .before .before .before .before .before .before .before .before .before .before .before .before .before .before .before .before .loop .inv) .long-a
 
 sequence-same-length-8 : (t : ℕ) → sequence-lts.Need-same-length-8 (sequence-claims t) (sequence-at t) sequence.Post sequence-Inv-loop sequence-μ-loop
-sequence-same-length-8 t c = c .before .before .before .before .before .branch .kept .1 .1 .1 .1 .0 ∙ (c .before .before .before .before .before .before .before .before .before .before .before .before .before .before .before .before .loop .inv) .long-b
+sequence-same-length-8 t c = c .before .before .before .before .before .branch .kept .1 .1 .1 .1 .0 ∙ (c .before .before .before .before .before .before .before .before .before .before .before .before .before .before .before .before .before .loop .inv) .long-b
 
 sequence-returns-4 : (t : ℕ) → sequence-lts.Need-returns-4 (sequence-claims t) (sequence-at t) sequence.Post sequence-Inv-loop sequence-μ-loop
-sequence-returns-4 t c = end-branch (c .before .before .before .before .before .before .before .before .before .before .before .before .before .before .before .before .loop .inv) (c .before .before .before .before .before .before .before .before .before .before .before .before .before .before .before .piece-at .result) (c .before .before .before .before .before .before .before .before .before .before .before .before .before .before .before .piece-at .ensures) (c .before .before .before .before .before .before .before .before .before .before .before .before .before .piece3 .given .1) (c .before .before .before .before .before .branch .ensures) (c .enum-told4 .given .1)
+sequence-returns-4 t c = end-branch (c .before .before .before .before .before .before .before .before .before .before .before .before .before .before .before .before .before .loop .inv) (c .before .before .before .before .before .before .before .before .before .before .before .before .before .before .before .before .piece-at .result) (c .before .before .before .before .before .before .before .before .before .before .before .before .before .before .before .before .piece-at .ensures) (c .before .before .before .before .before .before .before .before .before .before .before .before .before .before .piece3 .given .1) (c .before .before .before .before .before .branch .ensures) (c .enum-told4 .given .1)
 
 sequence-enum-known-piece-4 : (t : ℕ) → sequence-lts.Need-enum-known-piece-4 (sequence-claims t) (sequence-at t) sequence.Post sequence-Inv-loop sequence-μ-loop
 sequence-enum-known-piece-4 t c = search needs
@@ -222,7 +222,7 @@ sequence-same-length-12 : (t : ℕ) → sequence-lts.Need-same-length-12 (sequen
 sequence-same-length-12 t c = (c .before .before .before .before .before .loop .inv) .long-b
 
 sequence-returns-6 : (t : ℕ) → sequence-lts.Need-returns-6 (sequence-claims t) (sequence-at t) sequence.Post sequence-Inv-loop sequence-μ-loop
-sequence-returns-6 t c = end-wrong (c .before .before .before .before .before .loop .inv) (c .before .before .before .before .piece-at .result) (c .before .before .before .before .piece-at .ensures) (c .before .before .piece5 .given .1) (c .refuse3 .ensures _ _)
+sequence-returns-6 t c = end-wrong (c .before .before .before .before .before .loop .inv) (c .before .before .before .before .piece-at .result) (c .before .before .before .before .piece-at .ensures) (c .before .before .piece5 .given .1) (c .refuse3 .ensures _ _ _)
 
 pub +branch+sequence-spec : {M : Type 1} → statement M
 +branch+sequence-spec = close μ-branch μ-sequence (λ t. branch-lts.spec (branch-claims t)

@@ -13,7 +13,7 @@ enum-told-2 : tie.Need-enum-told-2
 enum-told-2 c = search needs
 
 returns : tie.Need-returns
-returns c = λ p x. ended-refused _ _ (c .enum-told2 .given .1)
+returns c = λ p x y. ended-refused _ _ (c .enum-told2 .given .1)
 
 peek-requires : tie.Need-peek-requires
 peek-requires c κs = search needs
@@ -22,7 +22,7 @@ refuse-requires : tie.Need-refuse-requires
 refuse-requires c κs = search needs
 
 returns-2 : tie.Need-returns-2
-returns-2 c = λ p x. ended-unclosed _ _ (c .before .before .before .before .enum-told .given .1) (c .before .before .peek .ensures) (c .before .if1 .taken) (c .refuse .ensures p x)
+returns-2 c = λ p x y. ended-unclosed _ _ (c .before .before .before .before .enum-told .given .1) (c .before .before .peek .ensures) (c .before .if1 .taken) (c .refuse .ensures p x y)
 
 close-requires : tie.Need-close-requires
 close-requires c κs = let w = as-closable _ _ (c .before .before .before .before .before .before .pre .1) (c .before .before .before .enum-told .given .1) in (w .0, (w .1 .depth, omega (arith, w .1 .stack (c .before .before .before .before .before .before .args .o .st .depth - 1))))
@@ -31,7 +31,7 @@ add-t11 : tie.Need-add-t11
 add-t11 c = omega (arith, c .before .before .before .before .before .before .before .pre .0, byte-in (c .before .before .peek .ensures) (c .before .if1 .left))
 
 returns-3 : tie.Need-returns-3
-returns-3 c = λ p x. ended-closed _ _ (c .before .before .before .before .enum-told .given .1) (c .before .before .peek .ensures) (c .before .if1 .left) (c .close .ensures p x)
+returns-3 c = λ p x y. ended-closed _ _ (c .before .before .before .before .enum-told .given .1) (c .before .before .peek .ensures) (c .before .if1 .left) (c .close .ensures p x y)
 
 pub end-branch-spec : {M : Type 1} → statement M
 end-branch-spec =

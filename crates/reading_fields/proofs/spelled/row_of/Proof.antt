@@ -20,8 +20,11 @@ cast-t5 c = search needs
 cast-t6 : tie.Need-cast-t6
 cast-t6 c = search needs
 
+cast-t7 : tie.Need-cast-t7
+cast-t7 c = search needs
+
 returns : tie.Need-returns
-returns c = field-row _ (omega arith) (omega arith) (omega arith) (omega arith) (omega arith) (toZ-ofZ (record { sfits = c .struct-told .given .1 .1 .1 .1 .0 .1 }))
+returns c = field-row _ (omega arith) (omega arith) (omega arith) (omega arith) (omega arith) (omega arith) (toZ-ofZ (record { sfits = c .struct-told .given .1 .1 .1 .1 .0 .1 }))
 
 pub row-of-spec : {M : Type 1} → statement M
-row-of-spec = tie.close (tie.spec cast-t2 cast-t3 cast-t4 cast-t5 cast-t6 returns)
+row-of-spec = tie.close (tie.spec cast-t2 cast-t3 cast-t4 cast-t5 cast-t6 cast-t7 returns)

@@ -24,7 +24,7 @@ array-write-hubs c = search needs
 
 returns : tie.Need-returns
 unfolding closed
-returns c = λ p x. refl
+returns c = λ p x y. refl
 
 pub close-spec : {M : Type 1} → statement M
 close-spec =

@@ -9,10 +9,10 @@ add-self-2 : tie.Need-add-self-2
 add-self-2 c = search needs
 
 returns : tie.Need-returns
-returns c = λ p x o. simp (c .before .if1 .taken)
+returns c = λ p x y o. simp (c .before .if1 .taken)
 
 returns-2 : tie.Need-returns-2
-returns-2 c = λ p x o. simp (c .if1 .left)
+returns-2 c = λ p x y o. simp (c .if1 .left)
 
 pub extend-spec : {M : Type 1} → statement M
 extend-spec = tie.close (tie.spec add-self add-self-2 returns returns-2)

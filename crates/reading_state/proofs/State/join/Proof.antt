@@ -27,7 +27,7 @@ array-write-symbols c = search needs
 
 returns : tie.Need-returns
 unfolding joined
-returns c = λ p x i. simp (eq-eqb _ _ (c .if1 .taken))
+returns c = λ p x y i. simp (eq-eqb _ _ (c .if1 .taken))
 
 mul-openers-2 : tie.Need-mul-openers-2
 mul-openers-2 c = search needs
@@ -43,7 +43,7 @@ add-self c = search needs
 
 returns-2 : tie.Need-returns-2
 unfolding joined
-returns-2 c = λ p x i. simp (ne-eqb _ _ (c .before .if1 .left))
+returns-2 c = λ p x y i. simp (ne-eqb _ _ (c .before .if1 .left))
 
 pub join-spec : {M : Type 1} → statement M
 join-spec =

@@ -18,7 +18,7 @@ add-self c = search needs
 
 returns : tie.Need-returns
 unfolding opened
-returns c = λ p x. refl
+returns c = λ p x y. refl
 
 pub open-spec : {M : Type 1} → statement M
 open-spec = tie.close (tie.spec cast-hubs mul-hubs array-write-hubs add-self returns)

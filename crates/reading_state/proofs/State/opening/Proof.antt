@@ -15,7 +15,7 @@ cast-u c = search needs
 
 returns : tie.Need-returns
 unfolding openingOf
-returns c = λ p x. simp (eq-eqb _ _ (c .if1 .taken))
+returns c = λ p x y. simp (eq-eqb _ _ (c .if1 .taken))
 
 sub-t6 : tie.Need-sub-t6
 sub-t6 c = search needs
@@ -25,7 +25,7 @@ array-read-t14 c = search needs
 
 returns-2 : tie.Need-returns-2
 unfolding openingOf
-returns-2 c = λ p x. simp (ne-eqb _ _ (c .if1 .left))
+returns-2 c = λ p x y. simp (ne-eqb _ _ (c .if1 .left))
 
 pub opening-spec : {M : Type 1} → statement M
 opening-spec =

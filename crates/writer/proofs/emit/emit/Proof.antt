@@ -11,11 +11,11 @@ use Rattle.writer.proofs.emit.emit.Statement.{statement}
 use Rattle.writer.proofs.emit.emit.Tie as tie
 
 abbrev Inv-loop : tie.InvT-loop
-Inv-loop atoms n order up kind last sums los his kinds marks k out₀ slots₀ at₀ x₀ out slots at x =
-    Onward (headBytes atoms order up kind last sums) los his kinds n k (replicate slotCount 0) (bufferAt out₀ 0) x slots (bufferAt out at) × (x ≤ n) × (length slots ≡ slotCount) × (length out ≡ length out₀)
+Inv-loop atoms n order up kind last sums written los his kinds marks k out₀ slots₀ at₀ x₀ out slots at x =
+    Onward (headBytes atoms order up kind last sums written) los his kinds n k (replicate slotCount 0) (bufferAt out₀ 0) x slots (bufferAt out at) × (x ≤ n) × (length slots ≡ slotCount) × (length out ≡ length out₀)
 
 abbrev μ-loop : tie.MeasureT-loop
-μ-loop atoms n order up kind last sums los his kinds marks k out₀ slots₀ at₀ x₀ out slots at x = n - x
+μ-loop atoms n order up kind last sums written los his kinds marks k out₀ slots₀ at₀ x₀ out slots at x = n - x
 
 loop-holds : tie.Need-loop-holds Inv-loop μ-loop
 loop-holds c =
@@ -27,21 +27,21 @@ slice-aggregate-emit-atom c =
 
 emit-atom-requires : tie.Need-emit-atom-requires Inv-loop μ-loop
 emit-atom-requires c κs =
-    let p = c .before .before .before .before .before .before .before .before .before .before .before .before .before .before .pre in
+    let p = c .before .before .before .before .before .before .before .before .before .before .before .before .before .before .before .pre in
     let t = c .before .before .loop-test .taken in
     (p .0 _ t, (p .1 .0, (omega (arith, c .before .before .before .loop .inv .2), omega (arith, t, p .1 .1))))
 
 same-length : tie.Need-same-length Inv-loop μ-loop
 same-length c =
-    c .before .before .before .before .emit-atom .kept .1 .1 .1 .1 .1 .1 .1 .1 .1 .1 .1 .1 .1 .0 ∙ c .before .before .before .before .before .before .before .before .loop .inv .3
+    c .before .before .before .before .emit-atom .kept .1 .1 .1 .1 .1 .1 .1 .1 .1 .1 .1 .1 .1 .1 .0 ∙ c .before .before .before .before .before .before .before .before .loop .inv .3
 
 returns : tie.Need-returns Inv-loop μ-loop
 returns c =
-    onward-stop _ _ _ _ _ _ _ _ _ _ _ _ _ _ _ _ _ _ _ (c .before .before .before .before .before .before .before .before .loop .inv .0) (c .before .before .before .before .before .before .before .loop-test .taken) (c .before .before .before .before .emit-atom .ensures) (not-true _ (c .if1 .taken))
+    onward-stop _ _ _ _ _ _ _ _ _ _ _ _ _ _ _ _ _ _ _ _ (c .before .before .before .before .before .before .before .before .loop .inv .0) (c .before .before .before .before .before .before .before .loop-test .taken) (c .before .before .before .before .emit-atom .ensures) (not-true _ (c .if1 .taken))
 
 add-x : tie.Need-add-x Inv-loop μ-loop
 add-x c =
-    let s = c .before .before .before .before .before .before .before .before .before .before .before .before .before .before .before .before .before .before .before in
+    let s = c .before .before .before .before .before .before .before .before .before .before .before .before .before .before .before .before .before .before .before .before in
     omega (arith, c .before .before .before .before .before .before .before .loop-test .taken, s .fits .n)
 
 loop-less : tie.Need-loop-less Inv-loop μ-loop
@@ -53,7 +53,7 @@ loop-again c =
     let i = c .before .before .before .before .before .before .before .before .loop .inv in
     let t = c .before .before .before .before .before .before .before .loop-test .taken in
     let e = c .before .before .before .before .emit-atom in
-    (onward-step _ _ _ _ _ _ _ _ _ _ _ _ _ _ _ _ _ _ _ (i .0) t (e .ensures) (not-false _ (c .if1 .left)) (e .kept .1 .1 .1 .1 .1 .1 .1 .1 .1 .1 .1 .0), omega (arith, t), e .kept .1 .1 .1 .1 .1 .1 .1 .1 .1 .1 .1 .0 ∙ i .2, e .kept .1 .1 .1 .1 .1 .1 .1 .1 .1 .1 .1 .1 .1 .0 ∙ i .3)
+    (onward-step _ _ _ _ _ _ _ _ _ _ _ _ _ _ _ _ _ _ _ _ (i .0) t (e .ensures) (not-false _ (c .if1 .left)) (e .kept .1 .1 .1 .1 .1 .1 .1 .1 .1 .1 .1 .1 .0), omega (arith, t), e .kept .1 .1 .1 .1 .1 .1 .1 .1 .1 .1 .1 .1 .0 ∙ i .2, e .kept .1 .1 .1 .1 .1 .1 .1 .1 .1 .1 .1 .1 .1 .1 .0 ∙ i .3)
 
 same-length-2 : tie.Need-same-length-2 Inv-loop μ-loop
 same-length-2 c =

@@ -31,32 +31,35 @@ shared-slice-read-more : tie.Need-shared-slice-read-more
 shared-slice-read-more c = search needs
 
 cast-more : tie.Need-cast-more
-cast-more c = let a = c .before .before .before .before .before .before .before .before .before .before .before .before .before .before .args in omega (arith, c .shared-slice-known12 .given (getD (a .up .now) (a .x .0) 0))
+cast-more c = let a = c .before .before .before .before .before .before .before .before .before .before .before .before .before .before .before .args in omega (arith, c .shared-slice-known13 .given (getD (a .up .now) (a .x .0) 0))
 
 shared-slice-read-lead : tie.Need-shared-slice-read-lead
 shared-slice-read-lead c = search needs
 
 cast-lead : tie.Need-cast-lead
-cast-lead c = omega (arith, c .shared-slice-known13 .given (c .before .before .before .before .before .before .before .before .before .before .before .before .before .before .before .before .args .x .0))
+cast-lead c = omega (arith, c .shared-slice-known14 .given (c .before .before .before .before .before .before .before .before .before .before .before .before .before .before .before .before .before .args .x .0))
 
 lead-requires : tie.Need-lead-requires
 lead-requires c κs = search needs
 
-mul-atom : tie.Need-mul-atom
-mul-atom c = search needs
-
 shared-slice-read-atom : tie.Need-shared-slice-read-atom
 shared-slice-read-atom c = search needs
 
+mul-atom : tie.Need-mul-atom
+mul-atom c = search needs
+
+shared-slice-read-atom-2 : tie.Need-shared-slice-read-atom-2
+shared-slice-read-atom-2 c = search needs
+
 cast-atom : tie.Need-cast-atom
-cast-atom c = let a = c .before .before .before .before .before .before .before .before .before .before .before .before .before .before .before .before .before .before .before .before .args in omega (arith, c .shared-slice-known14 .given (getD (a .order .now) (a .x .0) 0))
+cast-atom c = let a = c .before .before .before .before .before .before .before .before .before .before .before .before .before .before .before .before .before .before .before .before .before .before .args in omega (arith, c .shared-slice-known16 .given (getD (a .order .now) (a .x .0) 0))
 
 atom-requires : tie.Need-atom-requires
 atom-requires c κs = search needs
 
 ring-ends-requires : tie.Need-ring-ends-requires
 ring-ends-requires c κs =
-    let p = c .before .before .before .before .before .before .before .before .before .before .before .before .before .before .before .before .before .before .before .before .before .before .before .before .before .before .pre in
+    let p = c .before .before .before .before .before .before .before .before .before .before .before .before .before .before .before .before .before .before .before .before .before .before .before .before .before .before .before .before .pre in
     let r = p .0 in
     ((r .lower, r .higher), ((r .bridges, p .1 .1 .0), (r .opened, (p .1 .0, p .1 .1 .1))))
 
@@ -67,7 +70,7 @@ same-length-2 : tie.Need-same-length-2
 same-length-2 c = search needs
 
 returns : tie.Need-returns
-returns c = emitted _ _ _ _ _ _ _ _ _ _ _ _ _ _ _ _ _ _ _ refl (c .before .before .before .before .before .before .before .before .before .before .before .before .before .before .lead .ensures) (c .before .before .before .before .before .before .before .before .before .atom .ensures) (c .before .before .before .before .ring-ends .ensures)
+returns c = emitted _ _ _ _ _ _ _ _ _ _ _ _ _ _ _ _ _ _ _ _ refl (c .before .before .before .before .before .before .before .before .before .before .before .before .before .before .before .lead .ensures) (c .before .before .before .before .before .before .before .before .before .atom .ensures) (c .before .before .before .before .ring-ends .ensures)
 
 pub emit-atom-spec : {M : Type 1} → statement M
 emit-atom-spec =
@@ -85,8 +88,9 @@ emit-atom-spec =
     shared-slice-read-lead
     cast-lead
     lead-requires
-    mul-atom
     shared-slice-read-atom
+    mul-atom
+    shared-slice-read-atom-2
     cast-atom
     atom-requires
     ring-ends-requires

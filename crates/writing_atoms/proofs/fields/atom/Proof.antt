@@ -21,7 +21,7 @@ same-length : tie.Need-same-length
 same-length c = search needs
 
 returns : tie.Need-returns
-returns c = as-is (bare-atom _ _ _ _ _ (sym (c .before .before .before .before .before .before .before .is-outside .ensures) ∙ c .before .before .before .before .before .before .if1 .taken) (c .before .before .before .before .before .atom-number .ensures) (c .before .before .before .atom-number2 .ensures)) (c .before .before .symbol .ensures)
+returns c = as-is (bare-atom _ _ _ _ _ _ (sym (c .before .before .before .before .before .before .before .is-outside .ensures) ∙ c .before .before .before .before .before .before .if1 .taken) (c .before .before .before .before .before .atom-number .ensures) (c .before .before .before .atom-number2 .ensures)) (c .before .before .symbol .ensures)
 
 bracket-requires : tie.Need-bracket-requires
 bracket-requires c κs = search needs
@@ -30,7 +30,7 @@ same-length-2 : tie.Need-same-length-2
 same-length-2 c = search needs
 
 returns-2 : tie.Need-returns-2
-returns-2 c = as-is (bracket-atom _ _ _ (sym (c .before .before .before .before .before .is-outside .ensures) ∙ c .before .before .before .before .if1 .left)) (c .before .before .bracket .ensures)
+returns-2 c = as-is (bracket-atom _ _ _ _ (sym (c .before .before .before .before .before .is-outside .ensures) ∙ c .before .before .before .before .if1 .left)) (c .before .before .bracket .ensures)
 
 pub atom-spec : {M : Type 1} → statement M
 atom-spec =

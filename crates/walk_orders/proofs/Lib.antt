@@ -1,0 +1,5 @@
+pub mod Numbers
+pub mod Carried
+pub mod Marks
+pub mod Again
+pub mod Examples
