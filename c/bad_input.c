@@ -205,7 +205,8 @@ static void compounds(void) {
            all(row + 6, sizeof row - 6, 0) && all(row2, sizeof row2, 0) &&
            all(ren + 6, sizeof ren - sizeof turned, 0), "the first rows, the smallest renumbering");
     expect(same("", "", 0) == BALSA_ACCEPTED && outputs_are(0), "two empty molecules");
-    expect(same("F/C=C/F", "F/C=C\\F", 0) == BALSA_ACCEPTED, "marks are left aside");
+    expect(same("F/C=C/F", "F/C=C\\F", 0) == BALSA_ACCEPTED, "marks of bonds are left aside");
+    expect(same("N[C@@H](C)C(=O)O", "N[C@H](C)C(=O)O", 0) == BALSA_ACCEPTED, "and those of atoms");
     expect(same("CCO", "COC", 0) == BALSA_DIFFERENT && outputs_are(0), "no zeroes the outputs");
     expect(same("", "C", 0) == BALSA_DIFFERENT && outputs_are(0), "nothing is like nothing only");
     char chain[66] = "";

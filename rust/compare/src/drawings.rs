@@ -3,17 +3,20 @@
 use crate::molecules::{self, Effort};
 use crate::random::Random;
 use balsa_reference::{
-    delocalized, first, implied_hydrogens, next, Atom, Bond, Kind, Molecule, MAX_COMPARED,
+    delocalized, first, implied_hydrogens, next, Atom, Bond, Kind, Mark, Molecule, MAX_COMPARED,
 };
 
-/// Two molecules, both mostly of at most 64 atoms: renumbered, redrawn, perhaps with a cell, an order
-/// or an end changed.
+/// Two molecules, both mostly of at most 64 atoms: renumbered, redrawn, with other tetrahedral marks,
+/// perhaps with a cell, an order or an end changed.
 pub fn pair(random: &mut Random, effort: Effort) -> [Molecule; 2] {
     let molecule = compared(random, effort);
     if random.percent(3) {
         return [molecule, compared(random, effort)];
     }
     let mut other = redrawn(random, &molecule);
+    if random.percent(50) {
+        turn_marks(random, &mut other);
+    }
     if random.percent(40) {
         change(random, &mut other);
     }
@@ -176,6 +179,13 @@ fn parts(molecule: &Molecule) -> Vec<usize> {
         }
     }
     parts
+}
+
+/// Turns tetrahedral marks and leaves some out.
+fn turn_marks(random: &mut Random, molecule: &mut Molecule) {
+    for atom in &mut molecule.atoms {
+        atom.mark = *random.pick(&[atom.mark, atom.mark.turned(), Mark::None]);
+    }
 }
 
 /// Changes a cell, an order, an end, or exchanges two atoms' cells.

@@ -84,7 +84,7 @@ fn check_shown(
     let cells = |molecule: &Buffers, atom: usize| {
         let mut cells = molecule.atoms[ATOM_CELLS * atom..ATOM_CELLS * (atom + 1)].to_vec();
         cells[1] = 0;
-        cells[6] = 0;
+        cells[MARK] = 0;
         cells
     };
     let mut atoms = numbers

@@ -292,6 +292,10 @@ impl Implementation for Faulty {
         if self.has("row left at no") && answer == Answer::of(0) {
             first.row[0] = 1;
         }
+        if self.has("marks compared") && answer == Answer::of(1) && !have_equal_marks(first, second)
+        {
+            return Answer::of(0);
+        }
         if self.has("yes to all") && answer.is_accepted() {
             return Answer::of(1);
         }
@@ -323,6 +327,16 @@ fn put_hydrogens_last(buffers: &mut Buffers, atoms: usize) {
             cells[6] = 3 - cells[6];
         }
     }
+}
+
+/// Whether each atom has the tetrahedral mark of its image.
+fn have_equal_marks(first: &Buffers, second: &Buffers) -> bool {
+    let mark = |buffers: &Buffers, atom: usize| buffers.atoms[ATOM_CELLS * atom + 6];
+    let atoms = 0..first.counts.atoms;
+    let image = |atom: usize| usize::from(first.renumbering[atom]);
+    atoms
+        .into_iter()
+        .all(|atom| mark(first, atom) == mark(second, image(atom)))
 }
 
 /// The number of cases in which a fault is seen by the comparison and by the laws.
@@ -362,6 +376,7 @@ fn faults_in_pairs_are_seen() {
     for fault in [
         "another renumbering",
         "row left at no",
+        "marks compared",
         "yes to all",
         "no to all",
     ] {

@@ -80,6 +80,9 @@ fn texts_of_the_paper_and_its_edges() {
     assert_told("CC", "C-C", SAME);
     assert_told("F/C=C/F", r"F/C=C\F", SAME);
     assert_told("F/C=C/F", "FC=CF", SAME);
+    assert_told("N[C@@H](C)C(=O)O", "N[C@H](C)C(=O)O", SAME);
+    assert_told("N[C@@H](C)C(=O)O", "NC(C)C(=O)O", SAME);
+    assert_told("C[C@](N)(O)F", "[C@](C)(O)(N)F", SAME);
     assert_told(r"C=C/c(\C=C)cC", "C=CC(C=C)=CC", SAME);
     assert_told("", "", SAME);
     assert_told("", "C", DIFFERENT);
