@@ -6,10 +6,22 @@ use std::collections::BTreeMap;
 /// Each text on a line.
 pub const TEXTS: &str = include_str!("../../../corpus/real.smi");
 
+/// Texts with tetrahedral marks.
+const MARKED: &str = include_str!("../../../corpus/marked.smi");
+
 /// The molecules of at most 64 atoms.
 pub fn molecules() -> Vec<Molecule> {
-    let read = |text: &str| read(text.as_bytes()).expect("the corpus is accepted");
-    let all = TEXTS.lines().map(read);
+    compared(TEXTS)
+}
+
+/// Those of the texts with tetrahedral marks.
+pub fn marked() -> Vec<Molecule> {
+    compared(MARKED)
+}
+
+/// The accepted ones of at most 64 atoms.
+fn compared(texts: &str) -> Vec<Molecule> {
+    let all = texts.lines().flat_map(|text| read(text.as_bytes()));
     all.filter(|molecule| molecule.atoms.len() <= MAX_COMPARED)
         .collect()
 }

@@ -224,6 +224,21 @@ fn every_text_of_the_corpus_and_another_drawing() {
     }
 }
 
+/// Marks are left aside.
+#[test]
+fn every_marked_text_and_its_mirror_image() {
+    let mut random = Random::new(4);
+    let molecules = corpus::marked();
+    assert!(molecules.len() > 500, "{}", molecules.len());
+    for molecule in molecules {
+        let mut mirrored = other_drawing(&mut random, &molecule);
+        for atom in &mut mirrored.atoms {
+            atom.mark = atom.mark.turned();
+        }
+        assert_eq!(asked(&molecule, &mirrored), Answer::of(SAME));
+    }
+}
+
 #[test]
 fn texts_of_one_formula() {
     let mut random = Random::new(3);
