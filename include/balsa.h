@@ -184,7 +184,8 @@ uint32_t balsa_next_forced(const int32_t *atoms, size_t atoms_len, const int32_t
  * number in the second of the first's atom a, smallest at the first atom where renumberings differ. 254:
  * they are not the same, and all three are zeroed; so is a molecule without a matching and any other.
  * Output: row1, row2, ren, of the lengths of a row and of a renumbering. Refusals 1, 13 (either molecule),
- * 19 (over 64 atoms in either). */
+ * 19 (over 64 atoms in either). Real pairs take microseconds; with many atoms or parts that are alike the
+ * time may grow exponentially (docs/PERFORMANCE.md). */
 uint32_t balsa_same(const int32_t *atoms1, size_t atoms1_len, const int32_t *bonds1, size_t bonds1_len,
                     size_t n1, size_t m1, const int32_t *atoms2, size_t atoms2_len,
                     const int32_t *bonds2, size_t bonds2_len, size_t n2, size_t m2, uint8_t *row1,

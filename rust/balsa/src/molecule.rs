@@ -181,6 +181,9 @@ impl Molecule {
     /// Two drawings without selected atoms whose double bonds lie differently are not the same, though
     /// both may be the same as one with selected atoms.
     ///
+    /// Real pairs take microseconds; with many atoms or parts that are alike the time may grow
+    /// exponentially (`docs/PERFORMANCE.md`).
+    ///
     /// # Errors
     /// 19 if a molecule has over 64 atoms.
     ///
