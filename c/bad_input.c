@@ -171,6 +171,62 @@ static void forced_pairs(void) {
     expect(f.code == 13 && f.forced == 0 && all(pairs, sizeof pairs, 0), "13 zeroes the list");
 }
 
+/* A second molecule, and the cells that are lent for each output. */
+static int32_t atoms2[BALSA_ATOM_TABLE], bonds2[BALSA_BOND_TABLE];
+static uint8_t row2[BALSA_ROW];
+static size_t room = BALSA_ROW, room2 = BALSA_ROW, numbers = BALSA_RENUMBERING;
+
+/* Compares two texts; the end of the second's first bond may be spoilt. */
+static uint32_t same(const char *one, const char *other, int spoilt) {
+    balsa_read_reply second = read_text(other);
+    memcpy(atoms2, atoms, sizeof atoms);
+    memcpy(bonds2, bonds, sizeof bonds);
+    bonds2[1] = spoilt ? -1 : bonds2[1];
+    balsa_read_reply first = read_text(one);
+    memset(row, 7, sizeof row);
+    memset(row2, 7, sizeof row2);
+    memset(ren, 7, sizeof ren);
+    return balsa_same(atoms, BALSA_ATOM_TABLE, bonds, BALSA_BOND_TABLE, first.atoms, first.bonds,
+                      atoms2, BALSA_ATOM_TABLE, bonds2, BALSA_BOND_TABLE, second.atoms, second.bonds,
+                      row, room, row2, room2, ren, numbers);
+}
+
+/* Whether every byte of what the call fills has this value. */
+static int outputs_are(unsigned char value) {
+    return all(row, sizeof row, value) && all(row2, sizeof row2, value) && all(ren, sizeof ren, value);
+}
+
+/* The same compound: the rows and the renumbering, zeros behind them and at "no", 13 before 19; a short output changes nothing. */
+static void compounds(void) {
+    static const uint8_t doubles[] = {1, 0, 1, 0, 1, 0};
+    static const uint16_t turned[] = {0, 5, 4, 3, 2, 1};
+    expect(same("c1ccccc1", "C=1C=CC=CC1", 0) == BALSA_ACCEPTED, "two drawings of benzene");
+    expect(memcmp(row, doubles, sizeof doubles) == 0 && memcmp(ren, turned, sizeof turned) == 0 &&
+           all(row + 6, sizeof row - 6, 0) && all(row2, sizeof row2, 0) &&
+           all(ren + 6, sizeof ren - sizeof turned, 0), "the first rows, the smallest renumbering");
+    expect(same("", "", 0) == BALSA_ACCEPTED && outputs_are(0), "two empty molecules");
+    expect(same("F/C=C/F", "F/C=C\\F", 0) == BALSA_ACCEPTED, "marks of bonds are left aside");
+    expect(same("N[C@@H](C)C(=O)O", "N[C@H](C)C(=O)O", 0) == BALSA_ACCEPTED, "and those of atoms");
+    expect(same("CCO", "COC", 0) == BALSA_DIFFERENT && outputs_are(0), "no zeroes the outputs");
+    expect(same("", "C", 0) == BALSA_DIFFERENT && outputs_are(0), "nothing is like nothing only");
+    char chain[66] = "";
+    memset(chain, 'C', 64);
+    expect(same(chain, chain, 0) == BALSA_ACCEPTED && ren[63] == 63, "64 atoms");
+    chain[64] = 'C';
+    expect(same(chain, "CC", 0) == BALSA_LARGE_MOLECULE && outputs_are(0), "65 atoms in the first");
+    expect(same("CC", chain, 0) == BALSA_LARGE_MOLECULE && outputs_are(0), "65 atoms in the second");
+    expect(same(chain, "CC", 1) == BALSA_INVALID && outputs_are(0), "13 before 19");
+    size_t *lent[] = {&room, &room2, &numbers};
+    for (size_t i = 0; i < 3; i++) {
+        (*lent[i])--;
+        expect(same(chain, "CC", 1) == BALSA_SHORT && outputs_are(7), "a short output");
+        (*lent[i])++;
+    }
+    expect(balsa_same(atoms, BALSA_ATOM_TABLE - 1, bonds, BALSA_BOND_TABLE, 0, 0, NULL, 0, NULL, 0, 0, 0,
+                      row, room, row2, room2, ren, numbers) == BALSA_SHORT && outputs_are(7),
+           "short tables");
+}
+
 /* The register: too short, any bytes, gaps, full at 64 entries and at byte 32,767; a refusal changes nothing. */
 static void registers(void) {
     static uint8_t reg[BALSA_REGISTER + 3], before[sizeof reg], body[BALSA_REGISTER_BODY + 1];
@@ -252,6 +308,7 @@ int main(void) {
     invalid_tables();
     rubbish_rows();
     forced_pairs();
+    compounds();
     registers();
     reports();
     printf("%u checks hold\n", checks);

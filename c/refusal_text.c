@@ -2,7 +2,8 @@
 #include "balsa.h"
 
 /* The limits that the words name. */
-_Static_assert(BALSA_TEXT == 16384 && BALSA_RENUMBERING == 1000 && BALSA_ROW == 1100, "");
+_Static_assert(BALSA_TEXT == 16384 && BALSA_RENUMBERING == 1000 && BALSA_ROW == 1100 &&
+               BALSA_SAME_ATOMS == 64, "");
 
 static const char *const words[] = {
     [BALSA_SHORT] = "a buffer is too short",
@@ -23,6 +24,7 @@ static const char *const words[] = {
     [BALSA_LONG_WRITING] = "the written text would be over 16,384 bytes",
     [BALSA_INVALID_REGISTER] = "the layout of the register breaks a rule",
     [BALSA_FULL_REGISTER] = "the register has no room for the body",
+    [BALSA_LARGE_MOLECULE] = "a molecule has over 64 atoms",
     [BALSA_CROWDED_END] = "two marked neighbours of one end lie on the same side",
     [BALSA_STRAY_MARK] = "a mark touches no double bond",
     [BALSA_LOOSE_ATOM] = "a selected atom has fewer than two bonds",

@@ -1,4 +1,4 @@
-/* Balsa text: reading, writing and kekulizing, by a proved library (crate balsa; link libbalsa.a).
+/* Balsa text: reading, writing, kekulizing and comparing, by a proved library (crate balsa; link libbalsa.a).
  *
  * A slice is a pointer and then its length in elements; a length of 0 may come with a null pointer.
  * Every call is proved for all lengths and all contents: nothing outside the slices is touched, every
@@ -10,8 +10,8 @@
  * (first end, second end, kind: 0 elided, 1, 2, 3, 4 for `/`, 5 for `\`). Least lengths: atoms 7000, bonds 3300, row 1100, out 16384, ren 1000.
  * n and m are the numbers of atoms and bonds in the tables.
  *
- * Codes: 0 accepted, 1 to 23 the refusals of docs/RULES.md, 255 "end" (balsa_next, balsa_register_walk). Refusal 1 changes
- * nothing; any other zeroes what is named as output; an acceptance zeroes the unused rest.
+ * Codes: 0 accepted, 1 to 23 the refusals of docs/RULES.md, 254 "different" (balsa_same), 255 "end"
+ * (balsa_next, balsa_register_walk). Refusal 1 changes nothing; any other zeroes what is named as output; an acceptance zeroes the unused rest.
  *
  * Threads: a call keeps nothing, allocates nothing and takes no lock; it works on what it is lent and on
  * its stack. Calls may run at once in any threads as long as none is lent what another one writes.
@@ -54,10 +54,12 @@ enum {
     BALSA_LONG_WRITING = 16,
     BALSA_INVALID_REGISTER = 17,
     BALSA_FULL_REGISTER = 18,
+    BALSA_LARGE_MOLECULE = 19,
     BALSA_CROWDED_END = 20,
     BALSA_STRAY_MARK = 21,
     BALSA_LOOSE_ATOM = 22,
     BALSA_UNFIT_MARK = 23,
+    BALSA_DIFFERENT = 254,
     BALSA_END = 255
 };
 
@@ -66,7 +68,8 @@ enum {
     BALSA_BOND_TABLE = 3300,
     BALSA_ROW = 1100,
     BALSA_TEXT = 16384,
-    BALSA_RENUMBERING = 1000
+    BALSA_RENUMBERING = 1000,
+    BALSA_SAME_ATOMS = 64
 };
 
 /* These three are in libbalsa.so; with libbalsa.a compile c/refusal_text.c too. */
@@ -173,6 +176,20 @@ balsa_forced_reply balsa_first_forced(const int32_t *atoms, size_t atoms_len, co
 /* As balsa_next. Output: row. Refusals 1, 13, 12. */
 uint32_t balsa_next_forced(const int32_t *atoms, size_t atoms_len, const int32_t *bonds,
                            size_t bonds_len, size_t n, size_t m, uint8_t *row, size_t row_len);
+
+/* Whether two molecules of at most BALSA_SAME_ATOMS atoms are the same compound, drawn differently: some
+ * matching of one and some matching of the other kekulize to the same molecule under some renumbering.
+ * Atom cells must match, bonds are compared by order, and marks are left aside. 0: row1 gets the first
+ * such matching of the first molecule, row2 the first of the second that goes with it, and ren[a] is the
+ * number in the second of the first's atom a, smallest at the first atom where renumberings differ. 254:
+ * they are not the same, and all three are zeroed; so is a molecule without a matching and any other.
+ * Output: row1, row2, ren, of the lengths of a row and of a renumbering. Refusals 1, 13 (either molecule),
+ * 19 (over 64 atoms in either). Real pairs take microseconds; with many atoms or parts that are alike the
+ * time may grow exponentially (docs/PERFORMANCE.md). */
+uint32_t balsa_same(const int32_t *atoms1, size_t atoms1_len, const int32_t *bonds1, size_t bonds1_len,
+                    size_t n1, size_t m1, const int32_t *atoms2, size_t atoms2_len,
+                    const int32_t *bonds2, size_t bonds2_len, size_t n2, size_t m2, uint8_t *row1,
+                    size_t row1_len, uint8_t *row2, size_t row2_len, uint16_t *ren, size_t ren_len);
 
 /* The report of the lines of an input, as the program `report` writes it (docs/RULES.md). Output: out; the
  * bytes after the report are zeroed. Refusal 1 where the report does not fit: nothing changes. */

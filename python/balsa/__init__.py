@@ -9,6 +9,11 @@
 >>> benzene.kekulized().text
 'C1=CC=CC=C1'
 
+Two drawings of a compound are found out, with a renumbering from one to the other:
+
+>>> benzene.same_compound(balsa.Molecule("C=1C=CC=CC1")).renumbering
+(0, 5, 4, 3, 2, 1)
+
 What is refused is told with its number, its place and a caret:
 
 >>> balsa.Molecule("C11")
@@ -21,13 +26,13 @@ balsa.Refusal: refusal 7 at byte 2: a bridge joins an atom to itself
 Molecules may be used from any threads at once, a register from one at a time.
 """
 
-from ._molecule import Atom, Bond, Molecule, Written
+from ._molecule import Atom, Bond, Molecule, Sameness, Written
 from ._native import lib as _lib
 from ._refusal import Refusal
 from ._register import Register
 from ._report import report
 
-__all__ = ["Atom", "Bond", "EDITION", "Molecule", "Refusal", "Register", "Written", "report"]
+__all__ = ["Atom", "Bond", "EDITION", "Molecule", "Refusal", "Register", "Sameness", "Written", "report"]
 __version__ = _lib.balsa_version().decode("ascii")
 
 #: The edition of the rules: it grows with each change of an answer.

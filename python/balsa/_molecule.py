@@ -7,7 +7,7 @@ from typing import Iterator, NamedTuple, Optional, Sequence, Tuple, Union
 
 from . import _native
 from ._bytes import as_bytes
-from ._native import ATOM_TABLE, BOND_TABLE, PLACED, give, lib, size, take
+from ._native import ATOM_TABLE, BOND_TABLE, DIFFERENT, PLACED, give, lib, size, take
 from ._refusal import Refusal
 
 _NOT_MATCHING = 12
@@ -45,6 +45,15 @@ class Written(NamedTuple):
     """A written molecule: the text, and each atom's number in it."""
 
     text: str
+    renumbering: Tuple[int, ...]
+
+
+class Sameness(NamedTuple):
+    """What shows that two molecules are the same compound: a matching of each, and each atom of the first by
+    its number in the second."""
+
+    row1: Tuple[int, ...]
+    row2: Tuple[int, ...]
     renumbering: Tuple[int, ...]
 
 
@@ -180,6 +189,42 @@ class Molecule:
         finally:
             give(lent)
 
+    def same_compound(self, other: Molecule) -> Optional[Sameness]:
+        """Whether another molecule is the same compound, drawn differently: some matching of each makes both
+        the same molecule under some renumbering. The first matchings that do and the smallest renumbering, or
+        None. Marks are left aside. Refusal 19 where a molecule has over 64 atoms.
+
+        >>> from balsa import Molecule
+        >>> benzene = Molecule("c1ccccc1")
+        >>> benzene.same_compound(Molecule("C=1C=CC=CC1"))
+        Sameness(row1=(1, 0, 1, 0, 1, 0), row2=(0, 0, 0, 0, 0, 0), renumbering=(0, 5, 4, 3, 2, 1))
+        >>> benzene.same_compound(Molecule("C1CCCCC1")) is None
+        True
+
+        Two drawings without selected atoms whose double bonds lie differently are not the same, though both
+        may be the same as one with selected atoms:
+
+        >>> xylene = Molecule("Cc1c(C)cccc1")
+        >>> one, two = Molecule("CC1=C(C)C=CC=C1"), Molecule("CC=1C(C)=CC=CC1")
+        >>> [bool(a.same_compound(b)) for a, b in [(xylene, one), (xylene, two), (one, two)]]
+        [True, True, False]
+        """
+        if not isinstance(other, Molecule):
+            raise TypeError(f"a molecule is compared with a Molecule, not {type(other).__name__}")
+        lent, lent2 = take(), take()
+        try:
+            rows = *lent.row_lent, *lent2.row_lent
+            code = lib.balsa_same(*self._lend(lent), *other._lend(lent2), *rows, *lent.numbers_lent)
+            if code == DIFFERENT:
+                return None
+            _accept(code)
+            (atoms, bonds), (_, bonds2) = self._counts(), other._counts()
+            numbers = struct.unpack_from(f"={atoms}H", lent.renumbering)
+            return Sameness(tuple(lent.row[:bonds]), tuple(lent2.row[:bonds2]), numbers)
+        finally:
+            give(lent)
+            give(lent2)
+
     @property
     def text(self) -> str:
         """The molecule as text. Refusal 14, 15 or 16 where it cannot be written.
@@ -231,7 +276,7 @@ class Molecule:
         return _restored, (type(self), self._atoms, self._bonds, self._overfull)
 
 
-for _public in (Atom, Bond, Written, Molecule):
+for _public in (Atom, Bond, Written, Sameness, Molecule):
     _public.__module__ = "balsa"
 
 

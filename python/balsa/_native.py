@@ -15,8 +15,11 @@ BOND_TABLE = 3300
 ROW = 1100
 TEXT = 16384
 RENUMBERING = 1000
-# The code that ends an enumeration.
+# The most atoms of a molecule that is compared with another.
+SAME_ATOMS = 64
+# The code that ends an enumeration, and the one for molecules that are not the same.
 END = 255
+DIFFERENT = 254
 # The refusals that are told at a place in the text.
 PLACED = range(2, 11)
 
@@ -73,6 +76,7 @@ def _declare(library):
         ("first", code, None),
         ("next", code, None),
         ("kekulize", code, None),
+        ("same", code, None),
         ("sides", code, None),
         ("report", LengthReply, [read_only, size, lent, size]),
         ("report_length", size, [read_only, size]),
@@ -111,16 +115,16 @@ def _lent(kind, length):
 class Buffers:
     """What the calls on one molecule are lent: the bytes of each buffer, and the arguments that lend it."""
 
-    __slots__ = ("atoms", "bonds", "row", "text", "renumbering", "tables_lent", "row_lent", "out_lent")
+    __slots__ = ("atoms", "bonds", "row", "text", "renumbering", "tables_lent", "row_lent", "numbers_lent", "out_lent")
 
     def __init__(self):
         self.atoms, atoms_lent = _lent(ctypes.c_int32, ATOM_TABLE)
         self.bonds, bonds_lent = _lent(ctypes.c_int32, BOND_TABLE)
         self.row, self.row_lent = _lent(ctypes.c_uint8, ROW)
         self.text, text_lent = _lent(ctypes.c_uint8, TEXT)
-        self.renumbering, renumbering_lent = _lent(ctypes.c_uint16, RENUMBERING)
+        self.renumbering, self.numbers_lent = _lent(ctypes.c_uint16, RENUMBERING)
         self.tables_lent = atoms_lent + bonds_lent
-        self.out_lent = text_lent + renumbering_lent
+        self.out_lent = text_lent + self.numbers_lent
 
 
 # Buffers that no call uses now. Taking from a list and adding to it are each one step in every

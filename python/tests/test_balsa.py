@@ -48,7 +48,7 @@ class Agreement(unittest.TestCase):
     def test_header(self):
         header = content("include/balsa.h").decode()
         numbers = dict(re.findall(r"BALSA_(\w+) = (\d+)", header))
-        for name in ["ATOM_TABLE", "BOND_TABLE", "ROW", "TEXT", "RENUMBERING", "END"]:
+        for name in ["ATOM_TABLE", "BOND_TABLE", "ROW", "TEXT", "RENUMBERING", "SAME_ATOMS", "END", "DIFFERENT"]:
             self.assertEqual(getattr(_native, name), int(numbers[name]), name)
         for name in ["REGISTER", "REGISTER_ENTRIES", "REGISTER_BODY"]:
             self.assertEqual(getattr(_native, name), int(numbers[name]), name)
@@ -116,6 +116,28 @@ class Molecules(unittest.TestCase):
         self.assertEqual(benzene.kekulized([1, 0, 1, 0, 1, 0]), benzene.kekulized())
         self.assertEqual(list(Molecule("C").matchings()), [()])
         self.assertEqual(len(list(Molecule("c1ccc2ccccc2c1").matchings())), 3)
+
+    def test_same_compound(self):
+        """Each text of the corpus and its kekulized form, read anew, are the same; neighbours mostly are not."""
+        molecules = [molecule for molecule in map(Molecule, CORPUS[:1000]) if len(molecule.atoms) <= _native.SAME_ATOMS]
+        for molecule in molecules:
+            drawn = Molecule(molecule.kekulized().text)
+            found = molecule.same_compound(drawn)
+            images = [drawn.atoms[number] for number in found.renumbering]
+            self.assertEqual(list(molecule.kekulized(found.row1).atoms), images)
+            self.assertEqual(sorted(found.renumbering), list(range(len(drawn.atoms))))
+            self.assertEqual(drawn.kekulized(found.row2), drawn)
+        alike = [bool(one.same_compound(two)) for one, two in zip(molecules, molecules[1:])]
+        self.assertLess(sum(alike), len(alike) / 10)
+
+    def test_same_compound_refused(self):
+        large, empty = Molecule("C" * 65), Molecule("")
+        self.assertEqual(refused(large.same_compound, empty).code, 19)
+        self.assertEqual(refused(empty.same_compound, large).code, 19)
+        self.assertEqual(empty.same_compound(empty), ((), (), ()))
+        self.assertIsNone(empty.same_compound(Molecule("C")))
+        for wrong in ["C", None, 5]:
+            self.assertRaises(TypeError, empty.same_compound, wrong)
 
     def test_marks(self):
         """A text and its mark as stored: the bond numbers put the hydrogen and the bonds in another order."""

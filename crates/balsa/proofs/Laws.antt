@@ -15,6 +15,9 @@ use Rattle.writer.specs.declared.Written.{Written}
 use Rattle.writer.specs.declared.Written.the-variants.{Text, Refused as writeRefused}
 use Rattle.writer.specs.Told.{told as writer-told}
 use Rattle.writing.specs.Write as write
+use Rattle.same_model.specs.Same.{SameReply, sameReply}
+use Rattle.same.specs.Answer.{samenessCode, sameOut}
+use Rattle.same.specs.declared.Sameness.{Sameness}
 use Rattle.balsa.specs.declared.ReadReply.{ReadReply}
 use Rattle.balsa.specs.declared.WriteReply.{WriteReply}
 use Rattle.balsa.specs.Replies.{readReplyOf, readOut, writeReplyOf, writeOut}
@@ -41,3 +44,6 @@ replay-law {row = row} {codes} e g = ap (λ (k : ℕ). replayOut k row codes) e 
 
 pub forced-law : {c d k : ℕ} {row pairs : List ℕ} {o : ForcedCallReply} → c ≡ d → forcedCallReply d row k pairs ≡ o → forcedCallReply c row k pairs ≡ o
 forced-law {k = k} {row} {pairs} e g = ap (λ (x : ℕ). forcedCallReply x row k pairs) e ∙ g
+
+pub same-law : (a : Sameness) {c : ℕ} {row1 row2 ren : List ℕ} {o : SameReply} → c ≡ samenessCode a → sameOut a row1 row2 ren ≡ o → sameReply c row1 row2 ren ≡ o
+same-law a {row1 = row1} {row2} {ren} e g = ap (λ (k : ℕ). sameReply k row1 row2 ren) e ∙ g

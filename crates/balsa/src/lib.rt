@@ -18,6 +18,7 @@ use writer::Written;
 pub mod forced;
 mod register_calls;
 pub mod reporting;
+mod same_call;
 pub mod symbol;
 
 // What reading hands back: code 0 with the counts of atoms, of bonds and of over-full atoms outside brackets, or the refusal's code

@@ -3,6 +3,8 @@
 //! This is the only module with `unsafe`. Every call is proved for all buffers and all contents, so
 //! the wrappers have nothing to test: `&` and `&mut` keep the memory valid and the buffers apart.
 
+use crate::tables::Tables;
+
 /// What `balsa_read` hands back.
 #[repr(C)]
 pub struct ReadReply {
@@ -184,6 +186,26 @@ mod linked {
             row_len: usize,
             codes: *mut u8,
             codes_len: usize,
+        ) -> u32;
+        pub fn balsa_same(
+            atoms1: *const i32,
+            atoms1_len: usize,
+            bonds1: *const i32,
+            bonds1_len: usize,
+            n1: usize,
+            m1: usize,
+            atoms2: *const i32,
+            atoms2_len: usize,
+            bonds2: *const i32,
+            bonds2_len: usize,
+            n2: usize,
+            m2: usize,
+            row1: *mut u8,
+            row1_len: usize,
+            row2: *mut u8,
+            row2_len: usize,
+            ren: *mut u16,
+            ren_len: usize,
         ) -> u32;
         pub fn balsa_report(
             input: *const u8,
@@ -416,6 +438,38 @@ pub fn replay(
             row.len(),
             codes.as_mut_ptr(),
             codes.len(),
+        )
+    }
+}
+
+pub fn same(
+    one: Tables<'_>,
+    other: Tables<'_>,
+    row1: &mut [u8],
+    row2: &mut [u8],
+    ren: &mut [u16],
+) -> u32 {
+    // SAFETY: as for `read`.
+    unsafe {
+        linked::balsa_same(
+            one.atoms.as_ptr(),
+            one.atoms.len(),
+            one.bonds.as_ptr(),
+            one.bonds.len(),
+            one.counts.atoms,
+            one.counts.bonds,
+            other.atoms.as_ptr(),
+            other.atoms.len(),
+            other.bonds.as_ptr(),
+            other.bonds.len(),
+            other.counts.atoms,
+            other.counts.bonds,
+            row1.as_mut_ptr(),
+            row1.len(),
+            row2.as_mut_ptr(),
+            row2.len(),
+            ren.as_mut_ptr(),
+            ren.len(),
         )
     }
 }

@@ -1,4 +1,4 @@
-//! Balsa text read, kekulized and written by a proved library.
+//! Balsa text read, kekulized, written and compared by a proved library.
 //!
 //! [`Molecule`] owns its tables; [`tables`] has the calls on buffers that the caller lends;
 //! [`report()`] reports the lines of an input. Every answer is defined for all inputs: nothing
@@ -17,7 +17,7 @@ mod report;
 mod symbol;
 pub mod tables;
 
-pub use molecule::{Matchings, Molecule, Written};
+pub use molecule::{Matchings, Molecule, Sameness, Written};
 pub use refusal::{Code, Excerpt, Refusal};
 pub use register::{Damage, Entries, Register};
 #[cfg(unix)]

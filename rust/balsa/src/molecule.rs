@@ -2,8 +2,8 @@
 
 use crate::refusal::{Code, Refusal};
 use crate::tables::{
-    self, Counts, Read, Step, ATOM_CELLS, ATOM_TABLE, BOND_CELLS, BOND_TABLE, RENUMBERING, ROW,
-    TEXT,
+    self, Counts, Read, Step, Tables, ATOM_CELLS, ATOM_TABLE, BOND_CELLS, BOND_TABLE, RENUMBERING,
+    ROW, TEXT,
 };
 
 /// A molecule that was read.
@@ -32,6 +32,17 @@ pub struct Written {
     /// The text.
     pub text: Vec<u8>,
     /// Each atom's number in the text.
+    pub renumbering: Vec<u16>,
+}
+
+/// What shows that two molecules are the same compound.
+#[derive(Clone, Debug, PartialEq, Eq)]
+pub struct Sameness {
+    /// The matching of the first molecule.
+    pub row1: Vec<u8>,
+    /// The matching of the second molecule.
+    pub row2: Vec<u8>,
+    /// For each atom of the first molecule its number in the second.
     pub renumbering: Vec<u16>,
 }
 
@@ -160,6 +171,64 @@ impl Molecule {
             self.counts,
             &row,
         )?)
+    }
+
+    /// Whether another molecule is the same compound, drawn differently: some matching of this one and
+    /// some matching of the other kekulize to the same molecule under some renumbering. Gives the first
+    /// matching of this one that does, the first of the other that goes with it, and the smallest
+    /// renumbering. Marks are left aside: only the constitution is compared.
+    ///
+    /// Two drawings without selected atoms whose double bonds lie differently are not the same, though
+    /// both may be the same as one with selected atoms.
+    ///
+    /// Real pairs take microseconds; with many atoms or parts that are alike the time may grow
+    /// exponentially (`docs/PERFORMANCE.md`).
+    ///
+    /// # Errors
+    /// 19 if a molecule has over 64 atoms.
+    ///
+    /// ```
+    /// use balsa::{Molecule, Sameness};
+    ///
+    /// let benzene = Molecule::read(b"c1ccccc1")?;
+    /// let drawn = Molecule::read(b"C=1C=CC=CC1")?;
+    /// let shown = Sameness {
+    ///     row1: vec![1, 0, 1, 0, 1, 0],
+    ///     row2: vec![0; 6],
+    ///     renumbering: vec![0, 5, 4, 3, 2, 1],
+    /// };
+    /// assert_eq!(benzene.same_compound(&drawn)?, Some(shown));
+    /// assert_eq!(benzene.same_compound(&Molecule::read(b"C1CCCCC1")?)?, None);
+    /// # Ok::<(), balsa::Refusal>(())
+    /// ```
+    pub fn same_compound(&self, other: &Molecule) -> Result<Option<Sameness>, Refusal> {
+        let mut row1 = vec![0; ROW];
+        let mut row2 = vec![0; ROW];
+        let mut renumbering = vec![0; RENUMBERING];
+        let is_same = tables::same(
+            self.tables(),
+            other.tables(),
+            &mut row1,
+            &mut row2,
+            &mut renumbering,
+        )?;
+        row1.truncate(self.counts.bonds);
+        row2.truncate(other.counts.bonds);
+        renumbering.truncate(self.counts.atoms);
+        Ok(is_same.then_some(Sameness {
+            row1,
+            row2,
+            renumbering,
+        }))
+    }
+
+    /// The tables, as long as the calls ask.
+    fn tables(&self) -> Tables<'_> {
+        Tables {
+            atoms: &self.atoms,
+            bonds: &self.bonds,
+            counts: self.counts,
+        }
     }
 
     /// Writes the molecule.

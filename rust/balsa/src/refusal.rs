@@ -1,6 +1,6 @@
 //! Why a call says no, and the words for it.
 
-use crate::tables::{RENUMBERING, ROW, TEXT};
+use crate::tables::{RENUMBERING, ROW, SAME_ATOMS, TEXT};
 use std::fmt;
 
 /// The refusals of the rules, each once: name, number and words.
@@ -58,6 +58,7 @@ refusals! {
     LongWriting = 16, "the written text would be over 16,384 bytes";
     InvalidRegister = 17, "the layout of the register breaks a rule";
     FullRegister = 18, "the register has no room for the body";
+    LargeMolecule = 19, "a molecule has over 64 atoms";
     CrowdedEnd = 20, "two marked neighbours of one end lie on the same side";
     StrayMark = 21, "a mark touches no double bond";
     LooseAtom = 22, "a selected atom has fewer than two bonds";
@@ -65,7 +66,7 @@ refusals! {
 }
 
 // The limits that the words above name.
-const _: () = assert!(TEXT == 16384 && RENUMBERING == 1000 && ROW == 1100);
+const _: () = assert!(TEXT == 16384 && RENUMBERING == 1000 && ROW == 1100 && SAME_ATOMS == 64);
 
 impl Code {
     /// The number of the rules.

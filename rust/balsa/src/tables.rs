@@ -3,6 +3,8 @@
 use crate::ffi;
 use crate::refusal::{Code, Refusal};
 
+/// The most atoms of a molecule that [`same`] compares.
+pub const SAME_ATOMS: usize = 64;
 /// Cells of an atom: element, selected, isotope, hydrogens, charge, extension, mark.
 pub const ATOM_CELLS: usize = 7;
 /// Cells of a bond: first end, second end, kind.
@@ -25,6 +27,17 @@ pub struct Counts {
     pub atoms: usize,
     /// Bonds.
     pub bonds: usize,
+}
+
+/// The two tables of a molecule, with their counts.
+#[derive(Clone, Copy, Debug)]
+pub struct Tables<'a> {
+    /// The table of atoms.
+    pub atoms: &'a [i32],
+    /// The table of bonds.
+    pub bonds: &'a [i32],
+    /// How many atoms and bonds they hold.
+    pub counts: Counts,
 }
 
 /// What reading answers.
@@ -173,6 +186,28 @@ pub fn kekulize(
     row: &[u8],
 ) -> Result<(), Code> {
     accepted(ffi::kekulize(atoms, bonds, counts.atoms, counts.bonds, row))
+}
+
+/// Whether two molecules are the same compound, drawn differently: some matching of one and some
+/// matching of the other kekulize to the same molecule under some renumbering. Where they are, the
+/// first such row of the first is stored, the first of the second that goes with it, and the smallest
+/// renumbering, each atom of the first by its number in the second; where not, all three are zeroed.
+///
+/// # Errors
+/// 1 leaves both rows and the renumbering as they were; 13 for either molecule and then 19 (a molecule
+/// has over 64 atoms) zero them.
+pub fn same(
+    one: Tables<'_>,
+    other: Tables<'_>,
+    row1: &mut [u8],
+    row2: &mut [u8],
+    renumbering: &mut [u16],
+) -> Result<bool, Code> {
+    match ffi::same(one, other, row1, row2, renumbering) {
+        0 => Ok(true),
+        254 => Ok(false),
+        number => Err(Code::of(number)),
+    }
 }
 
 /// Writes the molecule of the tables: the length of the text, with each atom's place in it.

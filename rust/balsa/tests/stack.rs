@@ -4,7 +4,7 @@
 mod graphs;
 
 use balsa::tables::{self, Counts, ATOM_TABLE, BOND_TABLE, RENUMBERING, ROW, TEXT};
-use balsa::Code;
+use balsa::{Code, Molecule};
 use graphs::{families, Graph};
 use std::thread;
 
@@ -53,6 +53,29 @@ fn nested_and_long() {
     assert_eq!(read(text), Ok(counts));
     let chain = "C".repeat(13) + &"-[999CoH9-9:9999]".repeat(963);
     assert!(read(chain).is_ok());
+}
+
+/// Whether two texts are the same compound.
+fn same(one: &str, other: &str) -> bool {
+    let [first, second] = [one, other].map(|text| Molecule::read(text.as_bytes()).expect(text));
+    let answer = on_little_stack(move || first.same_compound(&second));
+    answer.expect("few atoms").is_some()
+}
+
+#[test]
+fn the_same_compound_of_64_atoms() {
+    let ring = |letter: &str, bond: &str| {
+        let pair = format!("{letter}{bond}{letter}");
+        format!(
+            "{letter}1{bond}{letter}{}{letter}{bond}{letter}1",
+            pair.repeat(30)
+        )
+    };
+    assert!(same(&ring("c", ""), &ring("C", "=")));
+    assert!(same(&ring("c", ""), &ring("c", "")));
+    assert!(!same(&ring("C", "="), &ring("C", "")));
+    let apart = "C.".repeat(63) + "C";
+    assert!(same(&apart, &apart));
 }
 
 /// Every call on tables, and reading what was written.

@@ -16,6 +16,20 @@ impl Object {
         self
     }
 
+    pub fn boolean(mut self, key: &str, yes: bool) -> Self {
+        self.key(key);
+        self.0 += if yes { "true" } else { "false" };
+        self
+    }
+
+    /// Numbers as a list.
+    pub fn numbers(mut self, key: &str, numbers: &[u16]) -> Self {
+        self.key(key);
+        let listed: Vec<String> = numbers.iter().map(u16::to_string).collect();
+        let _ = write!(self.0, "[{}]", listed.join(", "));
+        self
+    }
+
     pub fn null(mut self, key: &str) -> Self {
         self.key(key);
         self.0 += "null";

@@ -24,14 +24,11 @@ pub const TITLES: Opt = Opt {
 /// The most bytes of a line that are kept: any text of more than the rules allow is refused alike.
 const KEPT: u64 = 1 << 20;
 const BUFFER: usize = 1 << 16;
+/// Stands for the name of a file where texts are words at the prompt.
+pub const ARGUMENTS: &str = "<arguments>";
 
-/// Where texts come from.
-enum Source<'a> {
-    /// The words at the prompt, each a text.
-    Operands(std::slice::Iter<'a, std::ffi::OsString>),
-    /// The lines of a file or of standard input.
-    Lines(Box<dyn BufRead>),
-}
+/// The name of a file, and its lines.
+type Lines = (String, Box<dyn BufRead>);
 
 /// A text and where it stands.
 #[derive(Clone, Copy)]
@@ -40,6 +37,8 @@ pub struct Text<'a> {
     pub file: &'a str,
     /// The number of the line or argument, from 1.
     pub line: usize,
+    /// Where in the line it begins.
+    pub start: usize,
     /// The text.
     pub bytes: &'a [u8],
     /// What stands behind it, from the first blank or tab on.
@@ -60,48 +59,96 @@ pub fn each_text(
     mut each: impl FnMut(Text<'_>) -> Result<(), Failure>,
 ) -> Result<(), Failure> {
     let has_titles = arguments.has(&TITLES);
-    for (file, mut source) in sources(arguments)? {
+    let files = files(arguments)?;
+    for (index, word) in arguments.operands().iter().enumerate() {
+        let kept = word.as_encoded_bytes();
+        each(text(ARGUMENTS, index + 1, 0, kept, has_titles))?;
+    }
+    each_line(files, |file, line, kept| {
+        each(text(file, line, 0, kept, has_titles))
+    })
+}
+
+/// Goes through the pairs of texts that the arguments name: two operands first, then the lines of
+/// files, each with two texts; standard input where there are neither.
+pub fn each_pair(
+    arguments: &Arguments,
+    mut each: impl FnMut([Text<'_>; 2]) -> Result<(), Failure>,
+) -> Result<(), Failure> {
+    let has_titles = arguments.has(&TITLES);
+    let files = files(arguments)?;
+    match arguments.operands() {
+        [] => {}
+        [one, other] => {
+            let words = [one, other].map(|word| word.as_encoded_bytes());
+            each([1, 2].map(|line| text(ARGUMENTS, line, 0, words[line - 1], has_titles)))?;
+        }
+        _ => return Err(Failure::usage("two texts are compared")),
+    }
+    each_line(files, |file, line, kept| {
+        each(pair(file, line, kept, has_titles)?)
+    })
+}
+
+/// Goes through the lines of files.
+fn each_line(
+    files: Vec<Lines>,
+    mut each: impl FnMut(&str, usize, &[u8]) -> Result<(), Failure>,
+) -> Result<(), Failure> {
+    for (file, mut lines) in files {
         let mut kept = Vec::new();
         let mut line = 0;
         loop {
-            let next = source.next(&mut kept);
+            let next = next_line(&mut lines, &mut kept);
             if !next.map_err(|error| Failure::File(file.clone(), error))? {
                 break;
             }
             line += 1;
-            let (bytes, title) = if has_titles {
-                split(&kept)
-            } else {
-                (&kept[..], &b""[..])
-            };
-            each(Text {
-                file: &file,
-                line,
-                bytes,
-                title,
-            })?;
+            each(&file, line, &kept)?;
         }
     }
     Ok(())
 }
 
-impl Source<'_> {
-    /// Stores the next text; whether there is one.
-    fn next(&mut self, kept: &mut Vec<u8>) -> io::Result<bool> {
-        kept.clear();
-        match self {
-            Source::Operands(operands) => {
-                let next = operands.next();
-                next.inspect(|word| kept.extend(word.as_encoded_bytes()));
-                Ok(next.is_some())
-            }
-            Source::Lines(lines) => next_line(lines, kept),
-        }
+/// The text that begins at a byte of a line.
+fn text<'a>(file: &'a str, line: usize, start: usize, kept: &'a [u8], has_title: bool) -> Text<'a> {
+    let rest = &kept[start..];
+    let (bytes, title) = if has_title {
+        split(rest)
+    } else {
+        (rest, &b""[..])
+    };
+    Text {
+        file,
+        line,
+        start,
+        bytes,
+        title,
     }
+}
+
+/// The two texts of a line, which blanks or tabs keep apart.
+fn pair<'a>(
+    file: &'a str,
+    line: usize,
+    kept: &'a [u8],
+    has_title: bool,
+) -> Result<[Text<'a>; 2], Failure> {
+    let (one, rest) = split(kept);
+    let gap = rest.iter().take_while(|byte| b" \t".contains(byte)).count();
+    if gap == 0 {
+        let error = io::Error::other(format!("no second text on line {line}"));
+        return Err(Failure::File(file.into(), error));
+    }
+    Ok([
+        text(file, line, 0, one, false),
+        text(file, line, one.len() + gap, kept, has_title),
+    ])
 }
 
 /// Stores the next line without its end; whether there is one. A last one that is not ended counts.
 fn next_line(lines: &mut impl BufRead, kept: &mut Vec<u8>) -> io::Result<bool> {
+    kept.clear();
     if lines.by_ref().take(KEPT).read_until(b'\n', kept)? == 0 {
         return Ok(false);
     }
@@ -120,37 +167,31 @@ fn split(line: &[u8]) -> (&[u8], &[u8]) {
     line.split_at(end.unwrap_or(line.len()))
 }
 
-fn sources(arguments: &Arguments) -> Result<Vec<(String, Source<'_>)>, Failure> {
-    let mut sources = Vec::new();
-    if !arguments.operands().is_empty() {
-        let operands = Source::Operands(arguments.operands().iter());
-        sources.push(("<arguments>".into(), operands));
-    }
+/// The files that the arguments name; standard input where they name no text either.
+fn files(arguments: &Arguments) -> Result<Vec<Lines>, Failure> {
+    let mut files = Vec::new();
     for name in arguments.values(&FILE) {
-        sources.push(if name == "-" {
+        files.push(if name == "-" {
             stdin()
         } else {
             open(name.as_ref())?
         });
     }
-    if sources.is_empty() {
-        sources.push(stdin());
+    if files.is_empty() && arguments.operands().is_empty() {
+        files.push(stdin());
     }
-    Ok(sources)
+    Ok(files)
 }
 
-fn stdin() -> (String, Source<'static>) {
+fn stdin() -> Lines {
     let lines = BufReader::with_capacity(BUFFER, io::stdin());
-    ("<stdin>".into(), Source::Lines(Box::new(lines)))
+    ("<stdin>".into(), Box::new(lines))
 }
 
-fn open(path: &Path) -> Result<(String, Source<'static>), Failure> {
+fn open(path: &Path) -> Result<Lines, Failure> {
     let name = path.display().to_string();
     match File::open(path) {
-        Ok(file) => Ok((
-            name,
-            Source::Lines(Box::new(BufReader::with_capacity(BUFFER, file))),
-        )),
+        Ok(file) => Ok((name, Box::new(BufReader::with_capacity(BUFFER, file)))),
         Err(error) => Err(Failure::File(name, error)),
     }
 }

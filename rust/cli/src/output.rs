@@ -2,7 +2,7 @@
 
 use crate::arguments::{Arguments, Opt};
 use crate::failure::{Failure, Verdict};
-use crate::lines::Text;
+use crate::lines::{Text, ARGUMENTS};
 use balsa::{Code, Excerpt, Refusal};
 use std::env;
 use std::io::{self, BufWriter, IsTerminal, LineWriter, Write};
@@ -20,7 +20,8 @@ pub const QUIET: Opt = Opt {
     letter: Some('q'),
     name: "quiet",
     value: None,
-    about: "says nothing of refusals, the exit status does; `check` then says nothing at all",
+    about:
+        "says nothing of refusals, the exit status does; `check` and `same` then say nothing at all",
 };
 /// When to colour.
 pub const COLOR: Opt = Opt {
@@ -87,7 +88,7 @@ impl Messages {
         let Text { file, line, .. } = text;
         let Refusal { code, place } = refusal;
         let column = if code.has_place() {
-            format!(":{}", place + 1)
+            format!(":{}", text.start + place + 1)
         } else {
             String::new()
         };
@@ -146,7 +147,7 @@ fn hint(text: &Text<'_>, refusal: Refusal) -> Option<&'static str> {
         None => Some("the text ends too early"),
         Some(b'\r') => Some("a carriage return: --titles takes lines that end in CR LF"),
         Some(b' ' | b'\t') => Some("a blank: --titles takes lines with a name after the text"),
-        Some(_) if text.file == "<arguments>" && is_file(text.bytes) => {
+        Some(_) if text.file == ARGUMENTS && is_file(text.bytes) => {
             Some("there is a file of this name: -f reads it")
         }
         Some(_) => None,

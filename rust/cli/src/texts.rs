@@ -49,7 +49,7 @@ pub fn run(arguments: &Arguments, command: &impl Answering) -> Result<Verdict, F
             Err(refusal) => {
                 verdict = Verdict::Refused;
                 if is_json {
-                    out.write_all(refused(&text, refusal).line().as_bytes())?;
+                    out.write_all(refused(object(&text), refusal).line().as_bytes())?;
                 } else {
                     // so that results and refusals stand in order where both go to one place
                     out.flush()?;
@@ -77,10 +77,10 @@ pub fn object(text: &Text<'_>) -> Object {
     }
 }
 
-/// The object of a refused text.
-pub fn refused(text: &Text<'_>, refusal: Refusal) -> Object {
+/// The object that names a text, with its refusal.
+pub fn refused(object: Object, refusal: Refusal) -> Object {
     let Refusal { code, place } = refusal;
-    let object = object(text).number("refusal", code.number().into());
+    let object = object.number("refusal", code.number().into());
     let object = if code.has_place() {
         object.number("place", place)
     } else {

@@ -137,7 +137,7 @@ fn messages_are_the_golden_ones() {
     assert_eq!(err, fs::read_to_string(path).unwrap());
     for code in Code::ALL {
         let is_told = err.contains(&format!(": {code}\n"));
-        let elsewhere = [1, 12, 13, 16, 17, 18].contains(&code.number());
+        let elsewhere = [1, 12, 13, 16, 17, 18, 19].contains(&code.number());
         assert!(is_told || elsewhere, "no text for {code}");
     }
 }
@@ -245,6 +245,92 @@ fn answers_in_json() {
         named.out,
         "{\"file\": \"<stdin>\", \"line\": 1, \"title\": \"a \\\"b\\\"\\u0001\\\\\", \
          \"atoms\": 1, \"bonds\": 0, \"overfull\": 0}\n"
+    );
+}
+
+#[test]
+fn the_same_compound() {
+    let turned = "1: same 101010 000000 0,5,4,3,2,1\n";
+    assert_run(&["same", "c1ccccc1", "C=1C=CC=CC1"], 0, turned, "");
+    assert_run(&["same", "CCO", "COC"], 1, "1: different\n", "");
+    assert_run(&["same", "", ""], 0, "1: same - - -\n", "");
+    assert_run(&["same", "-q", "CCO", "COC"], 1, "", "");
+    assert_run(&["same", "-q", "CCO", "OCC"], 0, "", "");
+    let bad = "refusal 7: a bridge joins an atom to itself\n  C11\n    ^\n";
+    let told = format!("<arguments>:2:3: {bad}");
+    assert_run(&["same", "C", "C11"], 1, "", &told);
+    let chain = "C".repeat(65);
+    let told = format!("<arguments>:2: refusal 19: a molecule has over 64 atoms\n  {chain}\n");
+    assert_run(&["same", "C", &chain], 1, "", &told);
+    let Run { status, out, err } = run(&["same", "C"]);
+    assert_eq!((status, out.as_str()), (2, ""));
+    assert_eq!(err, "balsa: two texts are compared\n");
+}
+
+/// What three drawings of o-xylene say of one another.
+#[test]
+fn pairs_on_lines() {
+    let pairs = b"Cc1c(C)cccc1\tCC1=C(C)C=CC=C1\nCc1c(C)cccc1 CC=1C(C)=CC=CC1\n\
+                  CC1=C(C)C=CC=C1  CC=1C(C)=CC=CC1\n\t\nC \tC1\n";
+    let told = "1: same 01001010 00000000 0,1,2,3,4,5,6,7\n\
+                2: same 00010101 00000000 0,1,2,3,4,5,6,7\n3: different\n4: same - - -\n";
+    let Run { status, out, err } = run_on(&["same"], pairs);
+    assert_eq!((status, out.as_str()), (1, told));
+    let open = "<stdin>:5:5: refusal 10: a bridge is open at the end\n  C1\n   ^\n";
+    assert_eq!(err, open);
+    let named = run_on(&["same", "-t"], b"C C methane\r\n\tO\t water\r\n");
+    assert_eq!(named.out, "1: same - - 0 methane\n2: different\t water\n");
+    let Run { status, out, err } = run_on(&["same"], b"C C\nC\nC C\n");
+    assert_eq!((status, out.as_str()), (2, "1: same - - 0\n"));
+    assert_eq!(err, "balsa: <stdin>: no second text on line 2\n");
+}
+
+#[test]
+fn pairs_in_json() {
+    let input = b"C=C C=C a b\nC=C C\nC11 C\nC C#\n";
+    let at = |line: usize| format!(r#"{{"file": "<stdin>", "line": {line}"#);
+    let said = run_on(&["same", "-t", "--json"], input);
+    let bad = "\"message\": \"a bridge joins an atom to itself\"";
+    let short = "\"message\": \"no text of the grammar continues so\"";
+    let told = [
+        format!(
+            "{}, \"title\": \"a b\", \"same\": true, \"row1\": \"0\", \"row2\": \"0\", \
+             \"renumbering\": [0, 1]}}\n",
+            at(1)
+        ),
+        format!("{}, \"same\": false}}\n", at(2)),
+        format!(
+            "{}, \"which\": 1, \"refusal\": 7, \"place\": 2, {bad}}}\n",
+            at(3)
+        ),
+        format!(
+            "{}, \"which\": 2, \"refusal\": 3, \"place\": 2, {short}}}\n",
+            at(4)
+        ),
+    ];
+    assert_eq!((said.status, said.out), (1, told.concat()));
+    assert_eq!(said.err, "");
+}
+
+/// Each text of the corpus and its kekulized form are the same compound, unless they are too large.
+#[test]
+fn the_corpus_and_its_kekulized_forms() {
+    let path = format!("{ROOT}/corpus/real.smi");
+    let corpus = fs::read_to_string(&path).unwrap();
+    let kekulized = run(&["kekulize", "-f", &path]).out;
+    let lines = corpus.lines().zip(kekulized.lines());
+    let pairs: String = lines
+        .map(|(one, other)| format!("{one}\t{other}\n"))
+        .collect();
+    let Run { status, out, err } = run_on(&["same"], pairs.as_bytes());
+    assert_eq!(status, 1);
+    let large = err
+        .matches("refusal 19: a molecule has over 64 atoms\n")
+        .count();
+    assert_eq!((out.lines().count(), large), (5406 - large, large));
+    assert!(
+        large > 0 && out.lines().all(|line| line.contains(": same ")),
+        "{out}"
     );
 }
 

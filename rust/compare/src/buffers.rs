@@ -85,6 +85,33 @@ impl Buffers {
         buffers
     }
 
+    /// Buffers just as long as need be that hold a molecule, and zeros else.
+    pub fn clean(molecule: &Molecule) -> Self {
+        let mut buffers = Buffers {
+            atoms: vec![0; ATOM_TABLE],
+            bonds: vec![0; BOND_TABLE],
+            counts: Counts::default(),
+            row: vec![0; ROW],
+            pairs: vec![0; ROW],
+            text: vec![0; TEXT],
+            renumbering: vec![0; RENUMBERING],
+            calls: Vec::new(),
+            codes: Vec::new(),
+        };
+        buffers.store(molecule);
+        buffers
+    }
+
+    /// Buffers of random content that hold a molecule, which is sometimes damaged.
+    pub fn holding(random: &mut Random, molecule: &Molecule) -> Self {
+        let mut buffers = Buffers::dirty(random);
+        buffers.store(molecule);
+        if random.percent(3) {
+            buffers.damage(random);
+        }
+        buffers
+    }
+
     /// Stores a molecule; the cells after the used rows stay as they are.
     fn store(&mut self, molecule: &Molecule) {
         self.counts = tables::counts(molecule);

@@ -11,8 +11,8 @@ pub struct Answer {
     pub code: u8,
     /// The place of the refusal.
     pub place: usize,
-    /// Atoms, bonds and over-full atoms read; 1 for the end of a list; 1 for a matching; the pairs
-    /// forced; the length written.
+    /// Atoms, bonds and over-full atoms read; 1 for the end of a list; 1 for a matching; 1 for the same
+    /// compound; the pairs forced; the length written.
     pub numbers: [usize; 3],
 }
 
@@ -77,6 +77,9 @@ pub trait Implementation {
     fn kekulize(&self, buffers: &mut Buffers) -> Answer;
     /// Stores the row of sides in the row.
     fn sides(&self, buffers: &mut Buffers) -> Answer;
+    /// Tells whether two molecules are the same compound, and stores a row for each and the
+    /// renumbering of the first.
+    fn same(&self, first: &mut Buffers, second: &mut Buffers) -> Answer;
     /// Writes the molecule of the tables.
     fn write(&self, buffers: &mut Buffers) -> Answer;
 }
@@ -163,6 +166,16 @@ impl Implementation for Reference {
         let result = tables::sides(tables_of(buffers), &mut row);
         buffers.row = row;
         answer(result, |()| Answer::default())
+    }
+
+    fn same(&self, first: &mut Buffers, second: &mut Buffers) -> Answer {
+        let mut row1 = std::mem::take(&mut first.row);
+        let mut row2 = std::mem::take(&mut second.row);
+        let mut renumbering = std::mem::take(&mut first.renumbering);
+        let (one, other) = (tables_of(first), tables_of(second));
+        let result = tables::same(one, other, &mut row1, &mut row2, &mut renumbering);
+        (first.row, second.row, first.renumbering) = (row1, row2, renumbering);
+        answer(result, |is_same| Answer::of(usize::from(is_same)))
     }
 
     fn write(&self, buffers: &mut Buffers) -> Answer {

@@ -43,6 +43,95 @@ pub fn check(implementation: &dyn Implementation, buffers: &Buffers) -> Result<(
     Ok(())
 }
 
+/// Checks what is said of two molecules: it shows them to be the same, or all is zeroed; the other way
+/// round the answer is the same; and a molecule with a matching is like itself.
+pub fn check_same(
+    implementation: &dyn Implementation,
+    molecules: &[Buffers; 2],
+) -> Result<(), String> {
+    let [mut first, mut second] = molecules.clone();
+    let answer = implementation.same(&mut first, &mut second);
+    if answer == Answer::of(1) {
+        check_shown(implementation, &first, &second)?;
+    } else if answer.code != SHORT_BUFFER {
+        let rows = first.row.iter().chain(&second.row);
+        let is_zero = rows.copied().all(|cell| cell == 0)
+            && first.renumbering.iter().all(|&number| number == 0);
+        holds(is_zero, "something is left where they are not the same")?;
+    }
+    let [mut second, mut first] = molecules.clone();
+    let back = implementation.same(&mut first, &mut second);
+    // the renumbering is the first one's: another may be short
+    let is_short = [answer.code, back.code].contains(&SHORT_BUFFER);
+    holds(
+        is_short || back == answer,
+        "the other way round it is not so",
+    )?;
+    check_like_itself(implementation, &molecules[0])
+}
+
+/// The rows are matchings, by which both molecules become the same one under the renumbering.
+fn check_shown(
+    implementation: &dyn Implementation,
+    first: &Buffers,
+    second: &Buffers,
+) -> Result<(), String> {
+    for molecule in [first, second] {
+        let is_matching = implementation.is_matching(&mut molecule.clone());
+        holds(is_matching == Answer::of(1), "a row is no matching")?;
+    }
+    let numbers = &first.renumbering[..first.counts.atoms];
+    let cells = |molecule: &Buffers, atom: usize| {
+        let mut cells = molecule.atoms[ATOM_CELLS * atom..ATOM_CELLS * (atom + 1)].to_vec();
+        cells[1] = 0;
+        cells[MARK] = 0;
+        cells
+    };
+    let mut atoms = numbers
+        .iter()
+        .map(|&number| usize::from(number))
+        .enumerate();
+    let has_cells = atoms.all(|(atom, number)| cells(first, atom) == cells(second, number));
+    holds(has_cells, "atoms do not match")?;
+    let identity: Vec<u16> = (0..second.counts.atoms as u16).collect();
+    holds(
+        bonds_by_order(first, numbers) == bonds_by_order(second, &identity),
+        "bonds do not match",
+    )
+}
+
+/// The ends and orders of the bonds after kekulizing by the row, renumbered and in order.
+fn bonds_by_order(molecule: &Buffers, numbers: &[u16]) -> Vec<[i32; BOND_CELLS]> {
+    let bonds = molecule.bonds.chunks_exact(BOND_CELLS).zip(&molecule.row);
+    let moved = |(cells, &chosen): (&[i32], &u8)| {
+        let [one, other] = [cells[0], cells[1]].map(|end| i32::from(numbers[end as usize]));
+        let order = match cells[2] {
+            _ if chosen == 1 => 2,
+            2 | 3 => cells[2],
+            _ => 1,
+        };
+        [one.min(other), one.max(other), order]
+    };
+    let mut moved: Vec<_> = bonds.take(molecule.counts.bonds).map(moved).collect();
+    moved.sort_unstable();
+    moved
+}
+
+/// A molecule is the same as itself exactly if it has a matching, unless it is refused.
+fn check_like_itself(
+    implementation: &dyn Implementation,
+    molecule: &Buffers,
+) -> Result<(), String> {
+    let answer = implementation.same(&mut molecule.clone(), &mut molecule.clone());
+    let matching = implementation.first(&mut molecule.clone());
+    let is_right =
+        !answer.is_accepted() || answer == Answer::of(usize::from(matching.is_accepted()));
+    holds(
+        is_right,
+        "a molecule is like itself exactly if it has a matching",
+    )
+}
+
 /// A written text, read back, has every atom and every bond under the renumbering, and written again
 /// it has the same bytes; or it has no matching, and neither has the molecule.
 fn check_read_back(

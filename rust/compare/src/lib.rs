@@ -5,6 +5,8 @@
 //! program `compare`.
 
 pub mod buffers;
+pub mod corpus;
+pub mod drawings;
 pub mod implementation;
 pub mod laws;
 pub mod limits;

@@ -142,3 +142,28 @@ pub fn compare_tables(
 ) -> Result<(), Difference> {
     Pair::new(one, other, buffers).calls_on_tables()
 }
+
+/// Compares two implementations on two molecules that may be the same compound; gives their answer.
+pub fn compare_same(
+    one: &dyn Implementation,
+    other: &dyn Implementation,
+    molecules: &[Buffers; 2],
+) -> Result<Answer, Difference> {
+    let run = |implementation: &dyn Implementation| {
+        let [mut first, mut second] = molecules.clone();
+        (
+            implementation.same(&mut first, &mut second),
+            [first, second],
+        )
+    };
+    let ((answer, left), (answer2, left2)) = (run(one), run(other));
+    if answer == answer2 && left == left2 {
+        return Ok(answer);
+    }
+    let differing = [0, 1].map(|place| different(&left[place], &left2[place]));
+    Err(Difference {
+        call: "same",
+        answers: [answer, answer2],
+        buffers: differing.concat(),
+    })
+}

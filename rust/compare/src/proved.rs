@@ -2,7 +2,7 @@
 
 use crate::buffers::Buffers;
 use crate::implementation::{Answer, Implementation};
-use balsa::tables::{self, Counts, Read, Step};
+use balsa::tables::{self, Counts, Read, Step, Tables};
 use balsa::{Code, Refusal};
 
 /// The proved library, through its Rust crate.
@@ -113,6 +113,22 @@ impl Implementation for Proved {
         let counts = counts(buffers);
         let told = tables::sides(&buffers.atoms, &buffers.bonds, counts, &mut buffers.row);
         answer(told, |()| Answer::default())
+    }
+
+    fn same(&self, first: &mut Buffers, second: &mut Buffers) -> Answer {
+        let one = Tables {
+            atoms: &first.atoms,
+            bonds: &first.bonds,
+            counts: counts(first),
+        };
+        let other = Tables {
+            atoms: &second.atoms,
+            bonds: &second.bonds,
+            counts: counts(second),
+        };
+        let (row1, row2) = (&mut first.row, &mut second.row);
+        let told = tables::same(one, other, row1, row2, &mut first.renumbering);
+        answer(told, |is_same| Answer::of(usize::from(is_same)))
     }
 
     fn write(&self, buffers: &mut Buffers) -> Answer {

@@ -5,9 +5,9 @@ use compare::buffers::Buffers;
 use compare::implementation::{Answer, Implementation, Reference};
 use compare::laws;
 use compare::molecules::{self, Effort};
-use compare::pair::{compare_tables, compare_text};
+use compare::pair::{compare_same, compare_tables, compare_text};
 use compare::random::Random;
-use compare::{spelling, texts};
+use compare::{drawings, spelling, texts};
 use std::collections::BTreeSet;
 
 #[test]
@@ -281,6 +281,33 @@ impl Implementation for Faulty {
         answer
     }
 
+    fn same(&self, first: &mut Buffers, second: &mut Buffers) -> Answer {
+        let answer = Reference.same(first, second);
+        if self.has("19 as no") && answer.code == 19 {
+            return Answer::of(0);
+        }
+        if self.has("another renumbering") && answer == Answer::of(1) && first.counts.atoms > 1 {
+            first.renumbering.swap(0, 1);
+        }
+        if self.has("row left at no") && answer == Answer::of(0) {
+            first.row[0] = 1;
+        }
+        if self.has("marks compared") && answer == Answer::of(1) && !have_equal_marks(first, second)
+        {
+            return Answer::of(0);
+        }
+        if self.has("yes to all") && answer.is_accepted() {
+            return Answer::of(1);
+        }
+        if self.has("no to all") && answer.is_accepted() {
+            first.row.fill(0);
+            second.row.fill(0);
+            first.renumbering.fill(0);
+            return Answer::of(0);
+        }
+        answer
+    }
+
     fn write(&self, buffers: &mut Buffers) -> Answer {
         let answer = Reference.write(buffers);
         if self.has("15 before 14") && answer.code == 14 {
@@ -302,6 +329,16 @@ fn put_hydrogens_last(buffers: &mut Buffers, atoms: usize) {
     }
 }
 
+/// Whether each atom has the tetrahedral mark of its image.
+fn have_equal_marks(first: &Buffers, second: &Buffers) -> bool {
+    let mark = |buffers: &Buffers, atom: usize| buffers.atoms[ATOM_CELLS * atom + 6];
+    let atoms = 0..first.counts.atoms;
+    let image = |atom: usize| usize::from(first.renumbering[atom]);
+    atoms
+        .into_iter()
+        .all(|atom| mark(first, atom) == mark(second, image(atom)))
+}
+
 /// The number of cases in which a fault is seen by the comparison and by the laws.
 fn seen(fault: &'static str) -> (usize, usize) {
     let faulty = Faulty { fault };
@@ -316,6 +353,50 @@ fn seen(fault: &'static str) -> (usize, usize) {
         broken_laws += usize::from(laws::check(&faulty, &buffers).is_err());
     }
     (differences, broken_laws)
+}
+
+/// The number of pairs of molecules in which a fault is seen by the comparison and by the laws.
+fn seen_in_pairs(fault: &'static str) -> (usize, usize) {
+    let faulty = Faulty { fault };
+    let mut random = Random::new(13);
+    let (mut differences, mut broken_laws) = (0, 0);
+    for _ in 0..400 {
+        let pair = drawings::pair(&mut random, Effort::Plain);
+        let pair = pair.map(|molecule| Buffers::holding(&mut random, &molecule));
+        differences += usize::from(compare_same(&Reference, &faulty, &pair).is_err());
+        broken_laws += usize::from(laws::check_same(&faulty, &pair).is_err());
+    }
+    (differences, broken_laws)
+}
+
+#[test]
+fn faults_in_pairs_are_seen() {
+    assert_eq!(seen_in_pairs("none"), (0, 0));
+    assert!(seen_in_pairs("19 as no").0 > 0);
+    for fault in [
+        "another renumbering",
+        "row left at no",
+        "marks compared",
+        "yes to all",
+        "no to all",
+    ] {
+        let (differences, broken_laws) = seen_in_pairs(fault);
+        assert!(differences > 0 && broken_laws > 0, "{fault}");
+    }
+}
+
+#[test]
+fn the_pairs_reach_every_answer() {
+    let mut random = Random::new(2);
+    let mut answers = BTreeSet::new();
+    for _ in 0..2000 {
+        let pair = drawings::pair(&mut random, Effort::Hard);
+        let [mut first, mut second] = pair.map(|molecule| Buffers::holding(&mut random, &molecule));
+        let answer = Reference.same(&mut first, &mut second);
+        answers.insert((answer.code, answer.numbers[0]));
+    }
+    let expected = [(0, 0), (0, 1), (1, 0), (13, 0), (19, 0)];
+    assert_eq!(answers, BTreeSet::from(expected));
 }
 
 #[test]

@@ -1,7 +1,7 @@
 //! A reader, writer and kekulizer of Balsa texts, written from the paper alone.
 //!
 //! It is the second program to which the proved one is compared, and the baseline of the
-//! benchmark. [`read`], [`first`], [`next`], [`kekulize`] and [`write`] work on a [`Molecule`];
+//! benchmark. [`read`], [`first`], [`next`], [`kekulize`], [`same`] and [`write`] work on a [`Molecule`];
 //! [`tables`] holds the same calls on tables of `i32`, with the paper's rules for short buffers
 //! and for what a refusal leaves behind. [`register`] holds the calls on a register.
 
@@ -12,9 +12,11 @@ mod forced;
 mod matching;
 mod molecule;
 mod read;
+mod redrawing;
 mod refusal;
 pub mod register;
 mod report;
+mod same;
 mod search;
 pub mod tables;
 mod tetrahedral;
@@ -29,6 +31,7 @@ pub use molecule::{Atom, Bond, Kind, Molecule, Neighbour, Neighbours};
 pub use read::{read, reading, Reading};
 pub use refusal::{Code, Refusal};
 pub use report::{report, report_line, Accepted};
+pub use same::{same, same_by_search, same_by_trying, shows, Sameness};
 pub use tetrahedral::Mark;
 pub use valence::{delocalized, implied_hydrogens, is_shorthand, reached, Reached};
 pub use write::{write, Written};
@@ -43,6 +46,8 @@ pub const MAX_BONDS: usize = 1100;
 pub const MAX_BRANCHES: usize = 64;
 /// The highest bridge number, and so the most bridges open at once.
 pub const MAX_BRIDGES: usize = 99;
+/// The most atoms of a molecule that is compared with another.
+pub const MAX_COMPARED: usize = 64;
 /// The cells of an atom's row in a table.
 pub const ATOM_CELLS: usize = 7;
 /// The cells of a bond's row in a table.

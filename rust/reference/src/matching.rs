@@ -82,9 +82,13 @@ pub fn has_matching(molecule: &Molecule) -> bool {
 /// The first matching, if there is one.
 pub fn first(molecule: &Molecule) -> Option<Vec<u8>> {
     let subgraph = Subgraph::of(molecule);
-    let graph = &subgraph.graph;
-    let matching = either(search::first(graph, STEPS), || blossom::first(graph))?;
+    let matching = first_of(&subgraph.graph)?;
     Some(subgraph.row(molecule, &matching))
+}
+
+/// The edges of the first perfect matching of a graph, if there is one.
+pub(crate) fn first_of(graph: &Graph) -> Option<Vec<usize>> {
+    either(search::first(graph, STEPS), || blossom::first(graph))
 }
 
 /// The matching after a row that is a matching, `Some(None)` after the last one, and `None` if

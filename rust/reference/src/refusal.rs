@@ -40,6 +40,8 @@ pub enum Code {
     InvalidRegister = 17,
     /// The register has no room for the body.
     RegisterFull = 18,
+    /// A molecule has more atoms than are compared.
+    TooLarge = 19,
     /// Two marked neighbours of an end of a double bond lie on the same side.
     CrowdedEnd = 20,
     /// A mark touches no double bond.

@@ -217,6 +217,30 @@ pub fn sides(tables: Tables, row: &mut [u8]) -> Result<(), Code> {
     sides.map(|_| ())
 }
 
+/// Whether two molecules are the same compound, drawn differently: the row of each and the
+/// renumbering from the first to the second are stored, or filled with 0.
+pub fn same(
+    one: Tables,
+    other: Tables,
+    row1: &mut [u8],
+    row2: &mut [u8],
+    renumbering: &mut [u16],
+) -> Result<bool, Code> {
+    let is_short = one.is_short() || other.is_short();
+    if is_short || row1.len().min(row2.len()) < ROW || renumbering.len() < RENUMBERING {
+        return Err(Code::ShortBuffer);
+    }
+    let answer = molecule(one).and_then(|one| crate::same(&one, &molecule(other)?));
+    let sameness = answer.as_ref().ok().and_then(Option::as_ref);
+    store(row1, sameness.map_or(&[], |sameness| &sameness.row1));
+    store(row2, sameness.map_or(&[], |sameness| &sameness.row2));
+    store(
+        renumbering,
+        sameness.map_or(&[], |sameness| &sameness.renumbering),
+    );
+    answer.map(|sameness| sameness.is_some())
+}
+
 /// Writes a molecule: its text and each atom's number in the text. Gives the text's length.
 pub fn write(tables: Tables, text: &mut [u8], renumbering: &mut [u16]) -> Result<usize, Code> {
     if tables.is_short() || text.len() < TEXT || renumbering.len() < RENUMBERING {

@@ -5,16 +5,18 @@ mod kekulize;
 mod matchings;
 mod register;
 mod report;
+mod same;
 mod sides;
 
 use crate::arguments::{Arguments, Opt, HELP};
 use crate::failure::{Failure, Verdict};
 
-pub static COMMANDS: [&Command; 6] = [
+pub static COMMANDS: [&Command; 7] = [
     &check::COMMAND,
     &kekulize::COMMAND,
     &matchings::COMMAND,
     &sides::COMMAND,
+    &same::COMMAND,
     &report::COMMAND,
     &register::COMMAND,
 ];

@@ -1,13 +1,13 @@
-//! Makes the calls of every implementation on random texts and tables, checks the laws of the
-//! paper on each, and compares each with the reference.
+//! Makes the calls of every implementation on random texts, tables and pairs of molecules, checks the
+//! laws of the paper on each, and compares each with the reference.
 
 use compare::buffers::Buffers;
 use compare::implementation::{Implementation, Reference};
 use compare::molecules::Effort;
-use compare::pair::{compare_tables, compare_text};
+use compare::pair::{compare_same, compare_tables, compare_text};
 use compare::proved::Proved;
 use compare::random::Random;
-use compare::{laws, texts};
+use compare::{drawings, laws, texts};
 use std::process::ExitCode;
 
 /// The implementations that are compared with the reference.
@@ -42,12 +42,14 @@ fn usage() -> ExitCode {
     ExitCode::FAILURE
 }
 
-/// Runs one case: a text and tables.
+/// Runs one case: a text, tables and two molecules.
 fn run(seed: u64, case: u64, effort: Effort) -> bool {
     let mut random = Random::new(seed.wrapping_mul(1 << 32).wrapping_add(case));
     let text = texts::text(&mut random, effort);
     let dirty = Buffers::dirty(&mut random);
     let buffers = Buffers::random(&mut random, effort);
+    let pair = drawings::pair(&mut random, effort);
+    let pair = pair.map(|molecule| Buffers::holding(&mut random, &molecule));
     let mut is_right = true;
     let mut tell = |what: &str, name: &str, message: String| {
         println!("case {case}: {what}: {name}: {message}");
@@ -73,6 +75,12 @@ fn run(seed: u64, case: u64, effort: Effort) -> bool {
                 other.name(),
                 format!("{difference:?}\n{buffers:?}"),
             );
+        }
+        if let Err(message) = laws::check_same(other, &pair) {
+            tell("pair", other.name(), format!("{message}\n{pair:?}"));
+        }
+        if let Err(difference) = compare_same(&Reference, other, &pair) {
+            tell("pair", other.name(), format!("{difference:?}\n{pair:?}"));
         }
     }
     is_right
