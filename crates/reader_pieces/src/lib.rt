@@ -1,5 +1,6 @@
 // Reading a text in pieces: start, feed, end.
 ghost use mathlib.Core.Path.{_≡_};
+ghost use Rattle.loops.specs.Loop.{pick};
 ghost use Rattle.reading_pieces.specs.Calls.{startOf, fedOf, endOf};
 ghost use Rattle.reader_pieces.specs.Answer.{fedIs, guardCode};
 use crate::answer::blank;
@@ -41,6 +42,16 @@ pub fn start(atoms: &mut [i32], bonds: &mut [i32]) -> Fed
     refuse(0, 0, blank(0, 0), atoms, bonds)
 }
 
+// A code where a test holds, else another.
+fn code_if(test: bool, code: u8, other: u8) -> u8
+    ensures { λ r. ⌜ r ≡ pick test code other ⌝ }
+{
+    if test {
+        return code;
+    }
+    other
+}
+
 // 1, 25 or 24, or 0 where a call goes on.
 fn guard(p: Paused, atoms: &[i32], bonds: &[i32]) -> u8
     ensures { λ r. ⌜ r ≡ guardCode p (now (atoms .entry)) (now (bonds .entry)) ⌝ }
@@ -48,13 +59,9 @@ fn guard(p: Paused, atoms: &[i32], bonds: &[i32]) -> u8
     if !table_validity::enough(atoms, bonds) {
         return 1;
     }
-    if broken(p, atoms, bonds) {
-        return BROKEN;
-    }
-    if p.told == ENDED {
-        return ENDED;
-    }
-    0
+    let astray = broken(p, atoms, bonds);
+    let over = p.told == ENDED;
+    code_if(astray, BROKEN, code_if(over, ENDED, 0))
 }
 
 // Reads a piece: 0, or the refusal of a byte with its offset, which every later piece repeats. 1, 25 and 24 change nothing; every other refusal zeroes both tables.

@@ -163,10 +163,11 @@ pub fn run(p: Paused, piece: &[u8], atoms: &mut [i32], bonds: &mut [i32]) -> Fed
         Byte::Taken(h) => {
             let m = h.mode;
             let f = h.draft;
+            let read = from + piece.len();
             let state = Paused {
                 told: 0,
                 place: 0,
-                read: (from + piece.len()) as u16,
+                read: read as u16,
                 mode: mode_number(m),
                 letter: mode_letter(m),
                 pending: pending_number(h.pending),

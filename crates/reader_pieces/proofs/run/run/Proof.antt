@@ -29,8 +29,8 @@ read-piece-requires c κs = let s = c .before .before .before .before .before .b
 enum-known-h : tie.Need-enum-known-h
 enum-known-h c = search needs
 
-add-t36 : tie.Need-add-t36
-add-t36 c = let s = c .before .before .before .before .before .before .before .before .before .before .before .before .before .before .before .before .before .before .before .before .before .before .before .before .before .before .before .before in let a = s .args in omega (arith, run-short (a .p) (now (a .piece)) (now (a .atoms)) (now (a .bonds)) (c .before .before .before .before .before .before .before .before .before .before .before .before .before .before .before .head-of .result) (c .before .before .before .before .before .before .before .before .before .before .before .before .before .before .before .before .before .before .before .before .before .cap-offsets .last .0) (c .before .before .before .before .before .before .before .before .before .before .before .before .before .before .before .before .before .cap-keys .last .0) (c .before .before .before .before .before .before .before .before .before .before .before .before .before .before .before .head-of .ensures) (c .before .before .before .before .before .before .before .before .before .before .before .before .before .before .before .before .before .before .before .before .before .cap-offsets .ensures) (c .before .before .before .before .before .before .before .before .before .before .before .before .before .before .before .before .before .cap-keys .ensures) (c .before .before .before .before .before .before .read-piece .result) (lent (c .before .before .before .before .before .before .read-piece .last .1 .1 .1 .0) (c .before .before .before .before .before .before .read-piece .last .1 .1 .1 .1 .0) (c .before .before .before .before .before .before .read-piece .last .1 .1 .1 .1 .1 .0) (c .before .before .before .before .before .before .read-piece .last .1 .1 .1 .1 .1 .1 .0) (c .before .before .before .before .before .before .read-piece .last .1 .1 .1 .1 .1 .1 .1 .0) (c .before .before .before .before .before .before .read-piece .last .1 .1 .1 .1 .1 .1 .1 .1 .0) (c .before .before .before .before .before .before .read-piece .last .1 .1 .1 .1 .1 .1 .1 .1 .1 .0) (c .before .before .before .before .before .before .read-piece .last .1 .1 .1 .1 .1 .1 .1 .1 .1 .1 .0)) (c .before .before .before .before .before .before .read-piece .ensures) (c .before .before .h .given .0 .0) (c .before .before .h .given .1))
+add-read : tie.Need-add-read
+add-read c = let s = c .before .before .before .before .before .before .before .before .before .before .before .before .before .before .before .before .before .before .before .before .before .before .before .before .before .before .before .before in let a = s .args in omega (arith, run-short (a .p) (now (a .piece)) (now (a .atoms)) (now (a .bonds)) (c .before .before .before .before .before .before .before .before .before .before .before .before .before .before .before .head-of .result) (c .before .before .before .before .before .before .before .before .before .before .before .before .before .before .before .before .before .before .before .before .before .cap-offsets .last .0) (c .before .before .before .before .before .before .before .before .before .before .before .before .before .before .before .before .before .cap-keys .last .0) (c .before .before .before .before .before .before .before .before .before .before .before .before .before .before .before .head-of .ensures) (c .before .before .before .before .before .before .before .before .before .before .before .before .before .before .before .before .before .before .before .before .before .cap-offsets .ensures) (c .before .before .before .before .before .before .before .before .before .before .before .before .before .before .before .before .before .cap-keys .ensures) (c .before .before .before .before .before .before .read-piece .result) (lent (c .before .before .before .before .before .before .read-piece .last .1 .1 .1 .0) (c .before .before .before .before .before .before .read-piece .last .1 .1 .1 .1 .0) (c .before .before .before .before .before .before .read-piece .last .1 .1 .1 .1 .1 .0) (c .before .before .before .before .before .before .read-piece .last .1 .1 .1 .1 .1 .1 .0) (c .before .before .before .before .before .before .read-piece .last .1 .1 .1 .1 .1 .1 .1 .0) (c .before .before .before .before .before .before .read-piece .last .1 .1 .1 .1 .1 .1 .1 .1 .0) (c .before .before .before .before .before .before .read-piece .last .1 .1 .1 .1 .1 .1 .1 .1 .1 .0) (c .before .before .before .before .before .before .read-piece .last .1 .1 .1 .1 .1 .1 .1 .1 .1 .1 .0)) (c .before .before .before .before .before .before .read-piece .ensures) (c .before .before .h .given .0 .0) (c .before .before .h .given .1))
 
 cast-t37 : tie.Need-cast-t37
 cast-t37 c = let s = c .before .before .before .before .before .before .before .before .before .before .before .before .before .before .before .before .before .before .before .before .before .before .before .before .before .before .before .before in let a = s .args in omega (arith, run-short (a .p) (now (a .piece)) (now (a .atoms)) (now (a .bonds)) (c .before .before .before .before .before .before .before .before .before .before .before .before .before .before .before .head-of .result) (c .before .before .before .before .before .before .before .before .before .before .before .before .before .before .before .before .before .before .before .before .before .cap-offsets .last .0) (c .before .before .before .before .before .before .before .before .before .before .before .before .before .before .before .before .before .cap-keys .last .0) (c .before .before .before .before .before .before .before .before .before .before .before .before .before .before .before .head-of .ensures) (c .before .before .before .before .before .before .before .before .before .before .before .before .before .before .before .before .before .before .before .before .before .cap-offsets .ensures) (c .before .before .before .before .before .before .before .before .before .before .before .before .before .before .before .before .before .cap-keys .ensures) (c .before .before .before .before .before .before .read-piece .result) (lent (c .before .before .before .before .before .before .read-piece .last .1 .1 .1 .0) (c .before .before .before .before .before .before .read-piece .last .1 .1 .1 .1 .0) (c .before .before .before .before .before .before .read-piece .last .1 .1 .1 .1 .1 .0) (c .before .before .before .before .before .before .read-piece .last .1 .1 .1 .1 .1 .1 .0) (c .before .before .before .before .before .before .read-piece .last .1 .1 .1 .1 .1 .1 .1 .0) (c .before .before .before .before .before .before .read-piece .last .1 .1 .1 .1 .1 .1 .1 .1 .0) (c .before .before .before .before .before .before .read-piece .last .1 .1 .1 .1 .1 .1 .1 .1 .1 .0) (c .before .before .before .before .before .before .read-piece .last .1 .1 .1 .1 .1 .1 .1 .1 .1 .1 .0)) (c .before .before .before .before .before .before .read-piece .ensures) (c .before .before .h .given .0 .0) (c .before .before .h .given .1))
@@ -102,7 +102,7 @@ run-spec =
     head-of-requires
     read-piece-requires
     enum-known-h
-    add-t36
+    add-read
     cast-t37
     mode-number-requires
     mode-letter-requires
