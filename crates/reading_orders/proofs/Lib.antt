@@ -1,1 +1,4 @@
 pub mod Swaps
+pub mod Rising
+pub mod Told
+pub mod Orders
