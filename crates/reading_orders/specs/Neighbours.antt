@@ -2,11 +2,15 @@
 use Prim.Native.Nat.{ℕ, suc}
 use mathlib.Core.Bool.{Bool, _&&_, not}
 use mathlib.Core.List.{List, [], _∷_, _++_, map}
+use mathlib.Core.Path.{_≡_}
 use lib.IntN.{ℤ}
 use lib.Dec.{eqb, leb}
 use Rattle.loops.specs.Loop.{pick}
-use Rattle.table.specs.Cells.{hydrogens, end1, end2}
+use Rattle.parity.specs.Parity.{Swaps, oddNumber}
+use Rattle.parity.specs.Mark.{markIf}
+use Rattle.table.specs.Cells.{hydrogens, mark, end1, end2}
 use Rattle.table.specs.Orders.{bondsAt, atEnd}
+use Rattle.reading.specs.Read.{ReadResult}
 
 -- a neighbour is a number: b + 1 along the bond b, and 0 for the virtual hydrogen, which an atom has if its hydrogens are exactly one
 abbrev pub along : List ℕ → List ℕ
@@ -49,3 +53,11 @@ module _ (keys : List ℕ) (bonds : List ℤ) (m a : ℕ) where
 -- "In text the neighbours are ordered: the preceding atom, the virtual hydrogen, bridges as their digits stand in the text at this atom, then children; with no preceding atom the hydrogen is first"
 unfoldable pub textOrder : List ℕ → List ℤ → List ℤ → ℕ → ℕ → List ℕ
 textOrder keys atoms bonds m a = along (preceding keys bonds m a) ++ (hydrogen atoms a ++ (along (bridgesHere keys bonds m a) ++ along (children keys bonds m a)))
+
+-- "so reading turns it when the two orders differ by an odd number of swaps": at the atom a of an accepted text, k being the mark that was read
+pub record TurnedBySwaps (keys : List ℕ) (t : ReadResult) (a k : ℕ) : Type 0 where
+  -- some number of swaps leads from one order to the other
+  pub some : ℕ
+  pub lead : Swaps (storedOrder (t .atoms) (t .bonds) (t .bondCount) a) (textOrder keys (t .atoms) (t .bonds) (t .bondCount) a) some
+  -- and the mark is turned exactly if such a number is odd, whichever
+  pub stored : (n : ℕ) → Swaps (storedOrder (t .atoms) (t .bonds) (t .bondCount) a) (textOrder keys (t .atoms) (t .bonds) (t .bondCount) a) n → mark (t .atoms) a ≡ markIf (oddNumber n) k
