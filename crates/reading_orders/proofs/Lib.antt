@@ -5,3 +5,4 @@ pub mod Orders
 pub mod Digits
 pub mod Steps
 pub mod Claims
+mod Examples
