@@ -2,7 +2,7 @@
 use Prim.Native.Nat.{ℕ, _+_, _*_, _<_}
 use native.Mathlib.Omega.{arith}
 use native.Mathlib.Decide.{ℕ-discrete}
-use mathlib.Core.Path.{_≡_, refl, sym, ap, subst, _∙_}
+use mathlib.Core.Path.{_≡_, sym, ap, subst, _∙_}
 use mathlib.Core.Bool.{Bool, true, false}
 use mathlib.Core.List.{List}
 use lib.ListN.{length, getD}
@@ -17,12 +17,12 @@ use Rattle.table.specs.Orders.{turns}
 use Rattle.ids.specs.Limits.{bridges}
 use Rattle.reading_grammar.specs.declared.MachineState.{MachineState}
 use Rattle.reading_grammar.specs.declared.MachineState.the-variants.{Start as start}
-use Rattle.reading_grammar.specs.Fold.{Reading, going, halted}
+use Rattle.reading_grammar.specs.Fold.{going}
 use Rattle.reading_state.specs.State.{keyCount, started}
 use Rattle.reading.specs.Memory.{Memory}
 use Rattle.reading.specs.Read.{ReadResult, zeros, beginning, textRank, readOf}
 use Rattle.reading.specs.Conditions.{bytesRead, Fits}
-use Rattle.reading.specs.Claims.{storedMark, Given, Accepted}
+use Rattle.reading.specs.Claims.{Accepted}
 use Rattle.reading.proofs.Steering.{replicate-0}
 use Rattle.reading.proofs.Step.{sane-beginning}
 use Rattle.reading.proofs.Accepted.{read-sane, read-accepted}

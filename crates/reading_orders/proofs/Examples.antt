@@ -4,13 +4,13 @@ use mathlib.Core.List.{List, [], _∷_, map}
 use Prim.Native.Nat.{ℕ, _*_}
 use lib.IntN.{pos}
 use lib.ListN.{replicate}
-use Rattle.kinds.specs.Kind.{order, symbolKind, bondSymbol, markOf, turned}
-use Rattle.loops.specs.Loop.{each, howMany, run, upTo}
+use Rattle.kinds.specs.Kind.{order, symbolKind, turned}
+use Rattle.loops.specs.Loop.{each, run}
 use Rattle.element.specs.Symbols.{among, listed, starts, sameBytes, symbols, letters, marks}
-use Rattle.element.specs.Lookup.{indexFrom, numberOf, selectedOf, letterOf, bare, bytesOf, selectedBytes}
-use Rattle.valence.specs.Valence.{targets, firstTarget, firstFitting, reachedIn, hydrogensOf, shiftedTarget, delocalized}
+use Rattle.element.specs.Lookup.{indexFrom, numberOf, selectedOf, letterOf}
+use Rattle.valence.specs.Valence.{targets, firstTarget, firstFitting, reachedIn, hydrogensOf}
 use Rattle.reading_grammar.specs.Grammar.{nonzero, digits, several, bondSymbols, signs}
-use Rattle.reading_grammar.specs.Machine.{step, next, accepting, resting, atomOr, bridgeOr, closing, extending, charging, hydrating, marking, symbolOr}
+use Rattle.reading_grammar.specs.Machine.{step, next, atomOr, bridgeOr, closing, extending, charging, hydrating, marking, symbolOr}
 use Rattle.reading_grammar.specs.Fold.{Reading, going, halted, feed, read}
 use Rattle.parity.specs.Parity.{oddly, oddPairs, odd}
 use Rattle.table.specs.Limits.{maxAtoms, maxBonds, atomCells, bondCells}
@@ -45,5 +45,5 @@ text-orders : map ordersOf (
     ((1 ∷ 2 ∷ 3 ∷ 4 ∷ []) ∷ (1 ∷ 4 ∷ 2 ∷ 3 ∷ []) ∷ []) ∷  -- F[C@](Cl)1Br.I1: two swaps
     ((0 ∷ 1 ∷ 2 ∷ 3 ∷ []) ∷ (0 ∷ 1 ∷ 2 ∷ 3 ∷ []) ∷ []) ∷  -- F.[C@H](Cl)(Br)I: none
     [])
-unfolding each howMany run upTo among listed starts sameBytes symbols letters marks indexFrom numberOf selectedOf letterOf bare bytesOf selectedBytes order bondSymbol markOf turned targets firstTarget firstFitting reachedIn hydrogensOf shiftedTarget delocalized nonzero digits several bondSymbols signs step next accepting resting atomOr bridgeOr closing extending charging hydrating marking symbolOr feed read number withAtom withBond touches share bondSum started opened closed joined symbolKind begun joins joinedAlready closeRefusal symbolled atomAct bridgeAct branchAct modeAct act hydrogenated bondsFrom bondsAt turns turnedMark turnMarks textRank oddly oddPairs odd storedOrder those insert sorted preceding bridgesHere children textOrder
+unfolding each run among listed starts sameBytes symbols letters marks indexFrom numberOf selectedOf letterOf order turned targets firstTarget firstFitting reachedIn hydrogensOf nonzero digits several bondSymbols signs step next atomOr bridgeOr closing extending charging hydrating marking symbolOr feed read number withAtom withBond touches share bondSum started opened closed joined symbolKind begun joins joinedAlready closeRefusal symbolled atomAct bridgeAct branchAct modeAct act hydrogenated bondsFrom bondsAt turns turnedMark turnMarks textRank oddly oddPairs odd storedOrder those insert sorted preceding bridgesHere children textOrder
 text-orders = refl

@@ -1,7 +1,6 @@
 -- The order of the text lists the same neighbours as the stored one, by ascending ranks. Assumes nothing.
 use Prim.Native.Nat.{ℕ, zero, suc, _+_, _≤_, _<_}
 use native.Mathlib.Omega.{arith}
-use native.Mathlib.Nat.{add-zero}
 use mathlib.Core.Path.{_≡_, refl, sym, ap, subst, _∙_}
 use mathlib.Core.Bool.{Bool, true, false, _&&_, _||_, not, true≢false}
 use mathlib.Core.List.{List, [], _∷_, _++_, map}
@@ -17,7 +16,7 @@ use Rattle.table.specs.Cells.{hydrogens, end1, end2, touches}
 use Rattle.table.specs.Orders.{bondsFrom, bondsAt, ranksAt, turns, atEnd}
 use Rattle.table.proofs.Orders.{turns-swaps}
 use Rattle.reading.proofs.Cases.{by-test}
-use Rattle.reading.specs.Read.{rankBy, textRank}
+use Rattle.reading.specs.Read.{textRank}
 use Rattle.reading_orders.specs.Neighbours.{along, hydrogen, storedOrder, those, insert, sorted, preceding, bridgesHere, children, textOrder}
 use Rattle.reading_orders.proofs.Swaps.{swaps-map}
 use Rattle.reading_orders.proofs.Rising.{Climbs, Under, AtLeast, climbs-lower, climbs-on, climbs-ascending, ascending-unlike, perm-both, perm-past, perm-around, map-both}
@@ -168,10 +167,10 @@ module _ {keys : List ℕ} {bonds : List ℤ} {m : ℕ} (w : Told keys bonds m) 
   none-preceding c low (b ∷ l) h e f =
       by-test (λ (r : List ℕ). r ≡ []) (isPreceding b) _ _
       (λ g.
-          let p = eqb-true (end2 bonds c) a (and-right (eqb (key c) 0) (eqb (end2 bonds c) a) e) in
-          let q = eqb-true (end2 bonds b) a (and-right (eqb (key b) 0) (eqb (end2 bonds b) a) g) in
-          let z = eqb-true (key b) 0 (and-left (eqb (key b) 0) (eqb (end2 bonds b) a) g) in
-          absurd (omega (arith, w .later a c b (omega (arith, f .0)) (f .1) z)))
+      let p = eqb-true (end2 bonds c) a (and-right (eqb (key c) 0) (eqb (end2 bonds c) a) e) in
+      let q = eqb-true (end2 bonds b) a (and-right (eqb (key b) 0) (eqb (end2 bonds b) a) g) in
+      let z = eqb-true (key b) 0 (and-left (eqb (key b) 0) (eqb (end2 bonds b) a) g) in
+      absurd (omega (arith, w .later a c b (omega (arith, f .0)) (f .1) z)))
       (λ g. none-preceding c (suc b) l (omega (arith, f .0)) e (f .3))
 
   preceding-ranks : (low : ℕ) (l : List ℕ) → Found low l → Climbs rank 0 (those isPreceding l) × Under rank 1 (those isPreceding l)
@@ -223,11 +222,10 @@ module _ {keys : List ℕ} {bonds : List ℤ} {m : ℕ} (w : Told keys bonds m) 
   child-ranks low least (b ∷ l) h f =
       by-test (Climbs rank least) (isChild b) _ _
       (λ e.
-          let q = rank-child b (f .1) e in
-          (
-            omega (arith, h b (f .0) (f .1) e),
-            child-ranks (suc b) (suc (rank b)) l (λ c u v g. omega (arith, w .later a b c (omega arith) v (eqb-true (key c) 0 (and-left (eqb (key c) 0) (eqb (end1 bonds c) a) g)))) (f .3),
-          ))
+      let q = rank-child b (f .1) e in (
+        omega (arith, h b (f .0) (f .1) e),
+        child-ranks (suc b) (suc (rank b)) l (λ c u v g. omega (arith, w .later a b c (omega arith) v (eqb-true (key c) 0 (and-left (eqb (key c) 0) (eqb (end1 bonds c) a) g)))) (f .3),
+      ))
       (λ e. child-ranks (suc b) least l (λ c u v g. h c (omega (arith, f .0)) v g) (f .3))
 
   -- ---- the two orders

@@ -2,14 +2,12 @@
 use Prim.Native.Nat.{ℕ, zero, suc, _+_, _*_, _-_, _≤_, _<_}
 use native.Mathlib.Omega.{arith}
 use native.Mathlib.Nat.{add-zero}
-use mathlib.Core.Path.{_≡_, refl, sym, ap, subst, _∙_}
+use mathlib.Core.Path.{_≡_, refl}
 use mathlib.Core.Bool.{Bool, true, false, _&&_}
 use mathlib.Core.List.{List, [], _∷_}
-use lib.ListN.{length, getD, set, length-set}
-use lib.Seq.{getD-set-same, getD-set-other}
-use lib.IntN.{ℤ}
-use lib.Dec.{eqb, leb, ltb}
-use borrow.Author.Tests.{eqb-false, leb-false}
+use lib.ListN.{length, getD}
+use lib.Dec.{eqb, leb}
+use borrow.Author.Tests.{eqb-false}
 use Rattle.loops.specs.Loop.{pick}
 use Rattle.element.specs.declared.Letter.{Letter}
 use Rattle.element.specs.declared.Letter.the-variants.{Plain, Selected, Half, Bracket, Nothing}
@@ -26,15 +24,14 @@ use Rattle.reading_grammar.specs.declared.MachineState.the-variants.{Dead as de
 use Rattle.reading_grammar.specs.Machine.{alive, turn, step, next}
 use Rattle.reading_grammar.specs.Fold.{keeps, refuses, Reading, going, halted, after, feed, read}
 use Rattle.reading_grammar.proofs.Ends.{never}
-use Rattle.table.specs.Limits.{maxAtoms, maxBonds, bondCells}
+use Rattle.table.specs.Limits.{maxAtoms, maxBonds}
 use Rattle.table.specs.Cells.{number}
 use Rattle.table.specs.Rows.{withBond}
 use Rattle.ids.specs.Limits.{maxDepth, bridges}
-use Rattle.reading_state.specs.State.{opened, closed, keyed, keysAfter, bridged, joined}
+use Rattle.reading_state.specs.State.{opened, closed, keysAfter, bridged, joined}
 use Rattle.reading.specs.Memory.{Memory, kindOf, newBond, bonded, begun, moved, closeRefusal}
 use Rattle.reading.specs.Bracket.{digit}
 use Rattle.reading.specs.Act.{Acts, firstByte, atomAct, orAtom, bridgeBond, orRefuse, bridgeAct, branchAct, letterAct, closeAct, chargeAct, hydrogenAct, markAct, modeAct, act}
-use Rattle.reading.specs.Conditions.{BridgeMayStand}
 use Rattle.reading.proofs.Cases.{by-test}
 use Rattle.reading.proofs.Sane.{Sane, SaneReading}
 use Rattle.reading.proofs.Draft.{any-digit, nonzero-digit}
@@ -63,18 +60,17 @@ act-later f g (refuses c p) h w = tt
 module _ {p q d i : ℕ} {μ : Memory} (h : Ready p q d i μ) (f : ℕ) (w : Good f μ) where
   begun-good : (x : ℕ) → (bonded μ ≡ true → μ .st .bonds < maxBonds) → Good f (begun x μ)
   unfolding begun number
-  begun-good x few =
-      (
-        record {
-          behind = w .0 .behind;
-          opened = w .0 .opened;
-          once = w .0 .once;
-          waiting = w .0 .waiting;
-          others = w .0 .others;
-          unwritten = λ k. by-test (λ (m : ℕ). 2 * m ≤ k → getD (μ .st .keys) k 0 ≡ 0) (bonded μ) (μ .st .bonds + 1) (μ .st .bonds) (λ e l. w .0 .unwritten k (omega arith)) (λ e l. w .0 .unwritten k l);
-        },
-        split (bonded μ) refl,
-      )
+  begun-good x few = (
+    record {
+      behind = w .0 .behind;
+      opened = w .0 .opened;
+      once = w .0 .once;
+      waiting = w .0 .waiting;
+      others = w .0 .others;
+      unwritten = λ k. by-test (λ (m : ℕ). 2 * m ≤ k → getD (μ .st .keys) k 0 ≡ 0) (bonded μ) (μ .st .bonds + 1) (μ .st .bonds) (λ e l. w .0 .unwritten k (omega arith)) (λ e l. w .0 .unwritten k l);
+    },
+    split (bonded μ) refl,
+  )
     where
       split : (t : Bool) → bonded μ ≡ t → Chains (μ .st .keys) (pick t (withBond (μ .bonds) (μ .st .bonds) (newBond (μ .st .hub .0) (μ .st .atoms) (kindOf (μ .pending)))) (μ .bonds)) (pick t (μ .st .bonds + 1) (μ .st .bonds))
       split true e =

@@ -1,8 +1,8 @@
 -- 02, P8: the neighbours of an atom, in the order of the text and in the stored order. These orders are the rule; `turns` with `textRank`, by which reading turns marks, computes how far apart they are (proofs/Claims.antt)
 use Prim.Native.Nat.{ℕ, suc}
+use mathlib.Core.Path.{_≡_}
 use mathlib.Core.Bool.{Bool, _&&_, not}
 use mathlib.Core.List.{List, [], _∷_, _++_, map}
-use mathlib.Core.Path.{_≡_}
 use lib.IntN.{ℤ}
 use lib.Dec.{eqb, leb}
 use Rattle.loops.specs.Loop.{pick}
@@ -38,7 +38,7 @@ sorted f (b ∷ l) = insert f b (sorted f l)
 
 -- m bonds stand after the last byte, each with two keys: where its digit or `%` stands in the text at each end, counted from 1; 0 where it is no bridge (`reading_state/specs/State.keysAfter`)
 module _ (keys : List ℕ) (bonds : List ℤ) (m a : ℕ) where
-  -- "the preceding atom": the text joined a, as the later of two atoms, to it
+  -- "the preceding atom": a follows it, being the second end of a bond that is no bridge
   unfoldable pub preceding : List ℕ
   preceding = those (λ b. eqb (atEnd keys bonds a b) 0 && eqb (end2 bonds b) a) (bondsAt bonds m a)
 
@@ -46,7 +46,7 @@ module _ (keys : List ℕ) (bonds : List ℤ) (m a : ℕ) where
   unfoldable pub bridgesHere : List ℕ
   bridgesHere = sorted (atEnd keys bonds a) (those (λ b. not (eqb (atEnd keys bonds a b) 0)) (bondsAt bonds m a))
 
-  -- "then children": later atoms that the text joined to a, which are in the order of their numbers
+  -- "then children": they follow a, the first end of bonds that are no bridges; the text numbers bonds as they come
   unfoldable pub children : List ℕ
   children = those (λ b. eqb (atEnd keys bonds a b) 0 && eqb (end1 bonds b) a) (bondsAt bonds m a)
 
