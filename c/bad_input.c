@@ -324,6 +324,9 @@ static int tables_are(unsigned char value) {
     return all(atoms, sizeof atoms, value) && all(bonds, sizeof bonds, value);
 }
 
+/* docs/RULES.md says how long a state is. */
+_Static_assert(sizeof(balsa_pieces) == 6064, "");
+
 /* A text in pieces: as it is read whole; refusals when their byte is known, repeated; 1, 24 and 25 change nothing. */
 static void pieces(void) {
     static int32_t whole[BALSA_ATOM_TABLE], whole_bonds[BALSA_BOND_TABLE];

@@ -68,6 +68,9 @@ pub struct State {
     pub keys: [u16; 2 * ROW],
 }
 
+// As in include/balsa.h.
+const _: () = assert!(size_of::<State>() == 6064);
+
 /// What a call answers, and the state for the next one.
 #[derive(Clone, Debug, PartialEq, Eq)]
 pub struct Fed {

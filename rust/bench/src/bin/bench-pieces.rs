@@ -10,7 +10,7 @@ mod lengths;
 
 use balsa::pieces::{self, State};
 use balsa::tables::{self, ATOM_TABLE, BOND_TABLE};
-use lengths::text_of_length;
+use lengths::{chain_of_brackets, text_of_length};
 use std::hint::black_box;
 
 const CORPUS: &str = include_str!("../../../../corpus/real.smi");
@@ -93,7 +93,8 @@ fn main() {
     row("copying the state once, in and out", &[copying]);
     in_one_feed("the corpus, a text", &texts, copying);
     in_one_feed("its texts of 36 to 44 bytes", &about_40, copying);
-    long_texts(copying);
+    long_text("pairs joined by bridges", &text_of_length(LONG), copying);
+    long_text("a chain of brackets", &chain_of_brackets(LONG), copying);
     empty_feeds(copying);
 }
 
@@ -123,30 +124,27 @@ fn in_one_feed(name: &str, texts: &[&[u8]], copying: f64) {
 }
 
 /// A long text by the byte: whole, and in pieces.
-fn long_texts(copying: f64) {
-    let text = text_of_length(LONG);
+fn long_text(name: &str, text: &[u8], copying: f64) {
     let mut lent = Lent::new();
+    let bytes = text.len();
     let mut measure = |read: &mut dyn FnMut(&mut Lent)| {
-        nanoseconds(CALLS * LONG, || {
+        nanoseconds(CALLS * bytes, || {
             for _ in 0..CALLS {
                 read(&mut lent);
             }
         })
     };
-    println!("{LONG} bytes, by the byte: time, and without copying");
-    row("whole", &[measure(&mut |lent| lent.read(black_box(&text)))]);
-    for length in [LONG, 1000, 64] {
-        let time = measure(&mut |lent| lent.in_pieces(black_box(&text), length));
-        let copies = LONG.div_ceil(length) as f64 + 1.5;
+    println!("{name}, {bytes} bytes, by the byte: time, and without copying");
+    row("whole", &[measure(&mut |lent| lent.read(black_box(text)))]);
+    for length in [bytes, 1000, 64] {
+        let time = measure(&mut |lent| lent.in_pieces(black_box(text), length));
+        let copies = bytes.div_ceil(length) as f64 + 1.5;
         let name = format!("in pieces of {length}");
-        row(&name, &[time, time - copies * copying / LONG as f64]);
+        row(&name, &[time, time - copies * copying / bytes as f64]);
     }
-    let state = lent.start();
-    let fed = nanoseconds(CALLS * LONG, || {
-        for _ in 0..CALLS {
-            lent.start();
-            lent.feed(black_box(&state), &text);
-        }
+    let fed = measure(&mut |lent| {
+        let state = lent.start();
+        lent.feed(black_box(&state), text);
     });
     row("a start and one feed, without an end", &[fed]);
 }
