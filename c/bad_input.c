@@ -301,6 +301,96 @@ static void reports(void) {
     expect(all(out + r.length, sizeof out - r.length, 0), "zeros after the report");
 }
 
+/* The calls for a text in pieces. */
+static balsa_fed feed(balsa_pieces state, const char *piece) {
+    return balsa_feed(state, (const uint8_t *)piece, strlen(piece), atoms, BALSA_ATOM_TABLE, bonds,
+                      BALSA_BOND_TABLE);
+}
+
+static balsa_fed start(void) {
+    return balsa_start(atoms, BALSA_ATOM_TABLE, bonds, BALSA_BOND_TABLE);
+}
+
+static balsa_fed end(balsa_pieces state) {
+    return balsa_end(state, atoms, BALSA_ATOM_TABLE, bonds, BALSA_BOND_TABLE);
+}
+
+/* Whether a call answered with this code and place, and with counts of 0. */
+static int told(balsa_fed f, uint32_t code, size_t place) {
+    return f.code == code && f.place == place && f.atoms == 0 && f.bonds == 0 && f.overfull == 0;
+}
+
+static int tables_are(unsigned char value) {
+    return all(atoms, sizeof atoms, value) && all(bonds, sizeof bonds, value);
+}
+
+/* docs/RULES.md says how long a state is. */
+_Static_assert(sizeof(balsa_pieces) == 6064, "");
+
+/* A text in pieces: as it is read whole; refusals when their byte is known, repeated; 1, 24 and 25 change nothing. */
+static void pieces(void) {
+    static int32_t whole[BALSA_ATOM_TABLE], whole_bonds[BALSA_BOND_TABLE];
+    read_text("F[C@H]12.Br2.Cl1");
+    memcpy(whole, atoms, sizeof atoms);
+    memcpy(whole_bonds, bonds, sizeof bonds);
+    memset(atoms, 7, sizeof atoms);
+    memset(bonds, 7, sizeof bonds);
+    balsa_fed f = start();
+    expect(told(f, 0, 0) && tables_are(0), "a start zeroes the tables");
+    static const char *const cut[] = {"F[C", "@H", "]1", "", "2.B", "r2.C", "l1"};
+    for (size_t k = 0; k < sizeof cut / sizeof cut[0]; k++) {
+        f = feed(f.state, cut[k]);
+        expect(told(f, 0, 0), "a piece that goes on");
+    }
+    f = end(f.state);
+    expect(f.code == 0 && f.place == 0 && f.atoms == 4 && f.bonds == 3 && f.overfull == 0, "the end");
+    expect(memcmp(atoms, whole, sizeof atoms) == 0 && memcmp(bonds, whole_bonds, sizeof bonds) == 0,
+           "the tables of the whole text");
+    expect(told(feed(f.state, ""), BALSA_ENDED, 0) && told(end(f.state), BALSA_ENDED, 0) &&
+           memcmp(atoms, whole, sizeof atoms) == 0, "24 after the end, which changes nothing");
+
+    f = feed(start().state, "C%1");
+    expect(told(f, 0, 0), "half a number");
+    balsa_fed g = feed(feed(f.state, "0C%1").state, "0");
+    expect(told(g, 8, 5) && tables_are(0), "8 at the % with its second digit");
+    memset(atoms, 7, sizeof atoms);
+    memset(bonds, 7, sizeof bonds);
+    g = balsa_feed(g.state, NULL, 0, atoms, BALSA_ATOM_TABLE, bonds, BALSA_BOND_TABLE);
+    expect(told(g, 8, 5) && tables_are(0), "a refusal is repeated");
+    g = end(g.state);
+    expect(told(g, 8, 5) && told(end(g.state), BALSA_ENDED, 0), "at the end too, and then it is 24");
+    expect(told(end(f.state), 3, 3), "a text that ends too soon");
+    expect(told(end(start().state), 0, 0), "the empty text");
+
+    balsa_fed longest = start();
+    for (size_t k = 0; k < BALSA_TEXT; k++) {
+        longest = feed(longest.state, k % 2 ? "." : "*");
+        expect(longest.code == (k < 2 * BALSA_RENUMBERING ? 0 : 4), "1,000 atoms");
+    }
+    expect(told(feed(longest.state, "*"), 4, 2 * BALSA_RENUMBERING), "a refusal before the limit comes first");
+
+    f = feed(start().state, "C(C");
+    memset(atoms + 14, 7, sizeof atoms - 14 * sizeof atoms[0]);
+    g = balsa_feed(f.state, (const uint8_t *)"C", 1, atoms, BALSA_ATOM_TABLE - 1, bonds, BALSA_BOND_TABLE);
+    expect(told(g, 1, 0) && g.state.atoms == 2 && g.state.depth == 1 && g.state.read == 3, "1 leaves the state");
+    expect(told(feed(g.state, "C)"), 0, 0), "and the reading goes on");
+    balsa_pieces broken = f.state;
+    broken.hub = 2;
+    g = feed(broken, "@");
+    expect(told(g, BALSA_BROKEN_STATE, 0) && g.state.hub == 2 && g.state.atoms == 2, "a hub that is no atom");
+    broken.told = BALSA_ENDED;
+    expect(told(end(broken), BALSA_ENDED, 0), "the hub is not looked at after the end");
+    broken.read = BALSA_TEXT + 1;
+    expect(told(end(broken), BALSA_BROKEN_STATE, 0), "25 before 24");
+    memset(&broken, 255, sizeof broken);
+    expect(told(feed(broken, "C"), BALSA_BROKEN_STATE, 0) && told(end(broken), BALSA_BROKEN_STATE, 0),
+           "rubbish is 25");
+    expect(told(balsa_end(broken, NULL, 0, NULL, 0), 1, 0), "1 before 25");
+    g = balsa_start(atoms, BALSA_ATOM_TABLE, NULL, 0);
+    expect(told(g, 1, 0) && g.state.told == 0 && g.state.read == 0 && atoms[BALSA_ATOM_TABLE - 1] == 0x07070707,
+           "a start with a short table changes nothing");
+}
+
 int main(void) {
     short_buffers();
     texts();
@@ -311,6 +401,7 @@ int main(void) {
     compounds();
     registers();
     reports();
+    pieces();
     printf("%u checks hold\n", checks);
     return 0;
 }

@@ -1,4 +1,5 @@
-/* The report of standard input, line by line through the single calls: what the program `report` writes. */
+/* The report of standard input, line by line through the single calls: what the program `report` writes.
+ * lines [LENGTH]: texts within the limit are read in pieces of so many bytes. */
 #define _POSIX_C_SOURCE 200809L
 #include "balsa.h"
 
@@ -10,6 +11,25 @@ static int32_t atoms[BALSA_ATOM_TABLE], bonds[BALSA_BOND_TABLE];
 static uint8_t row[BALSA_ROW], out[BALSA_TEXT];
 static uint16_t ren[BALSA_RENUMBERING];
 
+/* Reads a text in pieces of so many bytes, up to its end or a refusal. */
+static balsa_read_reply read_in_pieces(const uint8_t *text, size_t length, size_t piece) {
+    balsa_fed f = balsa_start(atoms, BALSA_ATOM_TABLE, bonds, BALSA_BOND_TABLE);
+    for (size_t at = 0; at < length && f.code == BALSA_ACCEPTED; at += piece) {
+        size_t here = length - at < piece ? length - at : piece;
+        f = balsa_feed(f.state, text + at, here, atoms, BALSA_ATOM_TABLE, bonds, BALSA_BOND_TABLE);
+    }
+    f = balsa_end(f.state, atoms, BALSA_ATOM_TABLE, bonds, BALSA_BOND_TABLE);
+    return (balsa_read_reply){f.code, f.place, f.atoms, f.bonds, f.overfull};
+}
+
+/* Reads a text whole where no length is given or the text is over the limit: there 2 comes first. */
+static balsa_read_reply read_text(const uint8_t *text, size_t length, size_t piece) {
+    if (piece > 0 && length <= BALSA_TEXT) {
+        return read_in_pieces(text, length, piece);
+    }
+    return balsa_read(text, length, atoms, BALSA_ATOM_TABLE, bonds, BALSA_BOND_TABLE);
+}
+
 /* A refusal of the calls after reading has place 0. */
 static uint32_t refused(uint32_t code, size_t place) {
     printf("%u %zu\n", code, place);
@@ -17,9 +37,8 @@ static uint32_t refused(uint32_t code, size_t place) {
 }
 
 /* Prints what is said of a text; its refusal or 0. */
-static uint32_t say(const uint8_t *text, size_t length) {
-    balsa_read_reply r =
-        balsa_read(text, length, atoms, BALSA_ATOM_TABLE, bonds, BALSA_BOND_TABLE);
+static uint32_t say(const uint8_t *text, size_t length, size_t piece) {
+    balsa_read_reply r = read_text(text, length, piece);
     if (r.code != BALSA_ACCEPTED) {
         return refused(r.code, r.place);
     }
@@ -46,7 +65,8 @@ static uint32_t say(const uint8_t *text, size_t length) {
     return BALSA_ACCEPTED;
 }
 
-int main(void) {
+int main(int argc, char **argv) {
+    size_t piece = argc > 1 ? strtoul(argv[1], NULL, 10) : 0;
     char *line = NULL;
     size_t room = 0;
     unsigned long number = 0, refusals = 0;
@@ -55,7 +75,7 @@ int main(void) {
     while ((length = getline(&line, &room, stdin)) > 0) {
         printf("%lu: ", ++number);
         size_t text = (size_t)length - (line[length - 1] == '\n');
-        refusals += say((const uint8_t *)line, text) != BALSA_ACCEPTED;
+        refusals += say((const uint8_t *)line, text, piece) != BALSA_ACCEPTED;
     }
     printf("accepted %lu refused %lu\n", number - refusals, refusals);
     free(line);

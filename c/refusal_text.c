@@ -29,6 +29,8 @@ static const char *const words[] = {
     [BALSA_STRAY_MARK] = "a mark touches no double bond",
     [BALSA_LOOSE_ATOM] = "a selected atom has fewer than two bonds",
     [BALSA_UNFIT_MARK] = "a tetrahedral mark without four neighbours",
+    [BALSA_ENDED] = "the text has already ended",
+    [BALSA_BROKEN_STATE] = "the reading's state or tables are broken",
 };
 
 const char *balsa_refusal_text(uint32_t code) {

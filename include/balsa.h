@@ -10,8 +10,8 @@
  * (first end, second end, kind: 0 elided, 1, 2, 3, 4 for `/`, 5 for `\`). Least lengths: atoms 7000, bonds 3300, row 1100, out 16384, ren 1000.
  * n and m are the numbers of atoms and bonds in the tables.
  *
- * Codes: 0 accepted, 1 to 23 the refusals of docs/RULES.md, 254 "different" (balsa_same), 255 "end"
- * (balsa_next, balsa_register_walk). Refusal 1 changes nothing; any other zeroes what is named as output; an acceptance zeroes the unused rest.
+ * Codes: 0 accepted, 1 to 25 the refusals of docs/RULES.md, 254 "different" (balsa_same), 255 "end"
+ * (balsa_next, balsa_register_walk). Refusals 1, 24 and 25 change nothing; any other zeroes what is named as output; an acceptance zeroes the unused rest.
  *
  * Threads: a call keeps nothing, allocates nothing and takes no lock; it works on what it is lent and on
  * its stack. Calls may run at once in any threads as long as none is lent what another one writes.
@@ -59,6 +59,8 @@ enum {
     BALSA_STRAY_MARK = 21,
     BALSA_LOOSE_ATOM = 22,
     BALSA_UNFIT_MARK = 23,
+    BALSA_ENDED = 24,
+    BALSA_BROKEN_STATE = 25,
     BALSA_DIFFERENT = 254,
     BALSA_END = 255
 };
@@ -198,6 +200,90 @@ balsa_report_reply balsa_report(const uint8_t *input, size_t input_len, uint8_t 
 /* How many bytes the report of an input has. SIZE_MAX stands for that number and all larger ones, which
  * no buffer has. */
 size_t balsa_report_length(const uint8_t *input, size_t input_len);
+
+/* ---- A text in pieces ----
+ *
+ * balsa_start, then balsa_feed for each piece (an empty one too), then balsa_end. Each call hands back the state
+ * for the next one. With the state and the tables handed in as they were left, the answer, place and tables at the
+ * end are those of balsa_read on the whole text, however it was cut. One difference: 2 is told when the first byte
+ * too many arrives, unless a byte before it was refused; read whole, such a text is 2 first.
+ *
+ * Any state and any tables have an answer. What each call gives, in this order:
+ *
+ *                              code                        state             tables
+ * balsa_start                  0, or 1: a short table      fresh             zeroed; with 1 unchanged
+ * a table is short             1                           as handed in      unchanged
+ * state or tables are broken   25                          as handed in      unchanged
+ * ended before                 24                          as handed in      unchanged
+ * refused before               the same code and place     as handed in;     zeroed again
+ *                                                          by an end ended
+ * balsa_feed, a byte refused   2 to 9 with its place,      refused           zeroed
+ *                              with the piece that has it
+ * balsa_feed, else             0, counts 0                 the next          as read so far
+ * balsa_end                    3 at the length, 10,        ended             zeroed
+ *                              20 to 23, 11
+ * balsa_end, else              0 with the counts           ended             the molecule, the rest zeroed
+ *
+ * 25, exactly: the counts in the state with the tables are not sound, 20 to 23 apart; while the reading goes on,
+ * the hub (before the first atom: any but 0) or the atom of an open branch or bridge is not below the atom count,
+ * or over 64 branches are open; over 16,384 bytes are said to be read; in a bracket a field is above its largest
+ * value, or after % and a digit that digit. docs/RULES.md says what else a state may hold. */
+
+enum {
+    BALSA_BRANCHES = 64,
+    BALSA_BRIDGES = 100
+};
+
+/* A reading between two pieces: numbers only, so that it may be copied, stored and sent elsewhere, with the tables.
+ * A caller hands it back as it was left. Every cell is 0 before the first byte; once refused or ended, every one
+ * but the first two. Two states are told apart by their cells: the bytes between these may be anything. */
+typedef struct {
+    uint8_t told;     /* 0 it goes on, 24 it has ended, else the refusal that was told */
+    uint16_t place;   /* of that refusal */
+    uint16_t read;    /* bytes read */
+    uint8_t mode;     /* where the grammar's machine stands: 10 and above in a bracket, 7 after % and a digit */
+    uint8_t letter;   /* first letter of a half-read symbol */
+    uint8_t pending;  /* before the next atom or bridge: 0 nothing, a symbol's kind and 1, above those a dot */
+    uint8_t tens;     /* first digit after % */
+    uint16_t element; /* the bracket's fields so far */
+    uint16_t selected;
+    uint16_t isotope;
+    uint16_t hydrogens;
+    int32_t charge;
+    uint16_t extension;
+    uint16_t mark;
+    uint16_t hub;                     /* the atom to which the next one is joined */
+    uint16_t atoms;                   /* used rows of the tables */
+    uint16_t bonds;
+    uint16_t depth;                   /* open branches */
+    uint16_t hubs[BALSA_BRANCHES];    /* the hub of each */
+    uint16_t openers[BALSA_BRIDGES];  /* by number: the atom and 1 where it opened, or 0 */
+    uint8_t symbols[BALSA_BRIDGES];   /* the kind at each opening */
+    uint16_t offsets[BALSA_BRIDGES];  /* the place of each opening */
+    uint8_t outsides[BALSA_RENUMBERING]; /* 1 for an atom outside brackets */
+    uint16_t keys[2 * BALSA_ROW];     /* by bond: where its bridge's digits stood, for tetrahedral marks */
+} balsa_pieces;
+
+/* code, place and counts as balsa_read hands them back, and the state for the next call */
+typedef struct {
+    uint32_t code;
+    size_t place;
+    size_t atoms;
+    size_t bonds;
+    size_t overfull;
+    balsa_pieces state;
+} balsa_fed;
+
+/* Begins a reading. Output: atoms, bonds, which hold the reading from now on. Refusal 1. */
+balsa_fed balsa_start(int32_t *atoms, size_t atoms_len, int32_t *bonds, size_t bonds_len);
+
+/* Reads a piece. Refusals 1, 25, 24, and 2 to 9 as soon as a byte is known to be refused. */
+balsa_fed balsa_feed(balsa_pieces state, const uint8_t *piece, size_t piece_len, int32_t *atoms,
+                     size_t atoms_len, int32_t *bonds, size_t bonds_len);
+
+/* Says that the text has ended. Refusals 1, 25, 24, what was told before, and 3, 10, 20 to 23, 11. */
+balsa_fed balsa_end(balsa_pieces state, int32_t *atoms, size_t atoms_len, int32_t *bonds,
+                    size_t bonds_len);
 
 /* ---- A register of entries, each a tag and a body, that survives a power cut ----
  *

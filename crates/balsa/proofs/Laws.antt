@@ -11,6 +11,9 @@ use Rattle.reader.specs.declared.ending.ReadAnswer.{ReadAnswer}
 use Rattle.reader.specs.declared.ending.ReadAnswer.the-variants.{Molecule, Refused}
 use Rattle.reader.specs.Ending.{told}
 use Rattle.reading.specs.Read.{ReadResult}
+use Rattle.reading_pieces.specs.Calls.{Fed}
+use Rattle.reader_pieces.specs.declared.Fed as reader
+use Rattle.reader_pieces.specs.Answer.{fedIs}
 use Rattle.writer.specs.declared.Written.{Written}
 use Rattle.writer.specs.declared.Written.the-variants.{Text, Refused as writeRefused}
 use Rattle.writer.specs.Told.{told as writer-told}
@@ -20,7 +23,9 @@ use Rattle.same.specs.Answer.{samenessCode, sameOut}
 use Rattle.same.specs.declared.Sameness.{Sameness}
 use Rattle.balsa.specs.declared.ReadReply.{ReadReply}
 use Rattle.balsa.specs.declared.WriteReply.{WriteReply}
+use Rattle.balsa.specs.declared.pieces_call.FedReply.{FedReply}
 use Rattle.balsa.specs.Replies.{readReplyOf, readOut, writeReplyOf, writeOut}
+use Rattle.balsa.specs.Pieces.{fedReplyOf, fedOut}
 
 pub read-law : (a : ReadAnswer) {r : ReadReply} {atoms bonds : List ℤ} {t : ReadResult} → r ≡ readReplyOf a → told a atoms bonds ≡ t → readOut r atoms bonds ≡ t
 read-law (Molecule n m k) {atoms = atoms} {bonds} e g = ap (λ (x : ReadReply). readOut x atoms bonds) e ∙ g
@@ -47,3 +52,6 @@ forced-law {k = k} {row} {pairs} e g = ap (λ (x : ℕ). forcedCallReply x row k
 
 pub same-law : (a : Sameness) {c : ℕ} {row1 row2 ren : List ℕ} {o : SameReply} → c ≡ samenessCode a → sameOut a row1 row2 ren ≡ o → sameReply c row1 row2 ren ≡ o
 same-law a {row1 = row1} {row2} {ren} e g = ap (λ (k : ℕ). sameReply k row1 row2 ren) e ∙ g
+
+pub fed-law : (f : reader.Fed) {r : FedReply} {atoms bonds : List ℤ} {t : Fed} → r ≡ fedReplyOf f → fedIs f atoms bonds ≡ t → fedOut r atoms bonds ≡ t
+fed-law f {atoms = atoms} {bonds} e g = ap (λ (x : FedReply). fedOut x atoms bonds) e ∙ g

@@ -2,3 +2,4 @@ pub mod Replies
 pub mod Symbol
 pub mod Registers
 pub mod Reporting
+pub mod Pieces

@@ -92,8 +92,8 @@ fn between(a: AtomId, b: AtomId, k: u8) -> Bond
     bond_of(b, a, back)
 }
 
-// The bridge that was opened at the atom u with the symbol j, and closes at the hub with k; m is the number that its bond gets.
-fn close_at(bonds: &[i32], m: BondId, u: AtomId, hub: AtomId, j: u8, k: u8) -> Closing
+// internal: the bridge that was opened at the atom u with the symbol j, and closes at the hub with k; m is the number that its bond gets.
+pub fn close_at(bonds: &[i32], m: BondId, u: AtomId, hub: AtomId, j: u8, k: u8) -> Closing
     requires { ⌜ (u .0 < 65536) × (hub .0 < 65536) ⌝ }
     ensures { λ r. ⌜ Closes (now (bonds .entry)) (m .0) (u .0) (hub .0) j k r ⌝ }
 {
@@ -112,8 +112,8 @@ fn close_at(bonds: &[i32], m: BondId, u: AtomId, hub: AtomId, j: u8, k: u8) -> C
     Closing::Bond(between(u, hub, kinds::meet(j, k)))
 }
 
-// Writes the keys of a bridge's bond, whose digits stand at p at the atom u and at q at the hub: the lower number first.
-fn put_keys(keys: &mut [u16; KEYS], b: BondId, u: AtomId, hub: AtomId, p: u16, q: u16)
+// internal: writes the keys of a bridge's bond, whose digits stand at p at the atom u and at q at the hub: the lower number first.
+pub fn put_keys(keys: &mut [u16; KEYS], b: BondId, u: AtomId, hub: AtomId, p: u16, q: u16)
     requires { ⌜ (b .0 < maxBonds) × (p ≤ maxText) × (q ≤ maxText) ⌝ }
     ensures { λ _. ⌜ now (keys .exit) ≡ pick (ltb (u .0) (hub .0)) (keyed (now (keys .entry)) (b .0) p q) (keyed (now (keys .entry)) (b .0) q p) ⌝ }
 {

@@ -119,8 +119,8 @@ pub fn hydrogens_at(s: &[u8], at: usize) -> Field
     Field::Value(1, at + 1)
 }
 
-// The charge of a sign and a size.
-fn charge_of(b: u8, n: u16) -> i32
+// internal: the charge of a sign and a size.
+pub fn charge_of(b: u8, n: u16) -> i32
     requires { ⌜ (0 < n) × (n < 10) ⌝ }
     ensures { λ r. ⌜ r ≡ signed (eqb b 43) n ⌝ }
     ensures { λ r. ⌜ SFits w32 r ⌝ }

@@ -21,8 +21,8 @@ pub enum Spelled {
     Refused(usize),
 }
 
-// The row of an atom outside brackets.
-fn bare(e: u8, selected: u8) -> Atom
+// internal: the row of an atom outside brackets.
+pub fn bare(e: u8, selected: u8) -> Atom
     ensures { λ r. ⌜ r ≡ bareRow e selected ⌝ }
 {
     Atom {
@@ -36,8 +36,8 @@ fn bare(e: u8, selected: u8) -> Atom
     }
 }
 
-// The row of the fields of a bracket.
-fn row_of(f: Fields) -> Atom
+// internal: the row of the fields of a bracket.
+pub fn row_of(f: Fields) -> Atom
     ensures { λ r. ⌜ r ≡ rowOf f ⌝ }
 {
     Atom {

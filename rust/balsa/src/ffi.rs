@@ -3,6 +3,7 @@
 //! This is the only module with `unsafe`. Every call is proved for all buffers and all contents, so
 //! the wrappers have nothing to test: `&` and `&mut` keep the memory valid and the buffers apart.
 
+use crate::pieces::State;
 use crate::tables::Tables;
 
 /// What `balsa_read` hands back.
@@ -39,6 +40,17 @@ pub struct SymbolReply {
     pub selected: u32,
 }
 
+/// What the calls for a text in pieces hand back.
+#[repr(C)]
+pub struct FedReply {
+    pub code: u32,
+    pub place: usize,
+    pub atoms: usize,
+    pub bonds: usize,
+    pub overfull: usize,
+    pub state: State,
+}
+
 /// What `balsa_register_entry` hands back.
 #[repr(C)]
 pub struct EntryReply {
@@ -68,7 +80,8 @@ pub struct WalkReply {
 
 mod linked {
     use super::{
-        EntryReply, ForcedReply, ReadReply, ReportReply, SymbolReply, WalkReply, WriteReply,
+        EntryReply, FedReply, ForcedReply, ReadReply, ReportReply, State, SymbolReply, WalkReply,
+        WriteReply,
     };
 
     extern "C" {
@@ -207,6 +220,28 @@ mod linked {
             ren: *mut u16,
             ren_len: usize,
         ) -> u32;
+        pub fn balsa_start(
+            atoms: *mut i32,
+            atoms_len: usize,
+            bonds: *mut i32,
+            bonds_len: usize,
+        ) -> FedReply;
+        pub fn balsa_feed(
+            state: State,
+            piece: *const u8,
+            piece_len: usize,
+            atoms: *mut i32,
+            atoms_len: usize,
+            bonds: *mut i32,
+            bonds_len: usize,
+        ) -> FedReply;
+        pub fn balsa_end(
+            state: State,
+            atoms: *mut i32,
+            atoms_len: usize,
+            bonds: *mut i32,
+            bonds_len: usize,
+        ) -> FedReply;
         pub fn balsa_report(
             input: *const u8,
             input_len: usize,
@@ -470,6 +505,46 @@ pub fn same(
             row2.len(),
             ren.as_mut_ptr(),
             ren.len(),
+        )
+    }
+}
+
+pub fn start(atoms: &mut [i32], bonds: &mut [i32]) -> FedReply {
+    // SAFETY: as for `read`.
+    unsafe {
+        linked::balsa_start(
+            atoms.as_mut_ptr(),
+            atoms.len(),
+            bonds.as_mut_ptr(),
+            bonds.len(),
+        )
+    }
+}
+
+pub fn feed(state: &State, piece: &[u8], atoms: &mut [i32], bonds: &mut [i32]) -> FedReply {
+    // SAFETY: as for `read`; the state is numbers, which may be any.
+    unsafe {
+        linked::balsa_feed(
+            state.clone(),
+            piece.as_ptr(),
+            piece.len(),
+            atoms.as_mut_ptr(),
+            atoms.len(),
+            bonds.as_mut_ptr(),
+            bonds.len(),
+        )
+    }
+}
+
+pub fn end(state: &State, atoms: &mut [i32], bonds: &mut [i32]) -> FedReply {
+    // SAFETY: as for `feed`.
+    unsafe {
+        linked::balsa_end(
+            state.clone(),
+            atoms.as_mut_ptr(),
+            atoms.len(),
+            bonds.as_mut_ptr(),
+            bonds.len(),
         )
     }
 }

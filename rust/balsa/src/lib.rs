@@ -1,14 +1,16 @@
 //! Balsa text read, kekulized, written and compared by a proved library.
 //!
 //! [`Molecule`] owns its tables; [`tables`] has the calls on buffers that the caller lends;
-//! [`report()`] reports the lines of an input. Every answer is defined for all inputs: nothing
-//! panics, and nothing outside the buffers is touched.
+//! [`PieceReader`] reads a text that comes in pieces, and [`pieces`] has its calls; [`report()`] reports
+//! the lines of an input. Every answer is defined for all inputs: nothing panics, and nothing outside
+//! the buffers is touched.
 //!
 //! [`Register`] keeps bodies of bytes under tags and survives a power cut after any store;
 //! [`RegisterFile`] is one in a file.
 
 mod ffi;
 mod molecule;
+pub mod pieces;
 mod refusal;
 pub mod register;
 #[cfg(unix)]
@@ -18,6 +20,7 @@ mod symbol;
 pub mod tables;
 
 pub use molecule::{Matchings, Molecule, Sameness, Written};
+pub use pieces::PieceReader;
 pub use refusal::{Code, Excerpt, Refusal};
 pub use register::{Damage, Entries, Register};
 #[cfg(unix)]

@@ -61,13 +61,19 @@ impl Molecule {
     pub fn read(text: &[u8]) -> Result<Self, Refusal> {
         let mut atoms = vec![0; ATOM_TABLE];
         let mut bonds = vec![0; BOND_TABLE];
-        let Read { counts, overfull } = tables::read(text, &mut atoms, &mut bonds)?;
-        Ok(Molecule {
+        let read = tables::read(text, &mut atoms, &mut bonds)?;
+        Ok(Molecule::of_tables(atoms, bonds, read))
+    }
+
+    /// The molecule that was read into tables.
+    pub(crate) fn of_tables(atoms: Vec<i32>, bonds: Vec<i32>, read: Read) -> Self {
+        let Read { counts, overfull } = read;
+        Molecule {
             atoms,
             bonds,
             counts,
             overfull,
-        })
+        }
     }
 
     /// Seven cells for each atom: element, selected, isotope, hydrogens, charge, extension, mark. The

@@ -28,10 +28,10 @@ macro_rules! refusals {
                 }
             }
 
-            pub(crate) fn of(number: u32) -> Code {
+            pub(crate) fn known(number: u32) -> Option<Code> {
                 match number {
-                    $($number => Code::$name,)*
-                    _ => panic!("{number} is no refusal of the rules"),
+                    $($number => Some(Code::$name),)*
+                    _ => None,
                 }
             }
         }
@@ -63,12 +63,19 @@ refusals! {
     StrayMark = 21, "a mark touches no double bond";
     LooseAtom = 22, "a selected atom has fewer than two bonds";
     UnfitMark = 23, "a tetrahedral mark without four neighbours";
+    Ended = 24, "the text has already ended";
+    BrokenState = 25, "the reading's state or tables are broken";
 }
 
 // The limits that the words above name.
 const _: () = assert!(TEXT == 16384 && RENUMBERING == 1000 && ROW == 1100 && SAME_ATOMS == 64);
 
 impl Code {
+    /// The refusal of a number that a call answers with.
+    pub(crate) fn of(number: u32) -> Code {
+        Code::known(number).unwrap_or_else(|| panic!("{number} is no refusal of the rules"))
+    }
+
     /// The number of the rules.
     pub fn number(self) -> u8 {
         self as u8

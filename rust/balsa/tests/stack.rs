@@ -4,7 +4,7 @@
 mod graphs;
 
 use balsa::tables::{self, Counts, ATOM_TABLE, BOND_TABLE, RENUMBERING, ROW, TEXT};
-use balsa::{Code, Molecule};
+use balsa::{Code, Molecule, PieceReader};
 use graphs::{families, Graph};
 use std::thread;
 
@@ -53,6 +53,25 @@ fn nested_and_long() {
     assert_eq!(read(text), Ok(counts));
     let chain = "C".repeat(13) + &"-[999CoH9-9:9999]".repeat(963);
     assert!(read(chain).is_ok());
+}
+
+/// The same in pieces of 1,000 bytes.
+#[test]
+fn nested_and_long_in_pieces() {
+    let nested = format!("C{}{}", "(C".repeat(64), ")".repeat(64));
+    let ring = format!("{nested}.c1{}c1", "c".repeat(932));
+    let chain = "C".repeat(13) + &"-[999CoH9-9:9999]".repeat(963);
+    for text in [ring, chain] {
+        let whole = Molecule::read(text.as_bytes());
+        let read = on_little_stack(move || {
+            let mut reader = PieceReader::new();
+            for piece in text.as_bytes().chunks(1000) {
+                reader.feed(piece)?;
+            }
+            reader.finish()
+        });
+        assert!(read.is_ok() && read == whole);
+    }
 }
 
 /// Whether two texts are the same compound.

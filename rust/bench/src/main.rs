@@ -4,6 +4,7 @@
 //! only add to it.
 
 mod clock;
+mod lengths;
 mod subject;
 
 use balsa_reference::element::{searched, symbol_of};
@@ -11,6 +12,7 @@ use clock::time;
 use compare::buffers::Buffers;
 use compare::implementation::Reference;
 use compare::proved::Proved;
+use lengths::text_of_length;
 use std::hint::black_box;
 use std::time::Duration;
 use subject::{Molecules, OnTables, Subject};
@@ -205,14 +207,6 @@ fn all_four<S: Subject>(subject: &S, text: &[u8], slot: &mut S::Slot) {
         subject.write(slot);
     }
     black_box(slot);
-}
-
-/// A text of this length: long atoms in pairs, then a chain.
-fn text_of_length(length: usize) -> Vec<u8> {
-    let pair = "[999CoH9-9:9999]=%10.[999CoH9-9:9999]=%10.";
-    let mut text = pair.repeat(length / pair.len());
-    text += &"C".repeat(length % pair.len());
-    text.into_bytes()
 }
 
 /// The mean times of reading a text of each length, in the quickest round.

@@ -126,8 +126,13 @@ impl Buffers {
         copy(&mut self.row, row);
     }
 
+    /// Whether a table is shorter than it must be.
+    pub fn are_short(&self) -> bool {
+        self.atoms.len() < ATOM_TABLE || self.bonds.len() < BOND_TABLE
+    }
+
     /// Changes a cell or a count, perhaps to something that is not valid.
-    fn damage(&mut self, random: &mut Random) {
+    pub fn damage(&mut self, random: &mut Random) {
         let value = match random.below(12) {
             0 => i32::MIN,
             1 => i32::MAX,

@@ -2,6 +2,8 @@
 
 use crate::buffers::Buffers;
 use crate::implementation::{Answer, Implementation};
+use crate::pieces::InPieces;
+use balsa::pieces::{self, Fed, State};
 use balsa::tables::{self, Counts, Read, Step, Tables};
 use balsa::{Code, Refusal};
 
@@ -44,9 +46,7 @@ impl Implementation for Proved {
         let read = tables::read(text, &mut buffers.atoms, &mut buffers.bonds);
         let Counts { atoms, bonds } = read.unwrap_or_default().counts;
         buffers.counts = balsa_reference::tables::Counts { atoms, bonds };
-        answer(read, |Read { counts, overfull }| {
-            Answer::of_read(counts.atoms, counts.bonds, overfull)
-        })
+        read_answer(read)
     }
 
     fn check(&self, buffers: &mut Buffers) -> Answer {
@@ -141,5 +141,32 @@ impl Implementation for Proved {
             &mut buffers.renumbering,
         );
         answer(written, |length| Answer::of(length))
+    }
+}
+
+fn read_answer(read: Result<Read, Refusal>) -> Answer {
+    answer(read, |Read { counts, overfull }| {
+        Answer::of_read(counts.atoms, counts.bonds, overfull)
+    })
+}
+
+fn fed(Fed { answer, state }: Fed) -> (Answer, State) {
+    (read_answer(answer), state)
+}
+
+impl InPieces for Proved {
+    type State = State;
+
+    fn start(&self, buffers: &mut Buffers) -> (Answer, State) {
+        fed(pieces::start(&mut buffers.atoms, &mut buffers.bonds))
+    }
+
+    fn feed(&self, state: &State, piece: &[u8], buffers: &mut Buffers) -> (Answer, State) {
+        let (atoms, bonds) = (&mut buffers.atoms, &mut buffers.bonds);
+        fed(pieces::feed(state, piece, atoms, bonds))
+    }
+
+    fn end(&self, state: &State, buffers: &mut Buffers) -> (Answer, State) {
+        fed(pieces::end(state, &mut buffers.atoms, &mut buffers.bonds))
     }
 }

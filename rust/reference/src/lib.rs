@@ -3,7 +3,8 @@
 //! It is the second program to which the proved one is compared, and the baseline of the
 //! benchmark. [`read`], [`first`], [`next`], [`kekulize`], [`same`] and [`write`] work on a [`Molecule`];
 //! [`tables`] holds the same calls on tables of `i32`, with the paper's rules for short buffers
-//! and for what a refusal leaves behind. [`register`] holds the calls on a register.
+//! and for what a refusal leaves behind. [`register`] holds the calls on a register. [`Pieces`] is a text
+//! that comes in pieces; [`pieces_state`] tells which states of such a reading are refused.
 
 mod blossom;
 mod conformation;
@@ -11,6 +12,8 @@ pub mod element;
 mod forced;
 mod matching;
 mod molecule;
+mod pieces;
+pub mod pieces_state;
 mod read;
 mod redrawing;
 mod refusal;
@@ -28,6 +31,7 @@ pub use element::{number_of, symbol_of};
 pub use forced::forced;
 pub use matching::{first, has_matching, is_matching, kekulize, next};
 pub use molecule::{Atom, Bond, Kind, Molecule, Neighbour, Neighbours};
+pub use pieces::Pieces;
 pub use read::{read, reading, Reading};
 pub use refusal::{Code, Refusal};
 pub use report::{report, report_line, Accepted};

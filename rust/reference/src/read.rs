@@ -35,6 +35,13 @@ pub fn reading(text: &[u8]) -> Result<Reading, Refusal> {
     }
 }
 
+/// The refusal of every text that begins with these bytes, if a byte of them is known to be refused.
+pub fn known_refusal(bytes: &[u8]) -> Option<Refusal> {
+    let refusal = Reader::new(bytes).text().err()?;
+    let is_at_the_end = refusal == Refusal::at(Code::Grammar, bytes.len());
+    (!is_at_the_end).then_some(refusal)
+}
+
 /// The molecule of a text, or the first refusal in the paper's order.
 pub fn read(text: &[u8]) -> Result<Molecule, Refusal> {
     reading(text).map(|reading| reading.molecule)

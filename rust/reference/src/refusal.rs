@@ -50,6 +50,10 @@ pub enum Code {
     LooseSelected = 22,
     /// A tetrahedral mark stands at an atom without four neighbours.
     UnfitMark = 23,
+    /// The text that comes in pieces has ended before.
+    Ended = 24,
+    /// The state of a reading in pieces, or its tables, are not as they may be.
+    BrokenState = 25,
 }
 
 impl Code {

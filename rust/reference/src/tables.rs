@@ -7,6 +7,7 @@ use crate::conformation;
 use crate::element::MAX_ELEMENT;
 use crate::matching;
 use crate::molecule::{Atom, Bond, Kind, Molecule};
+use crate::pieces::Pieces;
 use crate::read::Reading;
 use crate::refusal::{Code, Refusal};
 use crate::tetrahedral::Mark;
@@ -55,8 +56,13 @@ pub struct Tables<'a> {
 
 impl Tables<'_> {
     fn is_short(&self) -> bool {
-        self.atoms.len() < ATOM_TABLE || self.bonds.len() < BOND_TABLE
+        are_short(self.atoms, self.bonds)
     }
+}
+
+/// Whether one of two tables is too short.
+fn are_short(atoms: &[i32], bonds: &[i32]) -> bool {
+    atoms.len() < ATOM_TABLE || bonds.len() < BOND_TABLE
 }
 
 /// The answer to [`next`].
@@ -70,10 +76,18 @@ pub enum Step {
 
 /// Reads a text into tables.
 pub fn read(text: &[u8], atoms: &mut [i32], bonds: &mut [i32]) -> Result<Read, Refusal> {
-    if atoms.len() < ATOM_TABLE || bonds.len() < BOND_TABLE {
+    if are_short(atoms, bonds) {
         return Err(Code::ShortBuffer.into());
     }
-    let answer = crate::reading(text);
+    read_out(crate::reading(text), atoms, bonds)
+}
+
+/// Stores what was read; a refusal fills the tables with 0.
+fn read_out(
+    answer: Result<Reading, Refusal>,
+    atoms: &mut [i32],
+    bonds: &mut [i32],
+) -> Result<Read, Refusal> {
     let nothing = Reading::default();
     let Reading { molecule, .. } = answer.as_ref().unwrap_or(&nothing);
     fill(molecule, atoms, bonds);
@@ -81,6 +95,44 @@ pub fn read(text: &[u8], atoms: &mut [i32], bonds: &mut [i32]) -> Result<Read, R
         counts: counts(&reading.molecule),
         overfull: reading.overfull,
     })
+}
+
+/// Begins a text that comes in pieces: fills the tables with 0.
+pub fn start(atoms: &mut [i32], bonds: &mut [i32]) -> Result<(), Code> {
+    if are_short(atoms, bonds) {
+        return Err(Code::ShortBuffer);
+    }
+    fill(&Molecule::default(), atoms, bonds);
+    Ok(())
+}
+
+/// Takes a piece of a text. A refusal fills the tables with 0; what else they hold before the end is
+/// not told here.
+pub fn feed(
+    pieces: &mut Pieces,
+    piece: &[u8],
+    atoms: &mut [i32],
+    bonds: &mut [i32],
+) -> Result<(), Refusal> {
+    if are_short(atoms, bonds) {
+        return Err(Code::ShortBuffer.into());
+    }
+    let answer = pieces.feed(piece);
+    if answer.is_err_and(|refusal| refusal.code != Code::Ended) {
+        fill(&Molecule::default(), atoms, bonds);
+    }
+    answer
+}
+
+/// Takes the end of a text that came in pieces, and stores what was read.
+pub fn end(pieces: &mut Pieces, atoms: &mut [i32], bonds: &mut [i32]) -> Result<Read, Refusal> {
+    if are_short(atoms, bonds) {
+        return Err(Code::ShortBuffer.into());
+    }
+    match pieces.end() {
+        Err(refusal) if refusal.code == Code::Ended => Err(refusal),
+        answer => read_out(answer, atoms, bonds),
+    }
 }
 
 /// Whether the tables are long enough and valid.
@@ -262,26 +314,34 @@ pub fn write(tables: Tables, text: &mut [u8], renumbering: &mut [u16]) -> Result
 
 /// The molecule of tables that are long enough, if they are sound.
 pub fn molecule(tables: Tables) -> Result<Molecule, Code> {
+    let molecule = valid_molecule(tables).ok_or(Code::InvalidTables)?;
+    match molecule.late_refusal() {
+        None => Ok(molecule),
+        Some(_) => Err(Code::InvalidTables),
+    }
+}
+
+/// Whether tables that are long enough are sound, leaving aside what 20 to 23 refuse.
+pub fn is_valid(tables: Tables) -> bool {
+    valid_molecule(tables).is_some()
+}
+
+fn valid_molecule(tables: Tables) -> Option<Molecule> {
     let Counts { atoms, bonds } = tables.counts;
     if atoms > MAX_ATOMS || bonds > MAX_BONDS {
-        return Err(Code::InvalidTables);
+        return None;
     }
     let mut molecule = Molecule {
         atoms: Vec::with_capacity(atoms),
         bonds: Vec::with_capacity(bonds),
     };
     for cells in tables.atoms.chunks_exact(ATOM_CELLS).take(atoms) {
-        let atom = atom_of_cells(cells).ok_or(Code::InvalidTables)?;
-        molecule.atoms.push(atom);
+        molecule.atoms.push(atom_of_cells(cells)?);
     }
     for cells in tables.bonds.chunks_exact(BOND_CELLS).take(bonds) {
-        let bond = bond_of_cells(cells, atoms).ok_or(Code::InvalidTables)?;
-        molecule.bonds.push(bond);
+        molecule.bonds.push(bond_of_cells(cells, atoms)?);
     }
-    if has_repeated_bond(&molecule) || molecule.late_refusal().is_some() {
-        return Err(Code::InvalidTables);
-    }
-    Ok(molecule)
+    (!has_repeated_bond(&molecule)).then_some(molecule)
 }
 
 fn atom_of_cells(cells: &[i32]) -> Option<Atom> {

@@ -1,12 +1,15 @@
-//! Makes the calls of every implementation on random texts, tables and pairs of molecules, checks the
-//! laws of the paper on each, and compares each with the reference.
+//! Makes the calls of every implementation on random texts, whole and in pieces, tables, pairs of
+//! molecules and states of a reading, checks the laws of the paper on each, and compares each with the
+//! reference.
 
 use compare::buffers::Buffers;
 use compare::implementation::{Implementation, Reference};
 use compare::molecules::Effort;
 use compare::pair::{compare_same, compare_tables, compare_text};
+use compare::pieces::{compare_pieces, cut, shown};
 use compare::proved::Proved;
 use compare::random::Random;
+use compare::states::{check_state, damaged};
 use compare::{drawings, laws, texts};
 use std::process::ExitCode;
 
@@ -42,7 +45,7 @@ fn usage() -> ExitCode {
     ExitCode::FAILURE
 }
 
-/// Runs one case: a text, tables and two molecules.
+/// Runs one case: a text, whole and in pieces, tables, two molecules and a damaged state.
 fn run(seed: u64, case: u64, effort: Effort) -> bool {
     let mut random = Random::new(seed.wrapping_mul(1 << 32).wrapping_add(case));
     let text = texts::text(&mut random, effort);
@@ -82,6 +85,18 @@ fn run(seed: u64, case: u64, effort: Effort) -> bool {
         if let Err(difference) = compare_same(&Reference, other, &pair) {
             tell("pair", other.name(), format!("{difference:?}\n{pair:?}"));
         }
+    }
+    let pieces = cut(&mut random, &text);
+    if let Err(message) = compare_pieces(&Proved, &mut random, &pieces, &dirty) {
+        tell(
+            "pieces",
+            Proved.name(),
+            format!("{message}\n{}", shown(&pieces)),
+        );
+    }
+    let (state, buffers) = damaged(&mut random, &text);
+    if let Err(message) = check_state(&state, &text, &buffers) {
+        tell("state", Proved.name(), format!("{message}\n{state:?}"));
     }
     is_right
 }

@@ -1,0 +1,9 @@
+pub mod Guards
+pub mod Resting
+pub mod Cleared
+pub mod Capped
+pub mod Sound
+pub mod Ends
+pub mod Running
+pub mod TakenUp
+pub mod Feeding
