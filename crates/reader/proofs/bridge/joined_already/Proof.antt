@@ -1,50 +1,31 @@
-use Prim.Native.Nat.{_-_}
-use mathlib.Core.Bool.{not}
-use mathlib.Core.Path.{sym, _∙_}
-use native.Mathlib.Omega.{arith}
-use Rattle.reading.specs.Memory.{joins}
-use Rattle.loops.proofs.Loops.{Left, left-start}
-use Rattle.reader.proofs.Bridges.{found, passed, none-found}
+-- `joined_already`: a bond whose second end is neither atom joins none; else each bond is looked at.
+use borrow.Author.Needs.{needs}
+use Rattle.reader.proofs.Bridges.{was-not, away-none}
 use Rattle.reader.proofs.bridge.joined_already.Statement.{statement}
 use Rattle.reader.proofs.bridge.joined_already.Tie as tie
 
-abbrev Inv-loop : tie.InvT-loop
-Inv-loop bonds m a b i₀ i = Left (λ j. not (joins bonds (a .0) (b .0) j)) (m .0) i
+mul-if1 : tie.Need-mul-if1
+mul-if1 c = search needs
 
-abbrev μ-loop : tie.MeasureT-loop
-μ-loop bonds m a b i₀ i = m .0 - i
+cast-near : tie.Need-cast-near
+cast-near c = search needs
 
-loop-holds : tie.Need-loop-holds Inv-loop μ-loop
-loop-holds c = left-start
+cast-near-2 : tie.Need-cast-near-2
+cast-near-2 c = search needs
 
-joins-requires : tie.Need-joins-requires Inv-loop μ-loop
-joins-requires c κs = omega arith
+near-requires : tie.Need-near-requires
+near-requires c κs = search needs
 
-returns : tie.Need-returns Inv-loop μ-loop
-returns c = found _ _ _ (c .before .before .before .before .loop .inv) (c .before .before .if1 .taken) (sym (c .before .joins .ensures) ∙ c .if2 .taken)
+returns : tie.Need-returns
+returns c = away-none (record { all = λ e k l. c .before .near .ensures .all (was-not _ (c .if2 .taken)) k l })
 
-add-i : tie.Need-add-i Inv-loop μ-loop
-add-i c = omega arith
+joined-among-requires : tie.Need-joined-among-requires
+joined-among-requires c κs = search needs
 
-loop-less : tie.Need-loop-less Inv-loop μ-loop
-loop-less c = omega arith
-
-loop-again : tie.Need-loop-again Inv-loop μ-loop
-loop-again c = passed _ _ _ (c .before .before .before .before .loop .inv) (c .before .before .if1 .taken) (sym (c .before .joins .ensures) ∙ c .if2 .left)
-
-returns-2 : tie.Need-returns-2 Inv-loop μ-loop
-returns-2 c = none-found _ _ _ (c .before .before .loop .inv) (c .if1 .left)
+returns-2 : tie.Need-returns-2
+returns-2 c = search needs
 
 pub joined-already-spec : {M : Type 1} → statement M
 joined-already-spec =
     tie.close
-    (tie.spec
-    Inv-loop
-    μ-loop
-    loop-holds
-    joins-requires
-    returns
-    add-i
-    loop-less
-    loop-again
-    returns-2)
+    (tie.spec mul-if1 cast-near cast-near-2 near-requires returns joined-among-requires returns-2)
