@@ -15,6 +15,7 @@ use crate::atom::bond_of;
 use ids::AtomId;
 use ids::BRIDGES;
 use ids::BondId;
+use ids::SMALL;
 use reading_state::KEYS;
 use reading_state::Opening;
 use reading_state::State;
@@ -98,12 +99,15 @@ fn joined_among(bonds: &[i32], m: BondId, a: AtomId, b: AtomId) -> bool
     false
 }
 
-// Whether one of the bonds before m joins two atoms.
+// Whether one of the bonds before m joins two atoms; where there are many, the second ends are asked first.
 fn joined_already(bonds: &[i32], m: BondId, a: AtomId, b: AtomId) -> bool
     requires { ⌜ m .0 ≤ maxBonds ⌝ }
     requires { ⌜ (a .0 < 65536) × (b .0 < 65536) ⌝ }
     ensures { λ r. ⌜ r ≡ joinedAlready (now (bonds .entry)) (m .0) (a .0) (b .0) ⌝ }
 {
+    if m.0 <= SMALL {
+        return joined_among(bonds, m, a, b);
+    }
     if BOND_CELLS * m.0 <= bonds.len() {
         if !near(bonds, m.0, a.0 as u16, b.0 as u16) {
             return false;
