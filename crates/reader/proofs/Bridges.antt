@@ -1,20 +1,23 @@
 -- Bridges: a law for each way that one can go. Assumes nothing.
 use Prim.Native.Nat.{ℕ, zero, suc, _+_, _-_, _≤_, _<_}
 use native.Mathlib.Omega.{arith}
+use native.Mathlib.Decide.{ℕ-discrete}
 use mathlib.Core.Path.{_≡_, refl, sym, ap, _∙_, subst}
-use mathlib.Core.Bool.{Bool, true, false, not}
+use mathlib.Core.Bool.{Bool, true, false, not, _&&_, _||_}
 use mathlib.Core.List.{List, [], _∷_}
 use lib.ListN.{getD, set}
 use lib.IntN.{ℤ}
 use lib.Dec.{eqb, ltb}
 use Rattle.loops.specs.Loop.{pick}
-use Rattle.loops.proofs.Loops.{Left, left-pass, left-fail, left-end}
+use Rattle.loops.proofs.Loops.{Left, left-pass, left-fail, left-end, each-all}
 use borrow.Author.Tests.{eq-eqb, ne-eqb, eqb-true, eqb-false, le-leb, lt-leb, lt-ltb}
 use Rattle.ids.specs.declared.AtomId.{AtomId}
 use Rattle.refusal.specs.declared.Refusal.{Refusal}
 use Rattle.refusal.specs.declared.Refusal.the-variants.{ManyBonds, SelfBridge, RepeatedBond, SymbolClash}
 use Rattle.ids.specs.Limits.{maxText}
 use Rattle.table.specs.Limits.{maxAtoms, maxBonds}
+use Rattle.table.specs.Cells.{end1, end2}
+use Rattle.table.proofs.Keys.{never}
 use Rattle.table.specs.Rows.{withBond, putBond}
 use Rattle.table.specs.declared.Bond.{Bond}
 use Rattle.reading_state.specs.declared.Fields.{Fields}
@@ -28,7 +31,7 @@ use Rattle.reader.specs.declared.bridge.Why.{Why}
 use Rattle.reader.specs.declared.bridge.Closing.{Closing}
 use Rattle.reader.specs.Piece.{kindPending}
 use Rattle.reader.specs.Outcome.{Bounded}
-use Rattle.reader.specs.Bridge.{Closes, Bridges}
+use Rattle.reader.specs.Bridge.{Away, Closes, Bridges}
 
 module _ (bonds : List ℤ) (a b : ℕ) {m i : ℕ} (l : Left (λ j. not (joins bonds a b j)) m i) where
   pub found : i < m → joins bonds a b i ≡ true → true ≡ joinedAlready bonds m a b
@@ -41,6 +44,48 @@ module _ (bonds : List ℤ) (a b : ℕ) {m i : ℕ} (l : Left (λ j. not (joins 
   pub none-found : m ≤ i → false ≡ joinedAlready bonds m a b
   unfolding joinedAlready
   none-found h = sym (ap not (left-end l h))
+
+-- ---- second ends that are neither of two atoms
+or-left : (p q : Bool) → (p || q) ≡ false → p ≡ false
+or-left false q e = refl
+or-left true q e = e
+
+or-right : (p q : Bool) → (p || q) ≡ false → q ≡ false
+or-right false q e = e
+or-right true q e = never (sym e)
+
+or-neither : (p q : Bool) → p ≡ false → q ≡ false → (p || q) ≡ false
+or-neither false q d e = e
+or-neither true q d e = d
+
+pub was-not : (p : Bool) → not p ≡ true → p ≡ false
+was-not false e = refl
+was-not true e = never e
+
+no-join : (p q t u : Bool) → (t || u) ≡ false → ((p && u) || (q && t)) ≡ false
+no-join p q true u e = never (sym e)
+no-join p q false true e = never (sym e)
+no-join true true false false e = refl
+no-join true false false false e = refl
+no-join false true false false e = refl
+no-join false false false false e = refl
+
+module _ {bonds : List ℤ} {a b : ℕ} where
+  pub away-start : {c : Bool} → Away bonds a b 0 c
+  away-start = record { all = λ e k l. absurd (omega arith) }
+
+  pub away-step : {i : ℕ} {c : Bool} {y : ℕ} → y ≡ end2 bonds i → Away bonds a b i c → Away bonds a b (i + 1) ((c || eqb y a) || eqb y b)
+  away-step {i} {c} {y} d v = record { all = λ e k l. split e k l (ℕ-discrete k i) }
+    where
+      split : ((c || eqb y a) || eqb y b) ≡ false → (k : ℕ) → k < i + 1 → Dec (k ≡ i) → (eqb (end2 bonds k) a || eqb (end2 bonds k) b) ≡ false
+      split e k l (yes s) =
+          rw (s, ← d) (or-neither (eqb y a) (eqb y b) (or-right c (eqb y a) (or-left (c || eqb y a) (eqb y b) e)) (or-right (c || eqb y a) (eqb y b) e))
+      split e k l (no s) = v .all (or-left c (eqb y a) (or-left (c || eqb y a) (eqb y b) e)) k (omega arith)
+
+  pub away-none : {m : ℕ} → Away bonds a b m false → false ≡ joinedAlready bonds m a b
+  unfolding joinedAlready joins
+  away-none {m} v =
+      sym (ap not (each-all (λ i. not (joins bonds a b i)) m (λ j l. ap not (no-join (eqb (end1 bonds j) a) (eqb (end1 bonds j) b) (eqb (end2 bonds j) a) (eqb (end2 bonds j) b) (v .all refl j l)))))
 
 -- ---- the refusals of a bridge that closes
 module _ (bonds : List ℤ) (m u h j k : ℕ) where

@@ -1,6 +1,7 @@
 -- auxiliary: what a bridge promises
 use Prim.Native.Nat.{ℕ, _≤_, _<_}
 use mathlib.Core.Path.{_≡_}
+use mathlib.Core.Bool.{Bool, false, _||_}
 use mathlib.Core.List.{List}
 use lib.ListN.{getD, set}
 use lib.IntN.{ℤ}
@@ -9,6 +10,7 @@ use Rattle.loops.specs.Loop.{pick}
 use Rattle.refusal.specs.Code.{codeOf}
 use Rattle.reading_grammar.specs.Fold.{keeps, refuses}
 use Rattle.table.specs.Limits.{maxBonds}
+use Rattle.table.specs.Cells.{end2}
 use Rattle.reading_state.specs.State.{Steering, keysThen, joined}
 use Rattle.reading_state.specs.declared.Fields.{Fields}
 use Rattle.kinds.specs.Kind.{meet}
@@ -18,6 +20,10 @@ use Rattle.reading_fields.specs.Rest.{memory}
 use Rattle.reader.specs.declared.bridge.Why.{Why}
 use Rattle.reader.specs.declared.bridge.Closing.{Closing}
 use Rattle.reader.specs.Piece.{kindPending}
+
+-- where `near` is false, none of the first n bonds has one of the atoms a and b as its second end
+pub record Away (bonds : List ℤ) (a b n : ℕ) (near : Bool) : Type 0 where
+  pub all : near ≡ false → (k : ℕ) → k < n → (eqb (end2 bonds k) a || eqb (end2 bonds k) b) ≡ false
 
 -- a bridge that closes is refused as 01 refuses it, or has its bond, and there is room
 abbrev pub Closes : List ℤ → ℕ → ℕ → ℕ → ℕ → ℕ → Closing → Type 0

@@ -1,28 +1,32 @@
 // A bridge: it opens at the hub, or closes with a bond.
 ghost use mathlib.Core.Path.{_≡_};
 ghost use mathlib.Core.List.{List, []};
-ghost use Prim.Native.Nat.{ℕ, _≤_, _<_};
-ghost use Rattle.table.specs.Limits.{maxBonds};
+ghost use Prim.Native.Nat.{ℕ, _*_, _≤_, _<_};
+ghost use lib.ListN.{length};
+ghost use Rattle.table.specs.Limits.{maxBonds, bondCells};
 ghost use Rattle.ids.specs.Limits.{bridges, maxText};
 ghost use lib.Dec.{ltb};
 ghost use Rattle.loops.specs.Loop.{pick};
 ghost use Rattle.reading_state.specs.State.{steering, keyed};
 ghost use Rattle.reading.specs.Memory.{joins, joinedAlready, between};
 ghost use Rattle.reader.specs.Outcome.{Bounded, outcome, refusedAt};
-ghost use Rattle.reader.specs.Bridge.{Closes, Bridges};
+ghost use Rattle.reader.specs.Bridge.{Away, Closes, Bridges};
 use crate::atom::bond_of;
 use ids::AtomId;
 use ids::BRIDGES;
 use ids::BondId;
+use ids::SMALL;
 use reading_state::KEYS;
 use reading_state::Opening;
 use reading_state::State;
 use refusal::Refusal;
+use table::BOND_CELLS;
 use table::Bond;
 use table::FIRST;
 use table::MAX_BONDS;
 use table::SECOND;
 use table::cell::bond_number;
+use table::cell::number;
 use table_edits::put_bond;
 
 // How a part of a text went.
@@ -65,8 +69,23 @@ fn joins(bonds: &[i32], a: AtomId, b: AtomId, i: BondId) -> bool
     ((x == a.0) & (y == b.0)) | ((x == b.0) & (y == a.0))
 }
 
-// Whether one of the bonds before m joins two atoms.
-fn joined_already(bonds: &[i32], m: BondId, a: AtomId, b: AtomId) -> bool
+// Whether the second end of one of m bonds is one of two atoms: a look at each, without an early end.
+fn near(bonds: &[i32], m: usize, a: u16, b: u16) -> bool
+    requires { ⌜ (m ≤ maxBonds) × (bondCells * m ≤ length (now bonds)) ⌝ }
+    ensures { λ r. ⌜ Away (now (bonds .entry)) a b m r ⌝ }
+{
+    let mut found = false;
+    let mut i = 0;
+    while i < m {
+        let y = number(bonds[BOND_CELLS * i + SECOND]);
+        found = found | (y == a as usize) | (y == b as usize);
+        i += 1;
+    }
+    found
+}
+
+// Whether one of the bonds before m joins two atoms, one bond after the other.
+fn joined_among(bonds: &[i32], m: BondId, a: AtomId, b: AtomId) -> bool
     requires { ⌜ m .0 ≤ maxBonds ⌝ }
     ensures { λ r. ⌜ r ≡ joinedAlready (now (bonds .entry)) (m .0) (a .0) (b .0) ⌝ }
 {
@@ -78,6 +97,23 @@ fn joined_already(bonds: &[i32], m: BondId, a: AtomId, b: AtomId) -> bool
         i += 1;
     }
     false
+}
+
+// Whether one of the bonds before m joins two atoms; where there are many, the second ends are asked first.
+fn joined_already(bonds: &[i32], m: BondId, a: AtomId, b: AtomId) -> bool
+    requires { ⌜ m .0 ≤ maxBonds ⌝ }
+    requires { ⌜ (a .0 < 65536) × (b .0 < 65536) ⌝ }
+    ensures { λ r. ⌜ r ≡ joinedAlready (now (bonds .entry)) (m .0) (a .0) (b .0) ⌝ }
+{
+    if m.0 <= SMALL {
+        return joined_among(bonds, m, a, b);
+    }
+    if BOND_CELLS * m.0 <= bonds.len() {
+        if !near(bonds, m.0, a.0 as u16, b.0 as u16) {
+            return false;
+        }
+    }
+    joined_among(bonds, m, a, b)
 }
 
 // The bond between two atoms, its kind as seen from the first: the lower number first.

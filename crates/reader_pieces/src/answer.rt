@@ -1,7 +1,7 @@
 // What the calls hand back.
 ghost use mathlib.Core.Path.{_≡_};
 ghost use Rattle.reading_pieces.specs.State.{blankState};
-ghost use Rattle.reading_pieces.specs.Calls.{refusedIn};
+ghost use Rattle.reading_pieces.specs.Calls.{clearedFrom, refusedIn};
 ghost use Rattle.reader_pieces.specs.Answer.{fedIs, replied};
 use crate::Fed;
 use ids::BRIDGES;
@@ -9,7 +9,6 @@ use ids::MAX_ATOMS;
 use ids::MAX_DEPTH;
 use reading_pieces::Paused;
 use reading_state::KEYS;
-use table_edits::clear;
 
 // internal: every cell 0 but what was told.
 pub fn blank(told: u8, place: u16) -> Paused
@@ -57,11 +56,22 @@ pub fn reply(code: u8, place: usize, state: Paused) -> Fed
     }
 }
 
+// internal: zeroes a table from a cell on.
+pub fn clear_from(t: &mut [i32], from: usize)
+    ensures { λ _. ⌜ now (t .exit) ≡ clearedFrom from (now (t .entry)) ⌝ }
+{
+    let mut i = from;
+    while i < t.len() {
+        t[i] = 0;
+        i += 1;
+    }
+}
+
 // internal: a refusal, which zeroes both tables.
 pub fn refuse(code: u8, place: usize, state: Paused, atoms: &mut [i32], bonds: &mut [i32]) -> Fed
     ensures { λ r. ⌜ fedIs r (now (atoms .exit)) (now (bonds .exit)) ≡ refusedIn code place state (now (atoms .entry)) (now (bonds .entry)) ⌝ }
 {
-    clear(atoms);
-    clear(bonds);
+    clear_from(atoms, 0);
+    clear_from(bonds, 0);
     reply(code, place, state)
 }

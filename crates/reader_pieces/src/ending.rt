@@ -5,11 +5,11 @@ ghost use Rattle.table.specs.Valid.{enough};
 ghost use Rattle.reading_grammar.specs.Machine.{accepting};
 ghost use Rattle.reading_pieces.specs.State.{machineOf};
 ghost use Rattle.reading_pieces.specs.Broken.{brokenOf};
-ghost use Rattle.reading_pieces.specs.Calls.{clearedFrom};
 ghost use Rattle.reader_pieces.specs.Answer.{fedIs, concluded};
 use crate::ENDED;
 use crate::Fed;
 use crate::answer::blank;
+use crate::answer::clear_from;
 use crate::answer::reply;
 use ids::AtomId;
 use reader::ending::ReadAnswer;
@@ -19,17 +19,6 @@ use reading_pieces::Paused;
 use reading_state::State;
 use table::ATOM_CELLS;
 use table::BOND_CELLS;
-
-// Zeroes a table from a cell on.
-fn clear_from(t: &mut [i32], from: usize)
-    ensures { λ _. ⌜ now (t .exit) ≡ clearedFrom from (now (t .entry)) ⌝ }
-{
-    let mut i = from;
-    while i < t.len() {
-        t[i] = 0;
-        i += 1;
-    }
-}
 
 // internal: whether the bytes so far are a text: none, or a sequence that is complete.
 pub fn complete(p: Paused) -> bool

@@ -116,8 +116,8 @@ fn same_cell(atoms1: &[i32], a: AtomId, atoms2: &[i32], b: AtomId, f: usize) -> 
     cell::atom_within(atoms1, a, f, w, w)
 }
 
-// Whether the cells of an atom match those of another.
-fn same_cells(atoms1: &[i32], a: AtomId, atoms2: &[i32], b: AtomId) -> bool
+// internal: whether the cells of an atom match those of another.
+pub fn same_cells(atoms1: &[i32], a: AtomId, atoms2: &[i32], b: AtomId) -> bool
     requires { ⌜ (a .0 < maxAtoms) × (b .0 < maxAtoms) ⌝ }
     ensures { λ r. ⌜ r ≡ sameCells (atomsOnly (now (atoms1 .entry))) (atomsOnly (now (atoms2 .entry))) (a .0) (b .0) ⌝ }
 {

@@ -9,7 +9,7 @@ use lib.Dec.{eqb}
 use lib.ListN.{length, getD, drop, replicate, length-set, length-append, length-drop, length-replicate}
 use borrow.Author.Tests.{eqb-true}
 use Rattle.loops.specs.Loop.{pick, run, upTo}
-use Rattle.loops.proofs.Loops.{length-upTo, filled-at}
+use Rattle.loops.proofs.Loops.{length-upTo, upTo-at, filled-at}
 use Rattle.table.specs.Limits.{ELEMENT, ISOTOPE, HYDROGENS, CHARGE, EXTENSION}
 use Rattle.table.specs.Cells.{number, atomCell, end1, end2}
 use Rattle.table.specs.Valid.{Valid}
@@ -22,7 +22,7 @@ use Rattle.same_model.proofs.Totals.{total, run-more, run-total, total-same, to
 use Rattle.same_model.proofs.Single.{joined-total}
 use Rattle.same_keys.specs.Keys.{mixed, stirred, chargeNumber, firstKey, at, filledTo, mixedAt, joinKeys, spread, nextKeys, rounds, refined, keysOf, keySum}
 use Rattle.same_keys.proofs.Low.{bump-at}
-use Rattle.same_keys.proofs.Spreading.{join-length}
+use Rattle.same_keys.proofs.Spreading.{join-length, next-length}
 
 -- one bond: each of its ends adds what the other has
 module _ (mx : List ℕ) (e f : ℕ → ℕ) (a : ℕ) where
@@ -40,15 +40,6 @@ module _ (mx : List ℕ) (e f : ℕ → ℕ) (a : ℕ) where
   run-at k zero keys l = refl
   run-at k (suc j) keys l =
       run-at (suc k) j (joinKeys mx (e k) (f k) keys) (rw (join-length mx (e k) (f k) keys) l) ∙ ap (run (λ (i s : ℕ). s + adds i) (suc k) j) (join-at k keys l)
-
-run-length : (e f : ℕ → ℕ) (mx : List ℕ) (k j : ℕ) (keys : List ℕ) → length (run (spread e f mx) k j keys) ≡ length keys
-unfolding run
-run-length e f mx k zero keys = refl
-run-length e f mx k (suc j) keys = run-length e f mx (suc k) j (joinKeys mx (e k) (f k) keys) ∙ join-length mx (e k) (f k) keys
-
-next-length : (e f : ℕ → ℕ) (m n : ℕ) (keys : List ℕ) → length (nextKeys e f m n keys) ≡ length keys
-unfolding nextKeys
-next-length e f m n keys = run-length e f (filledTo (mixedAt keys) n) 0 m keys
 
 -- a bond has one other end
 pub other-end : (n a e f : ℕ) (g : ℕ → ℕ) → e < f → f < n → pick (eqb e a) (g f) 0 + pick (eqb f a) (g e) 0 ≡ total (λ b. pick ((eqb e a && eqb f b) || (eqb e b && eqb f a)) (g b) 0) n
@@ -72,29 +63,32 @@ other-end n a e f g l h = go (eqb e a) (eqb f a) refl refl
         omega (arith, total-same (λ b. pick ((false && eqb f b) || (eqb e b && true)) (g b) 0) (λ b. pick (eqb e b) (g b) 0) n (λ b i. keep b (eqb e b)) ∙ total-at e n g (omega arith))
     go false false p q = sym (total-none (λ b. pick ((false && eqb f b) || (eqb e b && false)) (g b) 0) n (λ b i. cut b false (eqb e b)))
 
--- a round of a molecule: each atom adds the mixed keys of those that it is joined to
-module _ (x : Molecule) (v : Valid (x .atoms) (x .bonds) (x .n) (x .m)) (few : x .n ≤ maxSame) where
+-- numbers spread over the bonds of a molecule: each atom adds those of the atoms that it is joined to
+module _ (x : Molecule) (v : Valid (x .atoms) (x .bonds) (x .n) (x .m)) where
+  adds-total : (mx : List ℕ) (a k : ℕ) → k < x .m → adds mx (end1 (x .bonds)) (end2 (x .bonds)) a k ≡ total (λ b. pick (joins x a b k) (at mx b) 0) (x .n)
+  unfolding joins
+  adds-total mx a k l = let r = bond-row v k l in other-end (x .n) a (end1 (x .bonds) k) (end2 (x .bonds) k) (at mx) (r .order) (r .second)
+
+  pub spread-at : (mx keys : List ℕ) (a : ℕ) → a < length keys → at (run (spread (end1 (x .bonds)) (end2 (x .bonds)) mx) 0 (x .m) keys) a ≡ at keys a + total (λ b. pick (joined x a b) (at mx b) 0) (x .n)
+  spread-at mx keys a l =
+      run-at mx (end1 (x .bonds)) (end2 (x .bonds)) a 0 (x .m) keys l
+      ∙ run-more (adds mx (end1 (x .bonds)) (end2 (x .bonds)) a) (x .m) (at keys a)
+      ∙ ap (λ (s : ℕ). at keys a + s)
+      (total-same (adds mx (end1 (x .bonds)) (end2 (x .bonds)) a) (λ k. total (λ b. pick (joins x a b k) (at mx b) 0) (x .n)) (x .m) (adds-total mx a)
+      ∙ sym (total-exchange (λ b k. pick (joins x a b k) (at mx b) 0) (x .n) (x .m))
+      ∙ total-same (λ b. total (λ k. pick (joins x a b k) (at mx b) 0) (x .m)) (λ b. pick (joined x a b) (at mx b) 0) (x .n) (λ b i. joined-total x v a b (at mx b)))
+
+  -- a round: they are the mixed keys
   abbrev pub next : List ℕ → List ℕ
   next keys = nextKeys (end1 (x .bonds)) (end2 (x .bonds)) (x .m) (x .n) keys
 
-  module _ (keys : List ℕ) (size : length keys ≡ maxSame) where
-    abbrev mx : List ℕ
-    mx = filledTo (mixedAt keys) (x .n)
-
-    adds-total : (a k : ℕ) → k < x .m → adds mx (end1 (x .bonds)) (end2 (x .bonds)) a k ≡ total (λ b. pick (joins x a b k) (at mx b) 0) (x .n)
-    unfolding joins
-    adds-total a k l = let r = bond-row v k l in other-end (x .n) a (end1 (x .bonds) k) (end2 (x .bonds) k) (at mx) (r .order) (r .second)
-
-    next-at : (a : ℕ) → a < x .n → at (next keys) a ≡ at keys a + total (λ b. pick (joined x a b) (mixedAt keys b) 0) (x .n)
-    unfolding nextKeys
-    next-at a l =
-        run-at mx (end1 (x .bonds)) (end2 (x .bonds)) a 0 (x .m) keys (omega arith)
-        ∙ run-more (adds mx (end1 (x .bonds)) (end2 (x .bonds)) a) (x .m) (at keys a)
-        ∙ ap (λ (s : ℕ). at keys a + s)
-        (total-same (adds mx (end1 (x .bonds)) (end2 (x .bonds)) a) (λ k. total (λ b. pick (joins x a b k) (at mx b) 0) (x .n)) (x .m) (adds-total a)
-        ∙ sym (total-exchange (λ b k. pick (joins x a b k) (at mx b) 0) (x .n) (x .m))
-        ∙ total-same (λ b. total (λ k. pick (joins x a b k) (at mx b) 0) (x .m)) (λ b. pick (joined x a b) (mixedAt keys b) 0) (x .n)
-        (λ b i. joined-total x v a b (at mx b) ∙ ap (λ (s : ℕ). pick (joined x a b) s 0) (filled-at (mixedAt keys) (x .n) b 0 mx (drop (x .n) (replicate maxSame 0)) refl i)))
+  pub next-at : (keys : List ℕ) (a : ℕ) → a < length keys → at (next keys) a ≡ at keys a + total (λ b. pick (joined x a b) (mixedAt keys b) 0) (x .n)
+  unfolding nextKeys
+  next-at keys a l =
+      let mx = upTo (mixedAt keys) 0 (x .n) in
+      spread-at mx keys a l
+      ∙ ap (λ (s : ℕ). at keys a + s)
+      (total-same (λ b. pick (joined x a b) (at mx b) 0) (λ b. pick (joined x a b) (mixedAt keys b) 0) (x .n) (λ b i. ap (λ (s : ℕ). pick (joined x a b) s 0) (upTo-at (mixedAt keys) (x .n) b 0 i)))
 
 -- an atom and its image have equal keys
 pub record Kept (n : ℕ) (t keys1 keys2 : List ℕ) : Type 0 where
@@ -112,15 +106,15 @@ module _ {x y : Molecule} (w : Redrawing x y) (v1 : Valid (x .atoms) (x .bonds) 
   pub below : (a : ℕ) → a < x .n → image t a < y .n
   below a l = let q = w .renumbers .below a l in let e : x .n ≡ y .n = w .counts in omega arith
 
-  next-kept : (keys1 keys2 : List ℕ) → Kept (x .n) t keys1 keys2 → Kept (x .n) t (next x v1 few keys1) (next y v2 few2 keys2)
+  next-kept : (keys1 keys2 : List ℕ) → Kept (x .n) t keys1 keys2 → Kept (x .n) t (next x v1 keys1) (next y v2 keys2)
   next-kept keys1 keys2 k =
       record {
         size1 = next-length (end1 (x .bonds)) (end2 (x .bonds)) (x .m) (x .n) keys1 ∙ k .size1;
         size2 = next-length (end1 (y .bonds)) (end2 (y .bonds)) (y .m) (y .n) keys2 ∙ k .size2;
         kept = λ a l.
-            next-at x v1 few keys1 (k .size1) a l
+            next-at x v1 keys1 a (omega (arith, k .size1))
             ∙ (λ i. k .kept a l i + same a l i)
-            ∙ sym (next-at y v2 few2 keys2 (k .size2) (image t a) (below a l));
+            ∙ sym (next-at y v2 keys2 (image t a) (let q = below a l in omega (arith, k .size2, few2)));
       }
     where
       same : (a : ℕ) → a < x .n → total (λ b. pick (joined x a b) (mixedAt keys1 b) 0) (x .n) ≡ total (λ b. pick (joined y (image t a) b) (mixedAt keys2 b) 0) (y .n)
@@ -130,10 +124,10 @@ module _ {x y : Molecule} (w : Redrawing x y) (v1 : Valid (x .atoms) (x .bonds) 
           ∙ ap (total (λ b. pick (joined y (image t a) b) (mixedAt keys2 b) 0)) (w .counts)
 
   pub rounds-kept : (k j : ℕ) (keys1 keys2 : List ℕ) → Kept (x .n) t keys1 keys2
-      → Kept (x .n) t (run (λ (i : ℕ) (s : List ℕ). next x v1 few s) k j keys1) (run (λ (i : ℕ) (s : List ℕ). next y v2 few2 s) k j keys2)
+      → Kept (x .n) t (run (λ (i : ℕ) (s : List ℕ). next x v1 s) k j keys1) (run (λ (i : ℕ) (s : List ℕ). next y v2 s) k j keys2)
   unfolding run
   rounds-kept k zero keys1 keys2 h = h
-  rounds-kept k (suc j) keys1 keys2 h = rounds-kept (suc k) j (next x v1 few keys1) (next y v2 few2 keys2) (next-kept keys1 keys2 h)
+  rounds-kept k (suc j) keys1 keys2 h = rounds-kept (suc k) j (next x v1 keys1) (next y v2 keys2) (next-kept keys1 keys2 h)
 
   -- the keys that atoms begin with
   first-kept : (a : ℕ) → a < x .n → firstKey (x .atoms) a (settledSum x a) ≡ firstKey (y .atoms) (image t a) (settledSum y (image t a))
@@ -149,7 +143,7 @@ module _ {x y : Molecule} (w : Redrawing x y) (v1 : Valid (x .atoms) (x .bonds) 
   pub keys-kept : Kept (x .n) t (keysOf x) (keysOf y)
   unfolding keysOf refined
   keys-kept =
-      subst (λ (k : ℕ). Kept (x .n) t (run (λ (i : ℕ) (s : List ℕ). next x v1 few s) 0 (rounds (x .n)) (filledTo first1 (x .n))) (run (λ (i : ℕ) (s : List ℕ). next y v2 few2 s) 0 (rounds k) (filledTo first2 (y .n)))) (w .counts)
+      subst (λ (k : ℕ). Kept (x .n) t (run (λ (i : ℕ) (s : List ℕ). next x v1 s) 0 (rounds (x .n)) (filledTo first1 (x .n))) (run (λ (i : ℕ) (s : List ℕ). next y v2 s) 0 (rounds k) (filledTo first2 (y .n)))) (w .counts)
       (rounds-kept 0 (rounds (x .n)) (filledTo first1 (x .n)) (filledTo first2 (y .n))
       (record {
         size1 = filled-length first1 (x .n) few;

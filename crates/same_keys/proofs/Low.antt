@@ -43,12 +43,15 @@ low-more w l = record { at = λ i. omega (arith, w .at i) }
 pub low-same : {o l : List ℕ} {h : ℕ} → o ≡ l → Low l h → Low o h
 low-same e w = rw e w
 
-pub zeros-low : (m h : ℕ) → Low (replicate m 0) h
-zeros-low m h = record { at = λ i. go i (ltb i m) refl }
+pub alike-low : (m v h : ℕ) → v ≤ h → Low (replicate m v) h
+alike-low m v h l = record { at = λ i. go i (ltb i m) refl }
   where
-    go : (i : ℕ) (z : Bool) → ltb i m ≡ z → getD (replicate {A = ℕ} m 0) i 0 ≤ h
-    go i true e = omega (arith, getD-replicate {A = ℕ} m i 0 0 (ltb-true i m e))
-    go i false e = omega (arith, List·getD-eq-default (replicate {A = ℕ} m 0) 0 {n = i} (omega (arith, length-replicate {A = ℕ} m 0, ltb-false i m e)))
+    go : (i : ℕ) (z : Bool) → ltb i m ≡ z → getD (replicate m v) i 0 ≤ h
+    go i true e = omega (arith, getD-replicate m i v 0 (ltb-true i m e))
+    go i false e = omega (arith, List·getD-eq-default (replicate m v) 0 {n = i} (omega (arith, length-replicate m v, ltb-false i m e)))
+
+pub zeros-low : (m h : ℕ) → Low (replicate m 0) h
+zeros-low m h = alike-low m 0 h (omega arith)
 
 -- lists put together
 pub low-append : (s t : List ℕ) (h : ℕ) → Low s h → Low t h → Low (s ++ t) h

@@ -21,8 +21,8 @@ use Rattle.same_place.specs.Place.{entry}
 use Rattle.same_keys.specs.Keys.{prime, firstKey, at, filledTo, nextKeys, rounds, refined, keysOf, apartBy, pairRounds, pairLimit, toldApart, pairCell, setCell, rowFilled, pairsFilled, pairsOf, pairKey, Low, highest}
 use Rattle.same_keys.proofs.Low.{bump-at, low-more, low-filled, zeros-low}
 use Rattle.same_keys.proofs.Mixing.{first-key-low}
-use Rattle.same_keys.proofs.Spreading.{refined-low}
-use Rattle.same_keys.proofs.Filling.{first-at, second-at, refined-agree, run-agree}
+use Rattle.same_keys.proofs.Spreading.{refined-low, run-agree}
+use Rattle.same_keys.proofs.Filling.{first-at, second-at, refined-agree}
 use Rattle.same_keys.proofs.Kept.{Kept, t, few2, below, rounds-kept, keys-kept}
 
 -- the keys of a molecule stay low
@@ -127,7 +127,7 @@ module _ (x : Molecule) (keys : List ℕ) where
       r
       ∙ run-agree (λ (a : ℕ) (s : List ℕ). rowFilled (x .n) (pairCell (refined (at ea) (at eb) (x .m) (x .n) pairRounds (bump keys a apartBy))) a s)
       (λ (a : ℕ) (s : List ℕ). rowFilled (x .n) (pairCell (refined (end1 (x .bonds)) (end2 (x .bonds)) (x .m) (x .n) pairRounds (bump keys a apartBy))) a s) 0 (x .n) p₀
-      (λ a s l. ap (λ (z : List ℕ). rowFilled (x .n) (pairCell z) a s) (refined-agree (at ea) (at eb) (end1 (x .bonds)) (end2 (x .bonds)) (x .m) (x .n) (first-at v few w) (second-at v few w) pairRounds (bump keys a apartBy)))
+      (λ a s l. ap (λ (z : List ℕ). rowFilled (x .n) (pairCell z) a s) (refined-agree (at ea) (at eb) (end1 (x .bonds)) (end2 (x .bonds)) (x .m) (x .n) (first-at w) (second-at w) pairRounds (bump keys a apartBy)))
       ∙ rw (e, q)
 
   pub pairs-at : (on : Bool) → x .n ≤ maxSame → (a b : ℕ) → a < x .n → b < x .n → entry (pairsOf on x keys) a b ≡ 4 * pairKey on x keys a b

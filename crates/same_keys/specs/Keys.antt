@@ -3,7 +3,7 @@ use Prim.Native.Nat.{ℕ, _+_, _*_, _<_, _≤_, _/_, _%_}
 use mathlib.Core.Path.{_≡_}
 use mathlib.Core.Bool.{Bool}
 use mathlib.Core.List.{List, _++_}
-use lib.ListN.{getD, set, drop, replicate}
+use lib.ListN.{length, getD, set, drop, replicate}
 use lib.IntN.{ℤ, pos, negsuc}
 use Rattle.loops.specs.Loop.{pick, run, upTo}
 use Rattle.table.specs.Limits.{maxBonds, ELEMENT, ISOTOPE, HYDROGENS, CHARGE, EXTENSION}
@@ -59,7 +59,7 @@ spread e f mx k keys = joinKeys mx (e k) (f k) keys
 
 -- one round
 unfoldable pub nextKeys : (ℕ → ℕ) → (ℕ → ℕ) → ℕ → ℕ → List ℕ → List ℕ
-nextKeys e f m n keys = run (spread e f (filledTo (mixedAt keys) n)) 0 m keys
+nextKeys e f m n keys = run (spread e f (upTo (mixedAt keys) 0 n)) 0 m keys
 
 -- r rounds
 unfoldable pub refined : (ℕ → ℕ) → (ℕ → ℕ) → ℕ → ℕ → ℕ → List ℕ → List ℕ
@@ -124,8 +124,10 @@ pub record Low (o : List ℕ) (h : ℕ) : Type 0 where
 abbrev pub highest : ℕ → ℕ
 highest r = prime * (1 + 2 * maxBonds * r)
 
--- m bonds whose ends are below maxSame, in two lists
-pub record Inside (ea eb : List ℕ) (m : ℕ) : Type 0 where
+-- m bonds whose ends are below h, in two lists
+pub record Inside (ea eb : List ℕ) (m h : ℕ) : Type 0 where
   pub few : m ≤ maxBonds
-  pub first : (k : ℕ) → k < m → getD ea k 0 < maxSame
-  pub second : (k : ℕ) → k < m → getD eb k 0 < maxSame
+  pub firsts : m ≤ length ea
+  pub seconds : m ≤ length eb
+  pub first : (k : ℕ) → k < m → getD ea k 0 < h
+  pub second : (k : ℕ) → k < m → getD eb k 0 < h

@@ -61,8 +61,8 @@ fn first_key(atoms: &[i32], a: AtomId, sum: u64) -> u64
     stir(c, cell::atom_number(atoms, a, EXTENSION) as u64)
 }
 
-// Two numbers added, as a wider one.
-fn plus(x: u16, y: u8) -> u64
+// internal: two numbers added, as a wider one.
+pub fn plus(x: u16, y: u8) -> u64
     ensures { λ r. ⌜ r ≡ x + y ⌝ }
 {
     x as u64 + y as u64
@@ -86,9 +86,9 @@ fn fill_first(
     }
 }
 
-// The keys of n atoms, each mixed.
-fn mix_all(keys: &[u64; SIDE], n: usize, mixed: &mut [u64; SIDE])
-    requires { ⌜ (n ≤ maxSame) × (maxSame ≤ length (now mixed)) ⌝ }
+// internal: the keys of n atoms, each mixed.
+pub fn mix_all(keys: &[u64], n: usize, mixed: &mut [u64])
+    requires { ⌜ (n ≤ length (now keys)) × (n ≤ length (now mixed)) ⌝ }
     ensures { λ _. ⌜ now (mixed .exit) ≡ upTo (mixedAt (now (keys .entry))) 0 n ++ drop n (now (mixed .entry)) ⌝ }
 {
     let mut i = 0;
@@ -99,8 +99,9 @@ fn mix_all(keys: &[u64; SIDE], n: usize, mixed: &mut [u64; SIDE])
 }
 
 // Each of two atoms that are joined adds the other's mixed key to its own.
-fn join(keys: &mut [u64; SIDE], mixed: &[u64; SIDE], a: usize, b: usize)
-    requires { ⌜ (a < maxSame) × (b < maxSame) ⌝ }
+fn join(keys: &mut [u64], mixed: &[u64], a: usize, b: usize)
+    requires { ⌜ (a < length (now keys)) × (b < length (now keys)) ⌝ }
+    requires { ⌜ (a < length (now mixed)) × (b < length (now mixed)) ⌝ }
     requires { ⌜ Low (now mixed) prime × Low (now keys) (highest 80) ⌝ }
     ensures { λ _. ⌜ now (keys .exit) ≡ joinKeys (now (mixed .entry)) a b (now (keys .entry)) ⌝ }
 {
@@ -108,15 +109,9 @@ fn join(keys: &mut [u64; SIDE], mixed: &[u64; SIDE], a: usize, b: usize)
     keys[b] += mixed[a];
 }
 
-// The same over m bonds.
-fn spread(
-    ea: &[u16; MAX_BONDS],
-    eb: &[u16; MAX_BONDS],
-    m: usize,
-    mixed: &[u64; SIDE],
-    keys: &mut [u64; SIDE],
-)
-    requires { ⌜ Inside (now ea) (now eb) m ⌝ }
+// internal: the same over m bonds.
+pub fn spread(ea: &[u16], eb: &[u16], m: usize, mixed: &[u64], keys: &mut [u64])
+    requires { ⌜ Inside (now ea) (now eb) m (length (now mixed)) × Inside (now ea) (now eb) m (length (now keys)) ⌝ }
     requires { ⌜ Low (now mixed) prime × Low (now keys) (highest 78) ⌝ }
     ensures { λ _. ⌜ now (keys .exit) ≡ run (spread (at (now (ea .entry))) (at (now (eb .entry))) (now (mixed .entry))) 0 m (now (keys .entry)) ⌝ }
 {
@@ -127,39 +122,36 @@ fn spread(
     }
 }
 
-// One round: each of n atoms adds the mixed keys of those that it is joined to.
-fn next_keys(
-    ea: &[u16; MAX_BONDS],
-    eb: &[u16; MAX_BONDS],
-    m: usize,
-    n: usize,
-    keys: &mut [u64; SIDE],
-)
-    requires { ⌜ Inside (now ea) (now eb) m ⌝ }
-    requires { ⌜ (n ≤ maxSame) × Low (now keys) (highest 76) ⌝ }
+// One round: each of n atoms adds the mixed keys, in a buffer, of those that it is joined to.
+fn next_keys(ea: &[u16], eb: &[u16], m: usize, n: usize, mixed: &mut [u64], keys: &mut [u64])
+    requires { ⌜ Inside (now ea) (now eb) m n ⌝ }
+    requires { ⌜ (n ≤ length (now mixed)) × (n ≤ length (now keys)) ⌝ }
+    requires { ⌜ Low (now mixed) prime × Low (now keys) (highest 76) ⌝ }
     ensures { λ _. ⌜ now (keys .exit) ≡ nextKeys (at (now (ea .entry))) (at (now (eb .entry))) m n (now (keys .entry)) ⌝ }
+    ensures { λ _. ⌜ Low (now (mixed .exit)) prime ⌝ }
 {
-    let mut mixed = [0u64; SIDE];
-    mix_all(keys, n, &mut mixed);
-    spread(ea, eb, m, &mixed, keys);
+    mix_all(keys, n, mixed);
+    spread(ea, eb, m, mixed, keys);
 }
 
-// r rounds.
-fn refine(
-    ea: &[u16; MAX_BONDS],
-    eb: &[u16; MAX_BONDS],
+// internal: r rounds.
+pub fn refine(
+    ea: &[u16],
+    eb: &[u16],
     m: usize,
     n: usize,
     r: usize,
-    keys: &mut [u64; SIDE],
+    mixed: &mut [u64],
+    keys: &mut [u64],
 )
-    requires { ⌜ Inside (now ea) (now eb) m ⌝ }
-    requires { ⌜ (n ≤ maxSame) × (r ≤ 40) × Low (now keys) (highest 34) ⌝ }
+    requires { ⌜ Inside (now ea) (now eb) m n ⌝ }
+    requires { ⌜ (n ≤ length (now mixed)) × (n ≤ length (now keys)) ⌝ }
+    requires { ⌜ (r ≤ 40) × Low (now mixed) prime × Low (now keys) (highest 34) ⌝ }
     ensures { λ _. ⌜ now (keys .exit) ≡ refined (at (now (ea .entry))) (at (now (eb .entry))) m n r (now (keys .entry)) ⌝ }
 {
     let mut i = 0;
     while i < r {
-        next_keys(ea, eb, m, n, keys);
+        next_keys(ea, eb, m, n, mixed, keys);
         i += 1;
     }
 }
@@ -178,7 +170,8 @@ pub fn fill_keys(atoms: &[i32], bonds: &[i32], n: usize, m: usize, keys: &mut [u
     table_graph::wire(bonds, m, &mut ea, &mut eb, &mut el, &mut sums);
     table_graph::fill_flags(atoms, &sums, n, &mut flags);
     fill_first(atoms, &sums, &flags, n, keys);
-    refine(&ea, &eb, m, n, n / 2 + 1, keys);
+    let mut mixed = [0u64; SIDE];
+    refine(&ea, &eb, m, n, n / 2 + 1, &mut mixed, keys);
 }
 
 // The keys of n atoms with one of them told apart, refined again.
@@ -190,12 +183,13 @@ fn tell_apart(
     a: usize,
     keys: &mut [u64; SIDE],
 )
-    requires { ⌜ Inside (now ea) (now eb) m ⌝ }
+    requires { ⌜ Inside (now ea) (now eb) m n ⌝ }
     requires { ⌜ (n ≤ maxSame) × (a < maxSame) × Low (now keys) (highest 33) ⌝ }
     ensures { λ _. ⌜ now (keys .exit) ≡ toldApart (at (now (ea .entry))) (at (now (eb .entry))) m n (now (keys .entry)) a ⌝ }
 {
     keys[a] += 1000003;
-    refine(ea, eb, m, n, 8, keys);
+    let mut mixed = [0u64; SIDE];
+    refine(ea, eb, m, n, 8, &mut mixed, keys);
 }
 
 // The cell of a pair, from a key.
@@ -227,7 +221,7 @@ fn pair_row(
     keys: &[u64; SIDE],
     pairs: &mut [u16; CELLS],
 )
-    requires { ⌜ Inside (now ea) (now eb) m ⌝ }
+    requires { ⌜ Inside (now ea) (now eb) m n ⌝ }
     requires { ⌜ (n ≤ maxSame) × (a < maxSame) × Low (now keys) (highest 33) ⌝ }
     ensures { λ _. ⌜ now (pairs .exit) ≡ rowFilled n (pairCell (toldApart (at (now (ea .entry))) (at (now (eb .entry))) m n (now (keys .entry)) a)) a (now (pairs .entry)) ⌝ }
 {
@@ -245,7 +239,7 @@ fn pair_rows(
     keys: &[u64; SIDE],
     pairs: &mut [u16; CELLS],
 )
-    requires { ⌜ Inside (now ea) (now eb) m ⌝ }
+    requires { ⌜ Inside (now ea) (now eb) m n ⌝ }
     requires { ⌜ (n ≤ maxSame) × Low (now keys) (highest 33) ⌝ }
     ensures { λ _. ⌜ now (pairs .exit) ≡ pairsFilled (at (now (ea .entry))) (at (now (eb .entry))) m n (now (keys .entry)) (now (pairs .entry)) ⌝ }
 {

@@ -34,7 +34,7 @@ wire-requires c κs = let s = c .before .before .before .before .before in
 
 pair-rows-requires : tie.Need-pair-rows-requires
 pair-rows-requires c κs = let s = c .before .before .before .before .before .before .before .before .before .before .before .before .before in
-    (inside (s .pre .0) (s .pre .1 .0 .0) (c .before .before .before .before .before .before .before .wire .ensures .0), (s .pre .1 .0 .0, low-same (s .pre .1 .0 .1) (keys-low _ (s .pre .0) (s .pre .1 .0 .0))))
+    (let x = c .before .before .before .before .before .before .before .wire in inside (s .pre .0) (x .ensures .0) (omega (arith, s .pre .0 .few-bonds, x .kept .1 .1 .0)) (omega (arith, s .pre .0 .few-bonds, x .kept .1 .1 .1 .0)), (s .pre .1 .0 .0, low-same (s .pre .1 .0 .1) (keys-low _ (s .pre .0) (s .pre .1 .0 .0))))
 
 returns-2 : tie.Need-returns-2
 returns-2 c = let s = c .before .before .before .before .before .before .before .before .before .before .before .before .before .before in

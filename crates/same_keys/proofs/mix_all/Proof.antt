@@ -1,5 +1,5 @@
 -- `same_keys::mix_all` meets its contract. Assumes nothing.
-use Prim.Native.Nat.{_-_, _*_, _≤_}
+use Prim.Native.Nat.{_-_}
 use native.Mathlib.Omega.{arith}
 use Rattle.loops.proofs.Loops.{Edited, fills, edited-start, filled-step, filled-end}
 use Rattle.same_keys.specs.Keys.{mixedAt}
@@ -18,8 +18,8 @@ loop-holds c = edited-start
 mul-mix : tie.Need-mul-mix Inv-loop μ-loop
 mul-mix c = omega arith
 
-element-copy-out-mix : tie.Need-element-copy-out-mix Inv-loop μ-loop
-element-copy-out-mix c = omega arith
+shared-slice-read-mix : tie.Need-shared-slice-read-mix Inv-loop μ-loop
+shared-slice-read-mix c = omega arith
 
 mix-requires : tie.Need-mix-requires Inv-loop μ-loop
 mix-requires c κs = tt
@@ -27,8 +27,8 @@ mix-requires c κs = tt
 mul-mixed : tie.Need-mul-mixed Inv-loop μ-loop
 mul-mixed c = omega arith
 
-element-write-mixed : tie.Need-element-write-mixed Inv-loop μ-loop
-element-write-mixed c = omega arith
+slice-write-mixed : tie.Need-slice-write-mixed Inv-loop μ-loop
+slice-write-mixed c = omega arith
 
 add-i : tie.Need-add-i Inv-loop μ-loop
 add-i c = omega arith
@@ -39,8 +39,11 @@ loop-less c = omega arith
 loop-again : tie.Need-loop-again Inv-loop μ-loop
 loop-again c = filled-step (c .before .before .before .loop .inv) _ (c .before .before .loop-test .taken) (c .mix .ensures)
 
+same-length : tie.Need-same-length Inv-loop μ-loop
+same-length c = c .before .loop .inv .room
+
 returns : tie.Need-returns Inv-loop μ-loop
-returns c = filled-end (c .before .loop .inv) (omega (arith, c .before .before .pre)) (c .loop-test .left)
+returns c = filled-end (c .before .loop .inv) (c .before .before .before .before .pre .1) (c .loop-test .left)
 
 pub mix-all-spec : {M : Type 1} → statement M
 mix-all-spec =
@@ -50,11 +53,12 @@ mix-all-spec =
     μ-loop
     loop-holds
     mul-mix
-    element-copy-out-mix
+    shared-slice-read-mix
     mix-requires
     mul-mixed
-    element-write-mixed
+    slice-write-mixed
     add-i
     loop-less
     loop-again
+    same-length
     returns)

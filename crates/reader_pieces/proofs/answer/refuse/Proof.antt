@@ -2,11 +2,11 @@ use borrow.Author.Needs.{needs}
 use Rattle.reader_pieces.proofs.answer.refuse.Statement.{statement}
 use Rattle.reader_pieces.proofs.answer.refuse.Tie as tie
 
-clear-requires : tie.Need-clear-requires
-clear-requires c κs = search needs
+clear-from-requires : tie.Need-clear-from-requires
+clear-from-requires c κs = search needs
 
-clear-requires-2 : tie.Need-clear-requires-2
-clear-requires-2 c κs = search needs
+clear-from-requires-2 : tie.Need-clear-from-requires-2
+clear-from-requires-2 c κs = search needs
 
 reply-requires : tie.Need-reply-requires
 reply-requires c κs = search needs
@@ -18,9 +18,15 @@ same-length-2 : tie.Need-same-length-2
 same-length-2 c = search needs
 
 returns : tie.Need-returns
-returns c = rw (c .reply .ensures, c .before .before .before .before .before .clear .ensures, c .before .before .clear2 .ensures)
+returns c = rw (c .reply .ensures, c .before .before .before .before .before .clear-from .ensures, c .before .before .clear-from2 .ensures)
 
 pub refuse-spec : {M : Type 1} → statement M
 refuse-spec =
     tie.close
-    (tie.spec clear-requires clear-requires-2 reply-requires same-length same-length-2 returns)
+    (tie.spec
+    clear-from-requires
+    clear-from-requires-2
+    reply-requires
+    same-length
+    same-length-2
+    returns)

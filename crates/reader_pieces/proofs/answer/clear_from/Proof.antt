@@ -2,8 +2,8 @@ use Prim.Native.Nat.{_-_}
 use native.Mathlib.Omega.{arith}
 use lib.ListN.{length}
 use Rattle.reader_pieces.proofs.Cleared.{Clearing, clearing-start, clearing-step, clearing-end}
-use Rattle.reader_pieces.proofs.ending.clear_from.Statement.{statement}
-use Rattle.reader_pieces.proofs.ending.clear_from.Tie as tie
+use Rattle.reader_pieces.proofs.answer.clear_from.Statement.{statement}
+use Rattle.reader_pieces.proofs.answer.clear_from.Tie as tie
 
 abbrev Inv-loop : tie.InvT-loop
 Inv-loop t₀ from i₀ t i = Clearing t₀ from i t

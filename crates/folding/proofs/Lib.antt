@@ -1,0 +1,12 @@
+pub mod Ranks
+pub mod Packed
+pub mod Bared
+pub mod Neighbours
+pub mod Plain
+pub mod Merged
+pub mod Sums
+pub mod Ranked
+pub mod Again
+pub mod Claims
+pub mod Links
+pub mod Paths
