@@ -2,11 +2,12 @@
 ghost use mathlib.Core.Path.{_≡_};
 ghost use Rattle.withdrawal.specs.Withdrawal.{withdrew, withdrawOf};
 use reader::ending::ReadAnswer;
-
 use table::ATOM_CELLS;
 use table::BOND_CELLS;
 use table::MAX_ATOMS;
 use table::MAX_BONDS;
+
+pub mod verdict;
 
 // The length of a register.
 const SIZE: usize = 32768;
