@@ -8,6 +8,7 @@ use table::MAX_ATOMS;
 use table::MAX_BONDS;
 
 pub mod verdict;
+pub mod walk;
 
 // The length of a register.
 const SIZE: usize = 32768;
