@@ -1,32 +1,29 @@
 -- Where no atom folds, nothing changes; and of what was folded no atom folds. Assumes nothing.
 use mathlib.Core.Path.{_≡_, refl, sym, ap, _∙_}
-use mathlib.Core.Bool.{Bool, true, false, _&&_, not}
-use mathlib.Core.List.{List}
+use mathlib.Core.Bool.{Bool, true, false, _&&_}
 use Prim.Native.Nat.{ℕ, zero, suc, _+_, _*_, _<_, _≤_}
 use native.Mathlib.Omega.{arith}
 use lib.Dec.{eqb, ltb}
-use lib.ListN.{length, getD}
+use lib.ListN.{getD}
 use lib.IntN.{ℤ, pos}
 use borrow.Author.Tests.{eqb-true, eqb-false, eq-eqb, ltb-true, ltb-false, not-true}
 use Rattle.loops.specs.Loop.{pick}
-use Rattle.loops.proofs.Loops.{and-left, and-right}
 use Rattle.kinds.specs.Kind.{isMark}
-use Rattle.table.specs.Limits.{atomCells, bondCells, ELEMENT, SELECTED, ISOTOPE, HYDROGENS, CHARGE, EXTENSION, MARK, FIRST, SECOND, KIND}
-use Rattle.table.specs.Cells.{number, atomPlace, atomCell, bondCell, hydrogens, end1, end2, kind}
+use Rattle.table.specs.Limits.{atomCells, bondCells, ELEMENT, SELECTED, ISOTOPE, HYDROGENS, CHARGE, EXTENSION, MARK}
+use Rattle.table.specs.Cells.{number, atomCell, hydrogens, end1, end2, kind}
 use Rattle.table.specs.Rows.{atomRow, cellsOf, bondCellsOf}
-use Rattle.table.specs.Valid.{Valid}
 use Rattle.table.proofs.Valid.{atom-row, bond-row, bond-fine-back, range-pos, first-end, second-end}
 use Rattle.table.proofs.Keys.{bond-ends}
-use Rattle.matching.proofs.Graph.{never, and-intro}
+use Rattle.matching.proofs.Graph.{and-intro}
 use Rattle.table_graph.specs.Graph.{bondSum}
 use Rattle.same_model.specs.Same.{Molecule, orderBetween}
 use Rattle.same_model.proofs.Totals.{total}
-use Rattle.folding.specs.Folding.{baredAtoms, baredBonds, bared, isCell, neighbour, plainHydrogen, folds, foldInto, foldedTo, goes, stays, newAtom, bondStays, newBond, movedBond, merged, Complete}
+use Rattle.folding.specs.Folding.{bared, isCell, neighbour, plainHydrogen, folds, foldInto, foldedTo, goes, stays, newAtom, bondStays, newBond, movedBond, merged, Complete}
 use Rattle.folding.proofs.Ranks.{rank-all}
 use Rattle.folding.proofs.Packed.{packed-same}
 use Rattle.folding.proofs.Bared.{atoms-same, bonds-same, atoms-extension, atoms-mark, bonds-unmarked}
 use Rattle.folding.proofs.Neighbours.{sum-degree, neighbour-below, lone-order}
-use Rattle.folding.proofs.Plain.{is-cell, cell-is, Plain, plain-facts, plain-test, to-none, to-more, gained, to-count, goes-when}
+use Rattle.folding.proofs.Plain.{Plain, plain-facts, plain-test, to-none, to-more, gained, to-count, goes-when}
 use Rattle.folding.proofs.Merged.{row-cell, old, oldBond, old-at, old-bond, merged-field, merged-hydrogens, merged-kind, merged-complete, merged-order}
 use Rattle.folding.proofs.Sums.{merged-sum}
 

@@ -1,8 +1,8 @@
 -- Bare tables: extensions and marks are 0, no bond is marked, and all else is as it was. Assumes nothing.
 use mathlib.Core.Path.{_≡_, refl, sym, ap, _∙_}
-use mathlib.Core.Bool.{Bool, true, false, _&&_, _||_, not}
+use mathlib.Core.Bool.{Bool, true, false, _||_, not}
 use mathlib.Core.List.{List}
-use Prim.Native.Nat.{ℕ, zero, suc, _+_, _*_, _<_, _≤_}
+use Prim.Native.Nat.{ℕ, zero, suc, _+_, _<_, _≤_}
 use native.Mathlib.Omega.{arith}
 use lib.Dec.{eqb, ltb}
 use lib.ListN.{length, getD, set, length-set, List·getD-eq-default}
@@ -15,13 +15,12 @@ use Rattle.kinds.specs.Kind.{elided, single, maxKind, isMark, order}
 use Rattle.table.specs.Limits.{atomCells, bondCells, ELEMENT, SELECTED, ISOTOPE, HYDROGENS, CHARGE, EXTENSION, MARK, FIRST, SECOND, KIND}
 use Rattle.table.specs.Cells.{number, inRange, atomPlace, bondPlace, atomCell, bondCell, end1, end2, kind, touches}
 use Rattle.table.specs.Valid.{selectedOk, sameEnds, fresh, distinct, atomOk, bondOk, Valid}
-use Rattle.table.specs.Sound.{bondDegree}
 use Rattle.table.proofs.Valid.{range-of, AtomFine, atom-row, atom-fine-back, BondFine, bond-row, bond-fine-back}
-use Rattle.table.proofs.Sound.{run-last, degree-same}
+use Rattle.table.proofs.Sound.{run-last}
 use Rattle.table_graph.specs.Graph.{share, bondSum, delocalizedAt, flag}
 use Rattle.same_model.specs.Same.{Molecule, joins, orderBetween}
 use Rattle.same_model.specs.Redrawing.{settledSum, joined}
-use Rattle.same_model.proofs.Totals.{total, total-same}
+use Rattle.same_model.proofs.Totals.{total-same}
 use Rattle.same_model.proofs.Orders.{between, order-total, sum-total}
 use Rattle.folding.specs.Folding.{bareAtom, baredAtoms, bareBond, baredBonds, bared, Complete}
 
@@ -224,9 +223,6 @@ module _ (x : Molecule) where
       sum-total (y .bonds) (x .m) a
       ∙ total-same (share (y .bonds) a) (share (x .bonds) a) (x .m) (λ b l. rw (bared-touches a b, bared-order b l))
       ∙ sym (sum-total (x .bonds) (x .m) a)
-
-  pub bared-degree : (a : ℕ) → bondDegree (y .bonds) (x .m) a ≡ bondDegree (x .bonds) (x .m) a
-  bared-degree a = degree-same (y .bonds) (x .bonds) (x .m) a (λ b l. bared-touches a b)
 
   pub bared-between : (a b : ℕ) → orderBetween y a b ≡ orderBetween x a b
   bared-between a b =

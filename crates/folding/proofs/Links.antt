@@ -1,22 +1,21 @@
 -- Folding as the code does it: links tell the neighbours of atoms with one single bond, and new numbers who stays; rows moved by them are those of the definition. Assumes nothing.
 use mathlib.Core.Path.{_≡_, refl, sym, ap, _∙_}
-use mathlib.Core.Bool.{Bool, true, false, _&&_, _||_, not}
+use mathlib.Core.Bool.{Bool, true, false, _&&_, not}
 use mathlib.Core.List.{List, [], _∷_, _++_}
 use Prim.Native.Nat.{ℕ, zero, suc, _+_, _*_, _-_, _<_, _≤_}
 use native.Mathlib.Omega.{arith}
 use native.Mathlib.Numerals.{add-one}
-use native.Mathlib.Nat.{add-zero}
 use lib.Dec.{eqb, leb, ltb}
-use lib.ListN.{length, getD, set, drop, replicate, length-set, List·getD-append}
+use lib.ListN.{length, getD, set, replicate, length-set}
 use lib.Seq.{sets, getD-set-same, getD-set-other, ext-getD}
-use lib.IntN.{ℤ, pos}
-use borrow.Author.Tests.{eqb-true, eqb-false, eq-eqb, ne-eqb, le-leb, lt-ltb, le-ltb, not-true}
-use Rattle.loops.specs.Loop.{pick, each, run, upTo, howMany}
+use lib.IntN.{ℤ}
+use borrow.Author.Tests.{eqb-true, eqb-false, ne-eqb, le-leb, lt-ltb, le-ltb, not-true}
+use Rattle.loops.specs.Loop.{pick, run, upTo, howMany}
 use Rattle.loops.proofs.Loops.{length-upTo, upTo-at, each-at, filled-at}
 use Rattle.loops.proofs.Counting.{many-same}
-use Rattle.kinds.specs.Kind.{order, maxKind}
+use Rattle.kinds.specs.Kind.{order}
 use Rattle.table.specs.Limits.{maxAtoms, atomCells, bondCells, ELEMENT, FIRST, SECOND, KIND}
-use Rattle.table.specs.Cells.{number, atomCell, bondCell, element, hydrogens, end1, end2, kind, touches}
+use Rattle.table.specs.Cells.{number, bondCell, element, hydrogens, end1, end2, kind, touches}
 use Rattle.table.specs.declared.Atom.{Atom}
 use Rattle.table.specs.declared.Bond.{Bond}
 use Rattle.table.specs.Rows.{atomRow, cellsOf, bondCellsOf, withAtom, withBond}

@@ -1,28 +1,26 @@
 -- The molecule of those that stay: its cells, its validity, and the orders between its atoms, by the numbers that they had. Assumes nothing.
 use mathlib.Core.Path.{_≡_, refl, sym, ap, _∙_}
-use mathlib.Core.Bool.{Bool, true, false, _&&_, _||_, not}
+use mathlib.Core.Bool.{Bool, true, false, _&&_, not}
 use mathlib.Core.List.{List}
 use Prim.Native.Nat.{ℕ, zero, suc, _+_, _*_, _<_, _≤_}
 use native.Mathlib.Omega.{arith}
-use lib.Dec.{eqb, leb}
+use lib.Dec.{eqb}
 use lib.ListN.{length, getD}
 use lib.IntN.{ℤ, pos}
-use lib.Signed.{leZ}
-use borrow.Author.Tests.{eqb-true, eq-eqb, le-leb, not-true}
-use Rattle.loops.specs.Loop.{pick, howMany}
+use borrow.Author.Tests.{eqb-true, eq-eqb, le-leb}
+use Rattle.loops.specs.Loop.{pick}
 use Rattle.loops.proofs.Loops.{and-left, and-right, each-all}
 use Rattle.kinds.specs.Kind.{order}
 use Rattle.table.specs.Limits.{atomCells, bondCells, ELEMENT, SELECTED, ISOTOPE, HYDROGENS, CHARGE, EXTENSION, MARK, FIRST, SECOND, KIND}
 use Rattle.table.specs.Cells.{number, atomCell, bondCell, hydrogens, end1, end2, kind}
 use Rattle.table.specs.Rows.{atomRow, cellsOf, bondCellsOf}
-use Rattle.table.specs.declared.Bond.{Bond}
 use Rattle.table.specs.Valid.{selectedOk, sameEnds, fresh, distinct, atomOk, bondOk, Valid}
-use Rattle.table.proofs.Valid.{range-of, AtomFine, atom-row, atom-fine-back, BondFine, bond-row, bond-fine-back, first-end, second-end, apart-at}
+use Rattle.table.proofs.Valid.{range-of, AtomFine, atom-row, atom-fine-back, BondFine, bond-row, bond-fine-back, apart-at}
 use Rattle.matching.proofs.Graph.{and-intro, same-bool, or-cases}
 use Rattle.same_model.specs.Same.{Molecule, joins, orderBetween}
 use Rattle.same_model.proofs.Totals.{total, total-same}
 use Rattle.same_model.proofs.Orders.{between, order-total}
-use Rattle.folding.specs.Folding.{foldedTo, goes, stays, newAtom, bondStays, newBond, movedBond, packed, merged, Complete}
+use Rattle.folding.specs.Folding.{foldedTo, stays, newAtom, bondStays, newBond, movedBond, merged, Complete}
 use Rattle.folding.proofs.Ranks.{rank-low, rank-mono, rank-less, rank-one, nth, Nth, nth-rank, nth-at, total-nth}
 use Rattle.folding.proofs.Packed.{packed-length, packed-at}
 use Rattle.folding.proofs.Plain.{to-length, to-field, gained, to-hydrogens, to-count, to-small}
@@ -53,6 +51,15 @@ module _ (x : Molecule) where
   pub merged-bonds : merged x .m ≡ newBond x (x .m)
   unfolding merged
   merged-bonds = refl
+
+  -- the lengths of the tables stay
+  pub atoms-length : length (merged x .atoms) ≡ length (x .atoms)
+  unfolding merged
+  atoms-length = let t = foldedTo x (x .n) in packed-length atomCells (stays x) (λ a. cellsOf (atomRow t a)) (x .n) t ∙ to-length x (x .n)
+
+  pub bonds-length : length (merged x .bonds) ≡ length (x .bonds)
+  unfolding merged
+  bonds-length = packed-length bondCells (bondStays x) (λ b. bondCellsOf (movedBond x b)) (x .m) (x .bonds)
 
   pub old-at : (k : ℕ) → k < merged x .n → Nth (stays x) (x .n) k
   unfolding merged
@@ -208,14 +215,6 @@ module _ (x : Molecule) where
           bond-rows = each-all (bondOk (merged x .bonds) (merged x .n)) (merged x .m) bond-ok;
           apart = apart;
         }
-
-    atoms-length : length (merged x .atoms) ≡ length (x .atoms)
-    unfolding merged
-    atoms-length = let t = foldedTo x (x .n) in packed-length atomCells (stays x) (λ a. cellsOf (atomRow t a)) (x .n) t ∙ to-length x (x .n)
-
-    bonds-length : length (merged x .bonds) ≡ length (x .bonds)
-    unfolding merged
-    bonds-length = packed-length bondCells (bondStays x) (λ b. bondCellsOf (movedBond x b)) (x .m) (x .bonds)
 
     pub merged-complete : Complete (merged x)
     merged-complete =

@@ -7,8 +7,8 @@ use native.Mathlib.Omega.{arith}
 use lib.Dec.{eqb, leb}
 use lib.ListN.{length, getD}
 use lib.IntN.{ℤ}
-use borrow.Author.Tests.{eqb-true, eqb-false, eq-eqb, ne-eqb, le-leb}
-use Rattle.loops.specs.Loop.{pick, run}
+use borrow.Author.Tests.{eqb-true, eqb-false, eq-eqb, le-leb}
+use Rattle.loops.specs.Loop.{pick}
 use Rattle.kinds.specs.Kind.{order, maxKind}
 use Rattle.kinds.proofs.Kind.{order-small}
 use Rattle.parity.specs.Parity.{absent}
@@ -17,16 +17,15 @@ use Rattle.table.specs.Cells.{end1, end2, kind, touches}
 use Rattle.table.specs.Valid.{Valid}
 use Rattle.table.specs.Sound.{bondDegree}
 use Rattle.table.specs.Orders.{bondsAt}
-use Rattle.table.proofs.Valid.{bond-row, kind-small, first-end, second-end}
+use Rattle.table.proofs.Valid.{kind-small, first-end, second-end}
 use Rattle.table.proofs.Orders.{bonds-length, bonds-listed}
-use Rattle.matching.proofs.Graph.{or-cases}
 use Rattle.table_graph.specs.Graph.{share, bondSum}
 use Rattle.same_model.specs.Same.{Molecule, joins, orderBetween}
 use Rattle.same_model.specs.Redrawing.{joined}
 use Rattle.same_model.proofs.Totals.{total, total-same, total-le, run-total}
 use Rattle.same_model.proofs.Orders.{between, order-total, sum-total, sum-between}
 use Rattle.same_model.proofs.Single.{joined-total}
-use Rattle.folding.specs.Folding.{otherEnd, neighbour}
+use Rattle.folding.specs.Folding.{neighbour}
 
 -- ---- sums of few
 pub total-has : (f : ℕ → ℕ) (n c : ℕ) → c < n → f c ≤ total f n

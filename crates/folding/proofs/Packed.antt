@@ -13,7 +13,7 @@ use borrow.Author.Tests.{eqb-true, eqb-false}
 use Rattle.loops.specs.Loop.{pick, run, howMany}
 use Rattle.table.proofs.Sound.{run-last}
 use Rattle.folding.specs.Folding.{placed, packed}
-use Rattle.folding.proofs.Ranks.{rank-more, rank-low, rank-mono, rank-less, rank-true, rank-false, rank-all}
+use Rattle.folding.proofs.Ranks.{rank-low, rank-less, rank-true, rank-false, rank-all}
 
 -- ---- cells written one after the other, from a place on
 sets-before : (vs l : List ℤ) (i j : ℕ) → j < i → getD (sets l i vs) j (pos 0) ≡ getD l j (pos 0)

@@ -1,29 +1,29 @@
 -- One law for each way out of the code's functions. Assumes nothing.
 use mathlib.Core.Path.{_≡_, refl, sym, ap, _∙_}
 use mathlib.Core.Bool.{Bool, true, false, _&&_, not}
-use mathlib.Core.List.{List, [], _∷_, _++_}
+use mathlib.Core.List.{List, [], _∷_}
 use Prim.Native.Nat.{ℕ, zero, suc, _+_, _-_, _<_, _≤_}
 use native.Mathlib.Omega.{arith}
 use native.Mathlib.Numerals.{add-one}
 use lib.Dec.{eqb, leb, ltb}
 use lib.ListN.{length, getD, set, List·getD-eq-default}
 use lib.IntN.{ℤ, pos}
-use borrow.Author.Tests.{eq-eqb, ne-eqb, le-leb, lt-leb, lt-ltb, le-ltb, eqb-false, leb-true, ltb-true, not-true}
+use borrow.Author.Tests.{ne-eqb, le-leb, lt-leb, lt-ltb, le-ltb, eqb-false, leb-true, ltb-true, not-true}
 use mir.Syntax.{w32}
 use mir.Val.{SFits, toZ, ofZ}
 use mir.Facts.{toZ-ofZ, toZ-pos}
-use Rattle.loops.specs.Loop.{pick, run}
+use Rattle.loops.specs.Loop.{pick}
 use Rattle.loops.proofs.Loops.{and-left, and-right}
-use Rattle.kinds.specs.Kind.{single, isMark, markOf}
+use Rattle.kinds.specs.Kind.{single, markOf}
 use Rattle.kinds.proofs.Kind.{mark-none, mark-some}
 use Rattle.table.specs.Limits.{maxAtoms, maxBonds, ELEMENT, HYDROGENS, KIND}
-use Rattle.table.specs.Cells.{number, inRange, atomPlace, bondPlace, atomCell, bondCell, hydrogens, end1, end2, kind}
+use Rattle.table.specs.Cells.{inRange, atomPlace, bondPlace, atomCell, bondCell, hydrogens, end1, end2, kind}
 use Rattle.table.specs.declared.Atom.{Atom}
 use Rattle.table.specs.declared.Bond.{Bond}
-use Rattle.table.specs.Rows.{atomRow, atomAt, bondRow, bondAt, BondFits, withAtom, putAtom, withBond, putBond}
+use Rattle.table.specs.Rows.{atomAt, bondRow, bondAt, BondFits, putAtom, withBond, putBond}
 use Rattle.same_model.specs.Same.{Molecule, molecule}
-use Rattle.folding.specs.Folding.{baredAtoms, bareBond, baredBonds, bared, isCell, plainRow, oneMore, merged, folded, Complete}
-use Rattle.folding.specs.Links.{none, noHydrogen, takesOne, foldsBy, foldBy, moveAtom, moveAtoms, keptBy, movedBy, Placing, placing, moveBond, moveBonds}
+use Rattle.folding.specs.Folding.{baredAtoms, bareBond, baredBonds, bared, isCell, plainRow, merged, folded, Complete}
+use Rattle.folding.specs.Links.{none, noHydrogen, takesOne, foldsBy, foldBy, moveAtom, keptBy, movedBy, Placing, placing, moveBond, moveBonds}
 use Rattle.folding.proofs.Bared.{bared-complete}
 use Rattle.folding.proofs.Links.{heavy-merged, bonds-none, bonds-more}
 
@@ -43,13 +43,13 @@ module _ (t : List ℤ) (b : ℕ) where
 
 -- ---- takes
 module _ (t : List ℤ) (p : ℕ) where
-  pub takes-no : inRange (atomCell t p ELEMENT) (pos 1) (pos 1) ≡ true → false ≡ takesOne t p
+  pub takes-no : {r : Bool} → r ≡ inRange (atomCell t p ELEMENT) (pos 1) (pos 1) → r ≡ true → false ≡ takesOne t p
   unfolding inRange takesOne
-  takes-no e = rw e
+  takes-no e f = rw (sym e ∙ f)
 
-  pub takes-yes : inRange (atomCell t p ELEMENT) (pos 1) (pos 1) ≡ false → {h : ℕ} → h ≡ hydrogens t p → ltb h 9 ≡ takesOne t p
+  pub takes-yes : {r : Bool} {h : ℕ} → r ≡ inRange (atomCell t p ELEMENT) (pos 1) (pos 1) → r ≡ false → h ≡ hydrogens t p → ltb h 9 ≡ takesOne t p
   unfolding inRange takesOne
-  takes-yes e f = rw (e, f)
+  takes-yes e f g = rw (sym e ∙ f, g)
 
 -- ---- folds, fold_atom
 module _ (x a : ℕ) (t : List ℤ) where

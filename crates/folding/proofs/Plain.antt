@@ -2,18 +2,17 @@
 use mathlib.Core.Path.{_≡_, refl, sym, ap, _∙_}
 use mathlib.Core.Bool.{Bool, true, false, _&&_, not}
 use mathlib.Core.List.{List}
-use Prim.Native.Nat.{ℕ, zero, suc, _+_, _*_, _<_, _≤_}
+use Prim.Native.Nat.{ℕ, zero, suc, _+_, _<_, _≤_}
 use native.Mathlib.Omega.{arith}
 use lib.Dec.{eqb, leb, ltb}
-use lib.ListN.{length, getD, set, length-set}
+use lib.ListN.{length, length-set}
 use lib.Seq.{getD-set-same, getD-set-other}
 use lib.IntN.{ℤ, pos, negsuc}
-use borrow.Author.Tests.{eqb-true, eqb-false, eq-eqb, leb-true, le-leb, ltb-true, ltb-false, not-true}
+use borrow.Author.Tests.{eqb-true, eqb-false, eq-eqb, leb-true, le-leb, ltb-true, not-true}
 use Rattle.loops.specs.Loop.{pick, run}
 use Rattle.loops.proofs.Loops.{and-left, and-right}
 use Rattle.table.specs.Limits.{atomCells, ELEMENT, SELECTED, ISOTOPE, HYDROGENS, CHARGE}
 use Rattle.table.specs.Cells.{number, atomPlace, atomCell, hydrogens}
-use Rattle.table.specs.Valid.{Valid}
 use Rattle.table.specs.Sound.{bondDegree}
 use Rattle.table.proofs.Valid.{atom-row, range-pos, hydrogens-small}
 use Rattle.table.proofs.Sound.{run-last}
@@ -202,9 +201,6 @@ module _ (x : Molecule) where
 
   pub goes-plain : (a : ℕ) → goes x a ≡ true → Plain (x .atoms) (x .bonds) (x .m) a
   goes-plain a h = plain-facts (x .atoms) (x .bonds) (x .m) a (sym (plain-same a a) ∙ goes-plain-then a h)
-
-  pub heavy-stays : (a : ℕ) → isCell (x .atoms) a ELEMENT 1 ≡ false → goes x a ≡ false
-  heavy-stays a h = goes-when a ∙ rw (heavy-plain (x .atoms) (x .bonds) (x .m) a h)
 
   -- what an atom p gains by the turn of a
   abbrev pub gained : ℕ → ℕ → ℕ

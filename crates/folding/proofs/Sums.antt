@@ -1,7 +1,6 @@
 -- Bond sum and hydrogens together stay at every atom that stays, so the same atoms are delocalized. Assumes nothing.
-use mathlib.Core.Path.{_≡_, refl, sym, ap, _∙_}
+use mathlib.Core.Path.{_≡_, refl, ap, _∙_}
 use mathlib.Core.Bool.{Bool, true, false, _&&_, not}
-use mathlib.Core.List.{List}
 use Prim.Native.Nat.{ℕ, _+_, _<_}
 use native.Mathlib.Omega.{arith}
 use lib.Dec.{eqb}
@@ -9,7 +8,7 @@ use lib.IntN.{ℤ, pos}
 use lib.Signed.{leZ}
 use Rattle.loops.specs.Loop.{pick}
 use Rattle.table.specs.Limits.{ELEMENT, SELECTED, CHARGE}
-use Rattle.table.specs.Cells.{number, atomCell, element, selected, hydrogens}
+use Rattle.table.specs.Cells.{atomCell, element, selected, hydrogens}
 use Rattle.valence.specs.Valence.{shiftedTarget, delocalized}
 use Rattle.table_graph.specs.Graph.{bondSum, delocalizedAt, flag}
 use Rattle.same_model.specs.Same.{Molecule, orderBetween}

@@ -12,7 +12,7 @@ use Rattle.table.specs.Limits.{maxAtoms, maxBonds, ELEMENT, KIND}
 use Rattle.table.specs.Cells.{bondCell, element, hydrogens, end1, end2, kind, touches}
 use Rattle.table.specs.declared.Bond.{Bond}
 use Rattle.table.specs.Rows.{atomRow, withAtom, withBond}
-use Rattle.same_model.specs.Same.{Molecule, molecule}
+use Rattle.same_model.specs.Same.{Molecule}
 use Rattle.folding.specs.Folding.{otherEnd, isCell, plainRow, oneMore, Complete}
 
 -- no number of an atom

@@ -1,6 +1,5 @@
 -- Redrawings are redrawings without their extensions and marks. Assumes nothing.
-use mathlib.Core.Path.{_≡_, refl, sym, ap, _∙_}
-use mathlib.Core.Bool.{true}
+use mathlib.Core.Path.{_≡_, sym, _∙_}
 use Prim.Native.Nat.{ℕ, _<_}
 use native.Mathlib.Omega.{arith}
 use Rattle.table.specs.Limits.{atomCells, ELEMENT, ISOTOPE, HYDROGENS, CHARGE, EXTENSION, MARK}

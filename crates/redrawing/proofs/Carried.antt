@@ -1,16 +1,14 @@
 -- A redrawing carries plain hydrogens onto plain hydrogens, and their neighbours onto their neighbours. Assumes nothing.
 use mathlib.Core.Path.{_≡_, refl, sym, ap, _∙_}
 use mathlib.Core.Bool.{Bool, true, false, _&&_, _||_}
-use mathlib.Core.List.{List}
-use Prim.Native.Nat.{ℕ, _+_, _<_}
+use Prim.Native.Nat.{ℕ, _<_}
 use native.Mathlib.Omega.{arith}
-use native.Mathlib.Nat.{add-zero}
 use lib.Dec.{eqb}
-use lib.IntN.{ℤ, pos}
+use lib.IntN.{pos}
 use borrow.Author.Tests.{eqb-true, eq-eqb}
 use Rattle.loops.specs.Loop.{pick, howMany}
 use Rattle.loops.proofs.Loops.{and-left, and-right}
-use Rattle.table.specs.Limits.{ELEMENT, SELECTED, ISOTOPE, HYDROGENS, CHARGE}
+use Rattle.table.specs.Limits.{ELEMENT, SELECTED}
 use Rattle.table.specs.Cells.{number, inRange, atomCell, element, selected, hydrogens}
 use Rattle.table.specs.Valid.{selectable, selectedOk, Valid}
 use Rattle.table.proofs.Valid.{atom-row, range-pos}

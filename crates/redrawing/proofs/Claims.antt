@@ -1,9 +1,5 @@
--- THE LAWS of redrawing (issue 26). Assumes nothing.
-use mathlib.Core.Path.{_≡_, refl, sym, ap, _∙_, subst}
-use Prim.Native.Nat.{ℕ, _*_, _<_, _≤_}
-use native.Mathlib.Omega.{arith}
-use lib.ListN.{length}
-use Rattle.table.specs.Limits.{atomCells, bondCells}
+-- THE LAWS of redrawing. Assumes nothing.
+use mathlib.Core.Path.{sym, subst}
 use Rattle.table.specs.Valid.{Valid}
 use Rattle.table.proofs.Valid.{Enough}
 use Rattle.matching.specs.Enumeration.{Row}
@@ -14,7 +10,7 @@ use Rattle.same_model.proofs.Relation.{same-kekulized}
 use Rattle.same_model.proofs.Redrawn.{redrawing-self, redrawing-sym, redrawing-trans, same-redrawing}
 use Rattle.folding.specs.Folding.{bared, folded, Complete}
 use Rattle.folding.proofs.Bared.{atoms-extension, bared-complete}
-use Rattle.folding.proofs.Claims.{folded-twice}
+use Rattle.folding.proofs.Claims.{enough-complete, folded-twice}
 use Rattle.redrawing.specs.Redrawn.{Redrawn}
 use Rattle.redrawing.proofs.Bared.{bare-redrawing}
 use Rattle.redrawing.proofs.Merged.{merged-redrawing}
@@ -45,10 +41,6 @@ redrawing-redrawn {x} {y} w c d =
     let p = bare x c in
     let q = bare y d in
     record { drawing = merged-redrawing (matched v p q) (p .complete) (q .complete) (matched-goes v p q) }
-
--- valid tables that are as long as 01 asks hold their rows
-pub enough-complete : {x : Molecule} → Valid (x .atoms) (x .bonds) (x .n) (x .m) → Enough (x .atoms) (x .bonds) → Complete x
-enough-complete v e = record { valid = v; atoms-room = omega (arith, v .few-atoms, e .atoms-room); bonds-room = omega (arith, v .few-bonds, e .bonds-room) }
 
 -- ---- "the same compound by P4 implies it"
 pub same-redrawn : {x y : Molecule} → Same x y → Valid (x .atoms) (x .bonds) (x .n) (x .m) → Enough (x .atoms) (x .bonds) → Valid (y .atoms) (y .bonds) (y .n) (y .m) → Enough (y .atoms) (y .bonds) → Redrawn x y

@@ -1,28 +1,26 @@
 -- A redrawing of bare molecules can be chosen to carry those that go onto those that go: each plain hydrogen onto the one of its rank among those of its neighbour. Assumes nothing.
 use mathlib.Core.Path.{_≡_, refl, sym, ap, _∙_}
 use mathlib.Core.Bool.{Bool, true, false, _&&_, not}
-use mathlib.Core.List.{List}
 use Prim.Native.Nat.{ℕ, _+_, _<_}
 use native.Mathlib.Omega.{arith}
 use lib.Dec.{eqb, ltb}
-use lib.IntN.{ℤ, pos}
+use lib.IntN.{pos}
 use borrow.Author.Tests.{eqb-true, eq-eqb, ne-eqb}
 use Rattle.loops.specs.Loop.{pick, upTo, howMany}
 use Rattle.loops.proofs.Loops.{and-left, and-right, upTo-at}
 use Rattle.table.specs.Limits.{ELEMENT, EXTENSION}
 use Rattle.table.specs.Cells.{number, atomCell, hydrogens}
 use Rattle.matching.proofs.Graph.{never}
-use Rattle.table_graph.specs.Graph.{bondSum}
-use Rattle.same_model.specs.Same.{Molecule, orderBetween, image}
+use Rattle.same_model.specs.Same.{Molecule, image}
 use Rattle.same_model.specs.Redrawing.{Redrawing, settledSum, joined}
 use Rattle.same_model.proofs.Onto.{made}
 use Rattle.same_model.proofs.Cells.{Alike, cells-alike}
 use Rattle.folding.specs.Folding.{isCell, neighbour, plainHydrogen, goes, Complete}
 use Rattle.folding.proofs.Ranks.{rank-less, rank-one, nth, Nth, nth-at}
 use Rattle.folding.proofs.Neighbours.{order-turned, neighbour-below, lone-joined}
-use Rattle.folding.proofs.Plain.{cell-is, Plain, plain-facts, heavy-plain}
+use Rattle.folding.proofs.Plain.{Plain, plain-facts, heavy-plain}
 use Rattle.folding.proofs.Ranked.{hydrogenOf, goes-rank}
-use Rattle.redrawing.proofs.Carried.{plain-settled, carried-below, carried-cells, carried-eqb, plain-carried, neighbour-carried, hydrogens-carried}
+use Rattle.redrawing.proofs.Carried.{plain-settled, carried-below, carried-cells, carried-eqb, plain-carried, hydrogens-carried}
 
 -- no extensions
 pub record Bare (x : Molecule) : Type 0 where

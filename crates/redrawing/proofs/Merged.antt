@@ -1,12 +1,11 @@
 -- A redrawing that carries those that go onto those that go: what stays is a redrawing. Assumes nothing.
 use mathlib.Core.Path.{_≡_, refl, sym, ap, _∙_}
 use mathlib.Core.Bool.{Bool, true, false, _&&_, not}
-use mathlib.Core.List.{List}
 use Prim.Native.Nat.{ℕ, _+_, _<_}
 use native.Mathlib.Omega.{arith}
 use lib.Dec.{eqb}
-use lib.IntN.{ℤ, pos}
-use Rattle.loops.specs.Loop.{pick, upTo, howMany}
+use lib.IntN.{pos}
+use Rattle.loops.specs.Loop.{pick, upTo}
 use Rattle.loops.proofs.Loops.{upTo-at}
 use Rattle.table.specs.Limits.{atomCells, ELEMENT, ISOTOPE, HYDROGENS, CHARGE, EXTENSION}
 use Rattle.table.specs.Cells.{number, atomCell, hydrogens}
@@ -19,7 +18,7 @@ use Rattle.folding.specs.Folding.{neighbour, goes, stays, newAtom, merged, Comp
 use Rattle.folding.proofs.Ranks.{rank-total, rank-one}
 use Rattle.folding.proofs.Neighbours.{neighbour-below}
 use Rattle.folding.proofs.Plain.{plain-test, goes-plain, gained, to-hydrogens}
-use Rattle.folding.proofs.Merged.{old, merged-count, old-at, new-below, old-new, merged-cell, merged-field, merged-hydrogens, merged-order}
+use Rattle.folding.proofs.Merged.{old, merged-count, old-at, new-below, old-new, merged-cell, merged-field, merged-order}
 use Rattle.folding.proofs.Sums.{merged-settled}
 use Rattle.redrawing.proofs.Carried.{carried-below, carried-cells, carried-eqb, neighbour-carried}
 

@@ -1,8 +1,8 @@
--- The example of issue 26, by computation: the two Kekulé drawings of o-xylene, `CC1=C(C)C=CC=C1` and `CC=1C(C)=CC=CC1`, are redrawings of one another. Assumes nothing.
-use mathlib.Core.Path.{_≡_, refl, sym, ap, _∙_}
-use mathlib.Core.Bool.{Bool, true, false, not}
+-- By computation: the two Kekulé drawings of o-xylene, `CC1=C(C)C=CC=C1` and `CC=1C(C)=CC=CC1`, are redrawings of one another. Assumes nothing.
+use mathlib.Core.Path.{_≡_, refl}
+use mathlib.Core.Bool.{Bool, true, false}
 use mathlib.Core.List.{List, [], _∷_, _++_}
-use Prim.Native.Nat.{ℕ, _<_}
+use Prim.Native.Nat.{ℕ}
 use native.Mathlib.Omega.{arith}
 use lib.Dec.{eqb}
 use lib.IntN.{ℤ, pos}

@@ -1,6 +1,4 @@
 use Rattle.folding.proofs.Paths.{bond-row}
-use mir.Val.{SFits}
-use mir.Syntax.{w32}
 use borrow.Author.Needs.{needs}
 use Rattle.folding.proofs.bond_of.Statement.{statement}
 use Rattle.folding.proofs.bond_of.Tie as tie

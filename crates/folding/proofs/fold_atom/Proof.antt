@@ -4,10 +4,9 @@ use mir.Val.{SFits}
 use mir.Syntax.{w32}
 use mir.Facts.{toZ-ofZ}
 use native.Mathlib.Omega.{arith}
-use mathlib.Core.Path.{sym, _∙_}
 use denote.Ref.{now}
 use Rattle.table.proofs.Keys.{held, failed}
-use Rattle.folding.proofs.Paths.{fold-no, Going, going, fold-yes}
+use Rattle.folding.proofs.Paths.{fold-no, going, fold-yes}
 use borrow.Author.Needs.{needs}
 use Rattle.folding.proofs.fold_atom.Statement.{statement}
 use Rattle.folding.proofs.fold_atom.Tie as tie

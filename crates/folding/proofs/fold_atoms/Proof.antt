@@ -2,7 +2,6 @@ use Prim.Native.Nat.{_-_}
 use native.Mathlib.Omega.{arith}
 use mathlib.Core.Path.{_≡_, refl, _∙_}
 use lib.ListN.{length}
-use denote.Ref.{now}
 use Rattle.loops.proofs.Loops.{Edited, fills, edited-start, filled-step, filled-end}
 use Rattle.folding.specs.Links.{numberBy}
 use Rattle.folding.proofs.Links.{Turned, turned-start, turned-low, turned-number, turned-step, turned-end}

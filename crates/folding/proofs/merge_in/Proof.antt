@@ -1,4 +1,3 @@
-use mathlib.Core.Path.{refl}
 use lib.ListN.{length, drop}
 use denote.Ref.{now}
 use Rattle.same_model.specs.Same.{molecule}

@@ -1,7 +1,7 @@
 use Prim.Native.Nat.{_-_}
 use native.Mathlib.Omega.{arith}
 use mathlib.Core.Path.{refl, ap, _∙_}
-use lib.ListN.{length, getD}
+use lib.ListN.{getD}
 use Rattle.loops.proofs.Loops.{Edited, edited-start, edited-step, edited-end}
 use Rattle.folding.specs.Links.{none, moveAtom, moveAtoms}
 use Rattle.folding.proofs.Paths.{end-at}

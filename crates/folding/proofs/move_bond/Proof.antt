@@ -1,13 +1,6 @@
 use mathlib.Core.Path.{ap, _∙_}
-use mathlib.Core.Path.{sym}
 use denote.Ref.{now}
-use borrow.Author.Tests.{lt-ltb}
 use lib.ListN.{getD}
-use lib.IntN.{ℤ}
-use mir.Facts.{toZ-ofZ}
-use Rattle.table.specs.Limits.{maxBonds}
-use Rattle.table.specs.declared.Bond.{Bond}
-use Rattle.table.specs.Rows.{bondAt, bondRow}
 use Rattle.table_graph.proofs.Sums.{row-cells}
 use Rattle.folding.specs.Links.{none}
 use Rattle.folding.proofs.Paths.{row-kind, bond-first, bond-second, bond-moved}
