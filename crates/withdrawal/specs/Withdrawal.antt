@@ -1,0 +1,116 @@
+-- The withdrawal check: withdrawing a text, and whether a text is withdrawn in any drawing
+use Prim.Native.Nat.{ℕ, _*_, _<_}
+use mathlib.Core.Path.{_≡_}
+use mathlib.Core.Bool.{Bool, true, false, not}
+use mathlib.Core.List.{List}
+use lib.ListN.{length, replicate}
+use lib.IntN.{pos}
+use lib.Dec.{eqb, ltb}
+use Rattle.loops.specs.Loop.{pick, each, run}
+use Rattle.table.specs.Limits.{maxAtoms, maxBonds, atomCells, bondCells}
+use Rattle.reading.specs.Read.{ReadResult, readOf}
+use Rattle.register.specs.Layout.{size, valid, count, tagOf, bodyOf}
+use Rattle.register.specs.Answers.{addedOf}
+use Rattle.same_model.specs.Same.{Molecule, molecule}
+use Rattle.redrawing.specs.Redrawn.{Redrawn}
+
+-- ---- texts
+
+-- what a text reads to, in zeroed tables of the lent lengths
+unfoldable pub readText : List ℕ → ReadResult
+readText s = readOf s (replicate (atomCells * maxAtoms) (pos 0)) (replicate (bondCells * maxBonds) (pos 0))
+
+abbrev pub accepted : List ℕ → Bool
+accepted s = eqb (readText s .code) 0
+
+-- the molecule of an accepted text
+abbrev pub drawn : List ℕ → Molecule
+drawn s = let t = readText s in molecule (t .atoms) (t .bonds) (t .atomCount) (t .bondCount)
+
+-- two texts draw one compound: both are accepted, and their molecules are redrawings
+pub record Drawings (s q : List ℕ) : Type 0 where
+  pub first : accepted s ≡ true
+  pub second : accepted q ≡ true
+  pub redrawn : Redrawn (drawn s) (drawn q)
+
+-- ---- withdrawing
+
+-- a code with its place, and the register as it is then
+pub record WithdrawOut : Type 0 where
+  pub code : ℕ
+  pub place : ℕ
+  pub register : List ℕ
+
+abbrev pub withdrew : ℕ → ℕ → List ℕ → WithdrawOut
+withdrew c p r = record { code = c; place = p; register = r }
+
+-- "1 first, then reading's code and place, then 17, 18; adds the text as a body. Nothing changes on a refusal"
+unfoldable pub withdrawOf : List ℕ → ℕ → List ℕ → WithdrawOut
+withdrawOf r t s =
+    pick (ltb (length r) size) (withdrew 1 0 r)
+    (pick (accepted s) (withdrew (addedOf r t s .code) 0 (addedOf r t s .register)) (withdrew (readText s .code) (readText s .offset) r))
+
+-- ---- withdrawn?
+
+-- an entry's compound is a redrawing of the text's, it is none, or neither could be told
+pub data Verdict : Type 0 where
+  listed : Verdict
+  other : Verdict
+  open : Verdict
+
+abbrev pub isListed : Verdict → Bool
+isListed listed = true
+isListed other = false
+isListed open = false
+
+abbrev pub isOpen : Verdict → Bool
+isOpen listed = false
+isOpen other = false
+isOpen open = true
+
+-- the first of n places where a test holds, n where it holds nowhere
+abbrev pub earlier : (ℕ → Bool) → ℕ → ℕ → ℕ → ℕ
+earlier f n p q = pick (eqb q n) (pick (f p) p q) q
+
+unfoldable pub firstOf : (ℕ → Bool) → ℕ → ℕ
+firstOf f n = run (earlier f n) 0 n n
+
+-- a code with its place; 0 clear, 1 withdrawn, 2 undecided, with the tag and the place of the entry
+pub record WithdrawnOut : Type 0 where
+  pub code : ℕ
+  pub place : ℕ
+  pub answer : ℕ
+  pub tag : ℕ
+  pub entry : ℕ
+
+abbrev pub refusedWith : ℕ → ℕ → WithdrawnOut
+refusedWith c p = record { code = c; place = p; answer = 0; tag = 0; entry = 0 }
+
+abbrev pub answers : ℕ → ℕ → ℕ → WithdrawnOut
+answers a t p = record { code = 0; place = 0; answer = a; tag = t; entry = p }
+
+-- "withdrawn, with the place and tag of the first entry found to be a redrawing; else undecided, with the place of the first entry that could not be decided; else clear"
+unfoldable pub judgedBy : (ℕ → Verdict) → List ℕ → WithdrawnOut
+judgedBy v r =
+    let n = count r in
+    let y = firstOf (λ p. isListed (v p)) n in
+    let o = firstOf (λ p. isOpen (v p)) n in
+    pick (ltb y n) (answers 1 (tagOf r y) y) (pick (ltb o n) (answers 2 0 o) (answers 0 0 0))
+
+-- verdicts that are true: "withdrawn only by an entry that is one", "clear only if every body is read and no entry is a redrawing"
+pub record True (r s : List ℕ) (v : ℕ → Verdict) : Type 0 where
+  pub yes : (p : ℕ) → p < count r → v p ≡ listed → Drawings (bodyOf r p) s
+  pub no : (p : ℕ) → p < count r → v p ≡ other → (accepted (bodyOf r p) ≡ true) × (Redrawn (drawn (bodyOf r p)) (drawn s) → ⊥)
+
+-- what is asked of a register of full length and right layout by an accepted text
+pub record Judged (r s : List ℕ) (out : WithdrawnOut) : Type 0 where
+  pub verdict : ℕ → Verdict
+  pub true-verdicts : True r s verdict
+  pub is : out ≡ judgedBy verdict r
+
+-- "1 and 17, then a text that cannot be read is refused with its code and place"
+pub record Answered (r s : List ℕ) (out : WithdrawnOut) : Type 0 where
+  pub short : ltb (length r) size ≡ true → out ≡ refusedWith 1 0
+  pub invalid : ltb (length r) size ≡ false → valid r ≡ false → out ≡ refusedWith 17 0
+  pub unread : ltb (length r) size ≡ false → valid r ≡ true → accepted s ≡ false → out ≡ refusedWith (readText s .code) (readText s .offset)
+  pub judged : ltb (length r) size ≡ false → valid r ≡ true → accepted s ≡ true → Judged r s out

@@ -1,0 +1,1 @@
+// The withdrawal check: definitions and theorems so far. See specs/Withdrawal.antt and proofs/Claims.antt.
