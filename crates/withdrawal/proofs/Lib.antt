@@ -1,2 +1,4 @@
 pub mod First
 pub mod Claims
+pub mod Calls
+pub mod Verdicts

@@ -1,1 +1,2 @@
 pub mod Withdrawal
+pub mod Verdict

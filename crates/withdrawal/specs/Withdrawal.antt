@@ -1,18 +1,19 @@
 -- The withdrawal check: withdrawing a text, and whether a text is withdrawn in any drawing
-use Prim.Native.Nat.{ℕ, _*_, _<_}
+use Prim.Native.Nat.{ℕ, zero, suc, _*_, _<_}
 use mathlib.Core.Path.{_≡_}
 use mathlib.Core.Bool.{Bool, true, false, not}
 use mathlib.Core.List.{List}
 use lib.ListN.{length, replicate}
 use lib.IntN.{pos}
 use lib.Dec.{eqb, ltb}
-use Rattle.loops.specs.Loop.{pick, each, run}
+use Rattle.loops.specs.Loop.{pick}
 use Rattle.table.specs.Limits.{maxAtoms, maxBonds, atomCells, bondCells}
 use Rattle.reading.specs.Read.{ReadResult, readOf}
 use Rattle.register.specs.Layout.{size, valid, count, tagOf, bodyOf}
 use Rattle.register.specs.Answers.{addedOf}
 use Rattle.same_model.specs.Same.{Molecule, molecule}
 use Rattle.redrawing.specs.Redrawn.{Redrawn}
+use Rattle.withdrawal.specs.declared.verdict.Verdict.{Verdict}
 
 -- ---- texts
 
@@ -52,28 +53,28 @@ withdrawOf r t s =
 
 -- ---- withdrawn?
 
--- an entry's compound is a redrawing of the text's, it is none, or neither could be told
-pub data Verdict : Type 0 where
-  listed : Verdict
-  other : Verdict
-  open : Verdict
-
 abbrev pub isListed : Verdict → Bool
-isListed listed = true
-isListed other = false
-isListed open = false
+isListed Verdict.Listed = true
+isListed Verdict.Other = false
+isListed Verdict.Unsure = false
 
-abbrev pub isOpen : Verdict → Bool
-isOpen listed = false
-isOpen other = false
-isOpen open = true
+abbrev pub isUnsure : Verdict → Bool
+isUnsure Verdict.Listed = false
+isUnsure Verdict.Other = false
+isUnsure Verdict.Unsure = true
 
--- the first of n places where a test holds, n where it holds nowhere
-abbrev pub earlier : (ℕ → Bool) → ℕ → ℕ → ℕ → ℕ
-earlier f n p q = pick (eqb q n) (pick (f p) p q) q
+-- the first of n places where a test holds
+pub data Place : Type 0 where
+  nowhere : Place
+  at : ℕ → Place
 
-unfoldable pub firstOf : (ℕ → Bool) → ℕ → ℕ
-firstOf f n = run (earlier f n) 0 n n
+abbrev pub orElse : Place → Place → Place
+orElse nowhere q = q
+orElse (at p) q = at p
+
+unfoldable pub firstOf : (ℕ → Bool) → ℕ → Place
+firstOf f zero = nowhere
+firstOf f (suc n) = orElse (firstOf f n) (pick (f n) (at n) nowhere)
 
 -- a code with its place; 0 clear, 1 withdrawn, 2 undecided, with the tag and the place of the entry
 pub record WithdrawnOut : Type 0 where
@@ -90,17 +91,21 @@ abbrev pub answers : ℕ → ℕ → ℕ → WithdrawnOut
 answers a t p = record { code = 0; place = 0; answer = a; tag = t; entry = p }
 
 -- "withdrawn, with the place and tag of the first entry found to be a redrawing; else undecided, with the place of the first entry that could not be decided; else clear"
+abbrev pub ofUnsure : Place → WithdrawnOut
+ofUnsure nowhere = answers 0 0 0
+ofUnsure (at p) = answers 2 0 p
+
+abbrev pub ofListed : List ℕ → Place → Place → WithdrawnOut
+ofListed r nowhere o = ofUnsure o
+ofListed r (at p) o = answers 1 (tagOf r p) p
+
 unfoldable pub judgedBy : (ℕ → Verdict) → List ℕ → WithdrawnOut
-judgedBy v r =
-    let n = count r in
-    let y = firstOf (λ p. isListed (v p)) n in
-    let o = firstOf (λ p. isOpen (v p)) n in
-    pick (ltb y n) (answers 1 (tagOf r y) y) (pick (ltb o n) (answers 2 0 o) (answers 0 0 0))
+judgedBy v r = ofListed r (firstOf (λ p. isListed (v p)) (count r)) (firstOf (λ p. isUnsure (v p)) (count r))
 
 -- verdicts that are true: "withdrawn only by an entry that is one", "clear only if every body is read and no entry is a redrawing"
 pub record True (r s : List ℕ) (v : ℕ → Verdict) : Type 0 where
-  pub yes : (p : ℕ) → p < count r → v p ≡ listed → Drawings (bodyOf r p) s
-  pub no : (p : ℕ) → p < count r → v p ≡ other → (accepted (bodyOf r p) ≡ true) × (Redrawn (drawn (bodyOf r p)) (drawn s) → ⊥)
+  pub yes : (p : ℕ) → p < count r → v p ≡ Verdict.Listed → Drawings (bodyOf r p) s
+  pub no : (p : ℕ) → p < count r → v p ≡ Verdict.Other → (accepted (bodyOf r p) ≡ true) × (Redrawn (drawn (bodyOf r p)) (drawn s) → ⊥)
 
 -- what is asked of a register of full length and right layout by an accepted text
 pub record Judged (r s : List ℕ) (out : WithdrawnOut) : Type 0 where

@@ -1,1 +1,45 @@
-// The withdrawal check: definitions and theorems so far. See specs/Withdrawal.antt and proofs/Claims.antt.
+// The withdrawal check: a withdrawn text is withdrawn in every drawing.
+ghost use mathlib.Core.Path.{_≡_};
+ghost use Rattle.withdrawal.specs.Withdrawal.{withdrew, withdrawOf};
+use reader::ending::ReadAnswer;
+use table::ATOM_CELLS;
+use table::BOND_CELLS;
+use table::MAX_ATOMS;
+use table::MAX_BONDS;
+
+pub mod verdict;
+
+// The length of a register.
+const SIZE: usize = 32768;
+
+// What withdrawing answers: a code with its place.
+pub struct Withdrew {
+    pub code: u32,
+    pub place: usize,
+}
+
+// Withdraws a text: it becomes a body of the register, with a tag. 1 first, then reading's refusal with its place, then 17 and 18; a refusal changes nothing.
+pub fn withdraw(held: &mut [u8], tag: u16, text: &[u8]) -> Withdrew
+    ensures { λ w. ⌜ withdrew (w .code) (w .place) (now (held .exit)) ≡ withdrawOf (now (held .entry)) tag (now (text .entry)) ⌝ }
+{
+    if held.len() < SIZE {
+        return Withdrew { code: 1, place: 0 };
+    }
+    let mut atoms = [0i32; ATOM_CELLS * MAX_ATOMS];
+    let mut bonds = [0i32; BOND_CELLS * MAX_BONDS];
+    let a = reader::read(text, &mut atoms, &mut bonds);
+    match a {
+        ReadAnswer::Refused(r, p) => {
+            let c = refusal::code(r);
+            Withdrew {
+                code: c as u32,
+                place: p,
+            }
+        }
+        ReadAnswer::Molecule(_, _, _) => {
+            let b = register::add(held, tag, text);
+            let c = register::code(b);
+            Withdrew { code: c, place: 0 }
+        }
+    }
+}
