@@ -1,4 +1,4 @@
--- Issue 26, "The key": "a 64-bit number of a molecule (any size): hashes of the folded atom's cells, settled sum and degree, some rounds over the neighbours weighted by being joined and never by order, summed". The caller folds.
+-- The withdrawal check, "The key": "a 64-bit number of a molecule (any size): hashes of the folded atom's cells, settled sum and degree, some rounds over the neighbours weighted by being joined and never by order, summed". The caller folds.
 use Prim.Native.Nat.{ℕ, _+_, _*_, _%_}
 use mathlib.Core.List.{List}
 use lib.IntN.{ℤ, pos, _+ℤ_}

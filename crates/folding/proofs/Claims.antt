@@ -1,4 +1,4 @@
--- THE LAWS of folding (issue 26). Assumes nothing.
+-- THE LAWS of folding. Assumes nothing.
 use mathlib.Core.Path.{_≡_, refl, sym, ap, _∙_}
 use mathlib.Core.Bool.{Bool, true, false}
 use Prim.Native.Nat.{ℕ, _+_, _<_}

@@ -1,4 +1,4 @@
--- Issue 26, "Folding": marks and map numbers are left aside, and plain hydrogen atoms become hydrogens of their neighbours
+-- The withdrawal check, "Folding": marks and map numbers are left aside, and plain hydrogen atoms become hydrogens of their neighbours
 use Prim.Native.Nat.{ℕ, _+_, _*_, _≤_}
 use mathlib.Core.List.{List}
 use mathlib.Core.Bool.{Bool, _&&_, not}

@@ -1,4 +1,4 @@
--- THE LAWS of redrawing (issue 26). Assumes nothing.
+-- THE LAWS of redrawing. Assumes nothing.
 use mathlib.Core.Path.{_≡_, refl, sym, ap, _∙_, subst}
 use Prim.Native.Nat.{ℕ, _*_, _<_, _≤_}
 use native.Mathlib.Omega.{arith}

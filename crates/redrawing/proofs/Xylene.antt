@@ -1,4 +1,4 @@
--- The example of issue 26, by computation: the two Kekulé drawings of o-xylene, `CC1=C(C)C=CC=C1` and `CC=1C(C)=CC=CC1`, are redrawings of one another. Assumes nothing.
+-- By computation: the two Kekulé drawings of o-xylene, `CC1=C(C)C=CC=C1` and `CC=1C(C)=CC=CC1`, are redrawings of one another. Assumes nothing.
 use mathlib.Core.Path.{_≡_, refl, sym, ap, _∙_}
 use mathlib.Core.Bool.{Bool, true, false, not}
 use mathlib.Core.List.{List, [], _∷_, _++_}

@@ -1,4 +1,4 @@
--- Issue 26, "Redrawing": the equivalence that a withdrawal is decided by
+-- The withdrawal check, "Redrawing": the equivalence that a withdrawal is decided by
 use Rattle.same_model.specs.Same.{Molecule}
 use Rattle.same_model.specs.Redrawing.{Redrawing}
 use Rattle.folding.specs.Folding.{folded}

@@ -2,7 +2,7 @@
 //! proved library against the second program on the paper's edges, on buffers and on the corpus.
 
 use balsa_reference::tables::{self, counts, fill, Tables, ATOM_TABLE, BOND_TABLE};
-use balsa_reference::{read, same_by_search, same_by_trying, Atom, Bond, Kind, Molecule};
+use balsa_reference::{read, same_by_search, same_by_trying, Molecule};
 use compare::buffers::Buffers;
 use compare::drawings::{other_drawing, pair, renumbered};
 use compare::implementation::{Answer, Implementation, Reference};
@@ -134,18 +134,12 @@ fn a_fullerene() {
 
 /// A ring of selected carbon atoms: with an odd number it has no matching.
 fn ring(count: usize) -> Molecule {
-    let atom = Atom {
-        element: 6,
-        selected: true,
-        hydrogens: 1,
-        ..Atom::default()
-    };
-    let ends = (1..count).map(|atom| (atom - 1, atom));
-    let bond = |(one, other)| Bond::between(one, other, Kind::Elided);
-    Molecule {
-        atoms: vec![atom; count],
-        bonds: ends.chain([(0, count - 1)]).map(bond).collect(),
+    let mut ring = molecule(&format!("C1{}1", "C".repeat(count - 1)));
+    for atom in &mut ring.atoms {
+        atom.selected = true;
+        atom.hydrogens = 1;
     }
+    ring
 }
 
 #[test]
