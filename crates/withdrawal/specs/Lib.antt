@@ -1,2 +1,3 @@
 pub mod Withdrawal
 pub mod Verdict
+pub mod Walk
