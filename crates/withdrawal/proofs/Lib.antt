@@ -1,5 +1,6 @@
 pub mod First
 pub mod Claims
+pub mod Tables
 pub mod Calls
 pub mod Verdicts
 pub mod Walking

@@ -20,6 +20,10 @@ use Rattle.withdrawal.specs.Withdrawal.{isListed, isUnsure, Place, nowhe
 use Rattle.withdrawal.specs.Verdict.{Says}
 use Rattle.withdrawal.specs.Walk.{outOf, placeOf, Seen, Walked}
 
+-- what is said of a body by a verdict, under other names of both
+pub said : {b d : List ℕ} (y : Molecule) {v w : Verdict} → b ≡ d → v ≡ w → Says b y v → Says d y w
+said {b} {d} y {v} {w} e f z = subst (λ (u : Verdict). Says d y u) f (subst (λ (c : List ℕ). Says c y v) e z)
+
 -- ---- first places
 or-nowhere : (q : Place) → orElse q nowhere ≡ q
 or-nowhere nowhere = refl
