@@ -1,3 +1,6 @@
+use Prim.Native.Nat.{ℕ}
+use mathlib.Core.Logic.{⊎-elim}
+use mathlib.Core.Path.{sym, subst, _∙_}
 use Rattle.withdrawal.proofs.Walking.{said}
 use borrow.Author.Needs.{needs}
 use Rattle.withdrawal.proofs.Walking.{seen-start, seen-other, seen-unsure, walked-end, walked-listed, few-entries}
@@ -6,7 +9,8 @@ use Rattle.register.specs.Layout.{count as entries}
 use Rattle.same_model.specs.Same.{molecule}
 use mathlib.Core.Path.{_≡_}
 use native.Mathlib.Omega.{arith}
-use Prim.Native.Nat.{_-_}
+use Prim.Native.Nat.{_-_, _<_}
+use denote.Ref.{now}
 use Rattle.withdrawal.proofs.walk.walk.Statement.{statement}
 use Rattle.withdrawal.proofs.walk.walk.Tie as tie
 use Rattle.withdrawal.proofs.walk.walk.Reads as reads
@@ -78,7 +82,8 @@ loop-less c = search needs
 
 -- src/walk.rt:74:5
 loop-again : tie.Need-loop-again Inv-loop μ-loop
-loop-again c = let y : ⊥ = c .match .came in ?
+loop-again c = let l : c .before .before .before .before .before .before .loop .p < entries (now (c .before .before .before .before .before .before .before .before .before .before .args .held)) = omega (arith, c .before .before .before .before .before .loop-test .taken, c .before .before .before .before .before .before .before .count .ensures) in let k : c .before .before .before .before .before .before .loop .p < 64 = omega (arith, few-entries _ (c .before .before .before .before .before .before .before .before .before .before .pre .0 .1), l) in ⊎-elim (λ h. subst (λ (u : ℕ). Seen _ _ u _) (sym (h .2)) (seen-other _ _ (c .before .before .before .before .before .before .loop .inv) l (said _ (c .before .before .before .before .body .ensures) (h .1 .given .1) (c .before .judge .ensures)))) (λ h. seen-unsure _ _ (c .before .before .before .before .before .before .loop .inv) l k (h .3 ∙ h .2 .ensures)) (c .match .came)
+
 
 
 -- src/walk.rt:94:5
