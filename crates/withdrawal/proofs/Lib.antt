@@ -4,3 +4,4 @@ pub mod Tables
 pub mod Calls
 pub mod Verdicts
 pub mod Walking
+pub mod Answers

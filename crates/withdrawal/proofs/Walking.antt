@@ -14,6 +14,7 @@ use Rattle.loops.proofs.Loops.{and-left, and-right}
 use Rattle.table.proofs.Keys.{never}
 use Rattle.register.specs.Layout.{size, maxEntries, count, tagOf, bodyOf, validEntry, valid}
 use Rattle.same_model.specs.Same.{Molecule}
+use Rattle.folding.specs.Folding.{folded}
 use Rattle.withdrawal.specs.declared.verdict.Verdict.{Verdict}
 use Rattle.withdrawal.specs.declared.walk.Withdrawn.{Withdrawn}
 use Rattle.withdrawal.specs.Withdrawal.{isListed, isUnsure, Place, nowhere, at, orElse, firstOf, answers, ofUnsure, ofListed, judgedBy}
@@ -60,6 +61,9 @@ module _ (r : List ℕ) (y : Molecule) where
   pub seen-start : Seen r y maxEntries 0
   unfolding firstOf
   seen-start = record { verdict = λ q. Verdict.Unsure; within = omega arith; says = λ q l. absurd (omega arith); none-listed = refl; first-unsure = refl }
+
+  pub seen-same : {u v p : ℕ} → v ≡ u → Seen r y u p → Seen r y v p
+  seen-same {u} {v} {p} e s = subst (λ (z : ℕ). Seen r y z p) (sym e) s
 
   module _ {u p : ℕ} (s : Seen r y u p) where
     -- what is said of the entries up to this one
@@ -140,3 +144,7 @@ module _ (r : List ℕ) (y : Molecule) where
 pub few-entries : (r : List ℕ) → valid r ≡ true → count r ≤ maxEntries
 unfolding valid
 few-entries r e = leb-true (count r) maxEntries (and-left (leb (count r) maxEntries) (each (validEntry r) 0 (count r)) (and-right (eqb (getD r 0 0) 1) (leb (count r) maxEntries && each (validEntry r) 0 (count r)) e))
+
+-- a walk against what a molecule folds to
+pub walked-folded : {r : List ℕ} {z : Molecule} (x : Molecule) {w : Withdrawn} → z ≡ folded x → Walked r z w → Walked r (folded x) w
+walked-folded {r} {z} x {w} e v = subst (λ (y : Molecule). Walked r y w) e v

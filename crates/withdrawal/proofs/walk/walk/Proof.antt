@@ -1,7 +1,6 @@
-use Prim.Native.Nat.{ℕ}
 use mathlib.Core.Logic.{⊎-elim}
-use mathlib.Core.Path.{sym, subst, _∙_}
-use Rattle.withdrawal.proofs.Walking.{said}
+use mathlib.Core.Path.{_∙_}
+use Rattle.withdrawal.proofs.Walking.{said, seen-same}
 use borrow.Author.Needs.{needs}
 use Rattle.withdrawal.proofs.Walking.{seen-start, seen-other, seen-unsure, walked-end, walked-listed, few-entries}
 use Rattle.withdrawal.specs.Walk.{Seen}
@@ -82,7 +81,13 @@ loop-less c = search needs
 
 -- src/walk.rt:74:5
 loop-again : tie.Need-loop-again Inv-loop μ-loop
-loop-again c = let l : c .before .before .before .before .before .before .loop .p < entries (now (c .before .before .before .before .before .before .before .before .before .before .args .held)) = omega (arith, c .before .before .before .before .before .loop-test .taken, c .before .before .before .before .before .before .before .count .ensures) in let k : c .before .before .before .before .before .before .loop .p < 64 = omega (arith, few-entries _ (c .before .before .before .before .before .before .before .before .before .before .pre .0 .1), l) in ⊎-elim (λ h. subst (λ (u : ℕ). Seen _ _ u _) (sym (h .2)) (seen-other _ _ (c .before .before .before .before .before .before .loop .inv) l (said _ (c .before .before .before .before .body .ensures) (h .1 .given .1) (c .before .judge .ensures)))) (λ h. seen-unsure _ _ (c .before .before .before .before .before .before .loop .inv) l k (h .3 ∙ h .2 .ensures)) (c .match .came)
+loop-again c =
+    let a = c .before .before .before .before .before .before .before .before .before .before .args in
+    let l : c .before .before .before .before .before .before .loop .p < entries (now (a .held)) = omega (arith, c .before .before .before .before .before .loop-test .taken, c .before .before .before .before .before .before .before .count .ensures) in
+    let k : c .before .before .before .before .before .before .loop .p < 64 = omega (arith, few-entries _ (c .before .before .before .before .before .before .before .before .before .before .pre .0 .1), l) in
+    ⊎-elim
+    (λ h. seen-same (now (a .held)) (molecule (now (a .atoms)) (now (a .bonds)) (a .n) (a .m)) (h .2) (seen-other _ _ (c .before .before .before .before .before .before .loop .inv) l (said _ (c .before .before .before .before .body .ensures) (h .1 .given .1) (c .before .judge .ensures))))
+    (λ h. seen-unsure _ _ (c .before .before .before .before .before .before .loop .inv) l k (h .3 ∙ h .2 .ensures)) (c .match .came)
 
 
 
