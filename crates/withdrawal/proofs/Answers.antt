@@ -71,13 +71,13 @@ module _ (r s : List ℕ) where
             invalid = λ e u. apart v u;
             unread = λ e u g. apart h g;
             judged = λ e u g.
-              record {
-                verdict = q .verdict;
-                true-verdicts =
-                  record {
-                    yes = λ p l f. listed-drawings (bodyOf r p) s (q .verdict p) h f (q .says p l);
-                    no = λ p l f. other-none (bodyOf r p) s (q .verdict p) f (q .says p l);
-                  };
-                is = q .is;
-              };
+                record {
+                  verdict = q .verdict;
+                  true-verdicts =
+                      record {
+                        yes = λ p l f. listed-drawings (bodyOf r p) s (q .verdict p) h f (q .says p l);
+                        no = λ p l f. other-none (bodyOf r p) s (q .verdict p) f (q .says p l);
+                      };
+                  is = q .is;
+                };
           }

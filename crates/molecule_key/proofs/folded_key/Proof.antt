@@ -20,11 +20,9 @@ copy-requires-2 c κs = search needs
 fold-requires : tie.Need-fold-requires
 fold-requires c κs = copy-complete (c .before .before .before .before .before .before .copy .ensures) (c .before .before .before .copy2 .ensures) (c .before .before .before .before .before .before .before .before .pre .0)
 
-
 -- src/lib.rt:52:5
 key-requires : tie.Need-key-requires
 key-requires c κs = copy-valid (c .before .before .before .before .before .before .before .before .before .before .before .copy .ensures) (c .before .before .before .before .before .before .before .before .copy2 .ensures) (c .before .before .before .before .before .before .before .before .before .before .before .before .before .pre .0) (c .before .before .before .before .fold .ensures)
-
 
 -- src/lib.rt:37:1
 same-length : tie.Need-same-length
@@ -37,7 +35,6 @@ same-length-2 c = search needs
 -- src/lib.rt:37:1
 returns : tie.Need-returns
 returns c = copy-key (c .before .before .before .before .before .before .before .before .before .before .before .before .copy .ensures) (c .before .before .before .before .before .before .before .before .before .copy2 .ensures) (c .before .before .before .before .before .before .before .before .before .before .before .before .before .before .pre .0) (c .before .before .before .before .before .fold .ensures) (c .key .ensures)
-
 
 pub folded-key-spec : {M : Type 1} → statement M
 folded-key-spec =

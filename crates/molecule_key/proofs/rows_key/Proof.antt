@@ -1,4 +1,3 @@
-
 use borrow.Author.Needs.{needs}
 use Rattle.molecule_key.proofs.rows_key.Statement.{statement}
 use Rattle.molecule_key.proofs.rows_key.Tie as tie

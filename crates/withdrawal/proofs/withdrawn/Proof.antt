@@ -16,7 +16,6 @@ use Rattle.withdrawal.proofs.walk.ask.Reads as ask-reads
 returns : tie.Need-returns
 returns c = short-answered _ _ (c .if1 .taken)
 
-
 -- src/lib.rt:59:9
 valid-requires : tie.Need-valid-requires
 valid-requires c κs = search needs
@@ -24,7 +23,6 @@ valid-requires c κs = search needs
 -- src/lib.rt:60:9
 returns-2 : tie.Need-returns-2
 returns-2 c = invalid-answered _ _ (c .before .before .if1 .left) (sym (c .before .valid .ensures) ∙ not-true _ (c .if2 .taken))
-
 
 -- src/lib.rt:64:32
 slice-aggregate-read : tie.Need-slice-aggregate-read
@@ -66,16 +64,13 @@ slice-aggregate-ask-2 c = search needs
 ask-requires : tie.Need-ask-requires
 ask-requires c κs = ((c .before .before .before .before .before .before .before .before .before .before .before .before .if1 .left, sym (c .before .before .before .before .before .before .before .before .before .before .before .valid .ensures) ∙ not-false _ (c .before .before .before .before .before .before .before .before .before .before .if2 .left)), text-complete _ _ _ _ (c .before .before .before .before .before .before .before .read .ensures) (c .before .before .before .a2 .given .1))
 
-
 -- src/lib.rt:53:1
 returns-3 : tie.Need-returns-3
 returns-3 c = unread-answered _ _ (c .before .before .before .before .before .before .before .before .before .before .before .if1 .left) (sym (c .before .before .before .before .before .before .before .before .before .before .valid .ensures) ∙ not-false _ (c .before .before .before .before .before .before .before .before .before .if2 .left)) _ _ _ (c .before .before .before .before .before .before .read .ensures) (c .before .before .a .given .1) (c .code .ensures)
 
-
 -- src/lib.rt:53:1
 returns-4 : tie.Need-returns-4
 returns-4 c = asked-answered _ _ (c .before .before .before .before .before .before .before .before .before .before .before .before .before .before .before .if1 .left) (sym (c .before .before .before .before .before .before .before .before .before .before .before .before .before .before .valid .ensures) ∙ not-false _ (c .before .before .before .before .before .before .before .before .before .before .before .before .before .if2 .left)) _ _ _ (c .before .before .before .before .before .before .before .before .before .before .read .ensures) (c .before .before .before .before .before .before .a2 .given .1) (c .before .before .ask .ensures)
-
 
 pub withdrawn-spec : {M : Type 1} → statement M
 withdrawn-spec =

@@ -25,8 +25,6 @@ enum-known-a c = search needs
 compare-requires : tie.Need-compare-requires
 compare-requires c κs = (text-complete _ _ _ _ (c .before .before .before .before .before .read .ensures ∙ read-alike _ _ _ (c .before .before .before .before .before .before .before .read-arg .given .0 .1) (c .before .before .before .before .before .before .read-arg2 .given .0 .1)) (c .before .before .before .a .given .1), c .before .before .before .before .before .before .before .before .before .before .pre)
 
-
-
 -- src/verdict.rt:102:1
 returns : tie.Need-returns
 returns c = search needs
@@ -34,8 +32,6 @@ returns c = search needs
 -- src/verdict.rt:102:1
 returns-2 : tie.Need-returns-2
 returns-2 c = text-says _ _ _ _ (c .before .before .before .before .before .before .read .ensures ∙ read-alike _ _ _ (c .before .before .before .before .before .before .before .before .read-arg .given .0 .1) (c .before .before .before .before .before .before .before .read-arg2 .given .0 .1)) (c .before .before .before .before .a .given .1) _ (c .compare .result) (c .compare .ensures)
-
-
 
 pub judge-spec : {M : Type 1} → statement M
 judge-spec =

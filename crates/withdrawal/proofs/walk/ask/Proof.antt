@@ -18,7 +18,6 @@ fold-requires c κs = search needs
 key-requires : tie.Need-key-requires
 key-requires c κs = fold-valid (c .before .before .before .before .before .before .before .before .pre .1) (c .before .before .before .before .fold .ensures)
 
-
 -- src/walk.rt:106:65
 slice-aggregate-fill-atom-keys : tie.Need-slice-aggregate-fill-atom-keys
 slice-aggregate-fill-atom-keys c = search needs
@@ -27,8 +26,6 @@ slice-aggregate-fill-atom-keys c = search needs
 fill-atom-keys-requires : tie.Need-fill-atom-keys-requires
 fill-atom-keys-requires c κs = let v = fold-valid (c .before .before .before .before .before .before .before .before .before .before .before .before .pre .1) (c .before .before .before .before .before .before .before .before .fold .ensures) in (v, search (needs, v .few-atoms))
 
-
-
 -- src/walk.rt:107:53
 slice-aggregate-walk : tie.Need-slice-aggregate-walk
 slice-aggregate-walk c = search needs
@@ -36,7 +33,6 @@ slice-aggregate-walk c = search needs
 -- src/walk.rt:107:5
 walk-requires : tie.Need-walk-requires
 walk-requires c κs = (c .before .before .before .before .before .before .before .before .before .before .before .before .before .before .before .before .before .pre .0, (fold-valid (c .before .before .before .before .before .before .before .before .before .before .before .before .before .before .before .before .before .pre .1) (c .before .before .before .before .before .before .before .before .before .before .before .before .before .fold .ensures), c .before .before .before .before .before .before .before .before .key .ensures))
-
 
 -- src/walk.rt:98:1
 same-length : tie.Need-same-length
@@ -49,8 +45,6 @@ same-length-2 c = search needs
 -- src/walk.rt:98:1
 returns : tie.Need-returns
 returns c = walked-folded _ (c .before .before .before .before .before .before .before .before .before .before .before .before .before .before .fold .ensures) (c .walk .ensures)
-
-
 
 pub ask-spec : {M : Type 1} → statement M
 ask-spec =

@@ -24,10 +24,8 @@ use Rattle.withdrawal.proofs.walk.noted.Reads as noted-reads
 abbrev Inv-loop : tie.InvT-loop
 Inv-loop held atoms bonds n m key keys atoms1₀ bonds1₀ count unsure₀ p₀ atoms1 bonds1 unsure p = Seen held (molecule atoms bonds n m) unsure p
 
-
 abbrev μ-loop : tie.MeasureT-loop
 μ-loop held atoms bonds n m key keys atoms1₀ bonds1₀ count unsure₀ p₀ atoms1 bonds1 unsure p = count - p
-
 
 -- src/walk.rt:71:9
 count-requires : tie.Need-count-requires Inv-loop μ-loop
@@ -36,7 +34,6 @@ count-requires c κs = search needs
 -- src/walk.rt:74:5
 loop-holds : tie.Need-loop-holds Inv-loop μ-loop
 loop-holds c = seen-start _ _
-
 
 -- src/walk.rt:75:13
 body-requires : tie.Need-body-requires Inv-loop μ-loop
@@ -54,11 +51,9 @@ enum-told c = search needs
 tag-requires : tie.Need-tag-requires Inv-loop μ-loop
 tag-requires c κs = let p = c .before .before .before .before .before .before .before .before .before .before .before .pre .0 in (omega (arith, few-entries _ (p .1), c .before .before .before .before .before .before .loop-test .taken, c .before .before .before .before .before .before .before .before .count .ensures), p .0)
 
-
 -- src/walk.rt:88:32
 returns : tie.Need-returns Inv-loop μ-loop
 returns c = walked-listed _ _ (c .before .before .before .before .before .before .before .before .loop .inv) (omega (arith, c .before .before .before .before .before .before .before .loop-test .taken, c .before .before .before .before .before .before .before .before .before .count .ensures)) (c .tag .ensures) (said _ (c .before .before .before .before .before .before .body .ensures) (c .before .enum-told .given .1) (c .before .before .before .judge .ensures))
-
 
 enum-told-2 : tie.Need-enum-told-2 Inv-loop μ-loop
 enum-told-2 c = search needs
@@ -89,8 +84,6 @@ loop-again c =
     (λ h. seen-same (now (a .held)) (molecule (now (a .atoms)) (now (a .bonds)) (a .n) (a .m)) (h .2) (seen-other _ _ (c .before .before .before .before .before .before .loop .inv) l (said _ (c .before .before .before .before .body .ensures) (h .1 .given .1) (c .before .judge .ensures))))
     (λ h. seen-unsure _ _ (c .before .before .before .before .before .before .loop .inv) l k (h .3 ∙ h .2 .ensures)) (c .match .came)
 
-
-
 -- src/walk.rt:94:5
 conclude-requires : tie.Need-conclude-requires Inv-loop μ-loop
 conclude-requires c κs = search needs
@@ -98,7 +91,6 @@ conclude-requires c κs = search needs
 -- src/walk.rt:55:1
 returns-2 : tie.Need-returns-2 Inv-loop μ-loop
 returns-2 c = walked-end _ _ (c .before .before .loop .inv) (omega (arith, c .before .loop-test .left, c .before .before .before .count .ensures)) (c .conclude .ensures)
-
 
 pub walk-spec : {M : Type 1} → statement M
 walk-spec =
