@@ -3,3 +3,4 @@ pub mod Rows
 pub mod Used
 pub mod Claims
 pub mod Tables
+pub mod Samples
