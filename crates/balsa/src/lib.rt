@@ -16,6 +16,7 @@ use table::Check;
 use writer::Written;
 
 pub mod forced;
+mod key_call;
 mod pieces_call;
 mod register_calls;
 pub mod reporting;

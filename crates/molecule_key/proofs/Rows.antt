@@ -1,11 +1,8 @@
--- The key looks at the used rows only, and at a copy as at the tables. Assumes nothing.
-use Prim.Native.Nat.{ℕ, _*_, _≤_, _<_}
-use native.Mathlib.Omega.{arith}
-use mathlib.Core.Path.{_≡_, refl, sym, ap, _∙_, subst}
+-- The key of a copy is the key of the tables. Assumes nothing.
+use Prim.Native.Nat.{ℕ}
+use mathlib.Core.Path.{_≡_, sym, ap, _∙_, subst}
 use mathlib.Core.List.{List}
-use lib.ListN.{length, take}
 use lib.IntN.{ℤ}
-use Rattle.table.specs.Limits.{atomCells, bondCells}
 use Rattle.table.specs.Valid.{Valid}
 use Rattle.same_model.specs.Same.{Molecule, molecule}
 use Rattle.folding.specs.Folding.{folded, Complete}

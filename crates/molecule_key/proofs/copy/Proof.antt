@@ -10,8 +10,6 @@ use borrow.Author.Needs.{needs}
 use Rattle.molecule_key.proofs.Copying.{Copying, copying-start, copying-step, copying-end}
 use Rattle.molecule_key.proofs.copy.Statement.{statement}
 use Rattle.molecule_key.proofs.copy.Tie as tie
-use Rattle.molecule_key.proofs.copy.Reads as reads
-use Rattle.molecule_key.proofs.copy.Lts as lts
 
 abbrev Inv-loop : tie.InvT-loop
 Inv-loop from to₀ i₀ to i = Copying from to₀ i to

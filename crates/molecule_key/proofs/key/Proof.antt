@@ -1,51 +1,75 @@
+use mathlib.Core.Path.{sym}
+use denote.Ref.{now}
+use native.Mathlib.Omega.{arith}
+use Rattle.table.proofs.Keys.{held, failed}
+use Rattle.molecule_key.specs.Keyed.{keyedOf}
+use Rattle.molecule_key.proofs.Used.{taken-complete}
+use Rattle.molecule_key.proofs.Tables.{checked-complete, used-atoms, used-bonds, used-key}
 use borrow.Author.Needs.{needs}
 use Rattle.molecule_key.proofs.key.Statement.{statement}
 use Rattle.molecule_key.proofs.key.Tie as tie
-use Rattle.molecule_key.proofs.key.Reads as reads
-use Rattle.molecule_key.proofs.key.Lts as lts
-use Rattle.molecule_key.proofs.rows_key.Reads as rows-key-reads
-use Rattle.table_validity.proofs.enough.Reads as enough-reads
-use Rattle.table_validity.proofs.sound.Reads as sound-reads
 
--- src/lib.rt:97:9
 enough-requires : tie.Need-enough-requires
 enough-requires c κs = search needs
 
--- src/lib.rt:98:9
 returns : tie.Need-returns
-returns c = ?
+unfolding keyedOf
+returns c = simp (failed (c .before .enough .ensures) (c .if1 .taken))
 
--- src/lib.rt:100:9
 sound-requires : tie.Need-sound-requires
 sound-requires c κs = search needs
 
--- src/lib.rt:101:9
 returns-2 : tie.Need-returns-2
-returns-2 c = ?
+unfolding keyedOf
+returns-2 c = simp (held (c .before .before .before .enough .ensures) (c .before .before .if1 .left), failed (c .before .sound .ensures) (c .if2 .taken))
 
--- src/lib.rt:103:13
 mul-a : tie.Need-mul-a
-mul-a c = ?
+mul-a c =
+    let a = c .before .before .before .before .args in
+    let e = held (c .before .before .before .enough .ensures) (c .before .before .if1 .left) in
+    let s = held (c .before .sound .ensures) (c .if2 .left) in
+    let k = checked-complete (now (a .atoms)) (now (a .bonds)) (a .n) (a .m) e s in
+    let l = k .valid .few-atoms in omega arith
 
--- src/lib.rt:104:13
 mul-b : tie.Need-mul-b
-mul-b c = ?
+mul-b c =
+    let a = c .before .before .before .before .args in
+    let e = held (c .before .before .before .enough .ensures) (c .before .before .if1 .left) in
+    let s = held (c .before .sound .ensures) (c .if2 .left) in
+    let k = checked-complete (now (a .atoms)) (now (a .bonds)) (a .n) (a .m) e s in
+    let l = k .valid .few-bonds in omega arith
 
--- src/lib.rt:105:29
 slice-aggregate-rows-key : tie.Need-slice-aggregate-rows-key
-slice-aggregate-rows-key c = ?
+slice-aggregate-rows-key c =
+    let a = c .before .before .before .before .before .args in
+    let e = held (c .before .before .before .before .enough .ensures) (c .before .before .before .if1 .left) in
+    let s = held (c .before .before .sound .ensures) (c .before .if2 .left) in
+    let k = checked-complete (now (a .atoms)) (now (a .bonds)) (a .n) (a .m) e s in
+    sym (used-atoms k)
 
--- src/lib.rt:105:42
 slice-aggregate-rows-key-2 : tie.Need-slice-aggregate-rows-key-2
-slice-aggregate-rows-key-2 c = ?
+slice-aggregate-rows-key-2 c =
+    let a = c .before .before .before .before .before .before .args in
+    let e = held (c .before .before .before .before .before .enough .ensures) (c .before .before .before .before .if1 .left) in
+    let s = held (c .before .before .before .sound .ensures) (c .before .before .if2 .left) in
+    let k = checked-complete (now (a .atoms)) (now (a .bonds)) (a .n) (a .m) e s in
+    sym (used-bonds k)
 
--- src/lib.rt:105:20
 rows-key-requires : tie.Need-rows-key-requires
-rows-key-requires c κs = ?
+rows-key-requires c κs =
+    let a = c .before .before .before .before .before .before .args in
+    let e = held (c .before .before .before .before .before .enough .ensures) (c .before .before .before .before .if1 .left) in
+    let s = held (c .before .before .before .sound .ensures) (c .before .before .if2 .left) in
+    let k = checked-complete (now (a .atoms)) (now (a .bonds)) (a .n) (a .m) e s in
+    (taken-complete k, (used-atoms k, used-bonds k))
 
--- src/lib.rt:94:1
 returns-3 : tie.Need-returns-3
-returns-3 c = ?
+returns-3 c =
+    let a = c .before .before .before .before .before .before .before .args in
+    let e = held (c .before .before .before .before .before .before .enough .ensures) (c .before .before .before .before .before .if1 .left) in
+    let s = held (c .before .before .before .before .sound .ensures) (c .before .before .before .if2 .left) in
+    let k = checked-complete (now (a .atoms)) (now (a .bonds)) (a .n) (a .m) e s in
+    used-key k e s (c .rows-key .ensures)
 
 pub key-spec : {M : Type 1} → statement M
 key-spec =

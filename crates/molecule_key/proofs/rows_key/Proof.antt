@@ -1,24 +1,20 @@
+use lib.Dec.{leb}
+use borrow.Author.Tests.{leb-true}
+use Rattle.ids.specs.Small.{small}
+use Rattle.loops.proofs.Loops.{and-left, and-right}
 use borrow.Author.Needs.{needs}
 use Rattle.molecule_key.proofs.rows_key.Statement.{statement}
 use Rattle.molecule_key.proofs.rows_key.Tie as tie
-use Rattle.molecule_key.proofs.rows_key.Reads as reads
-use Rattle.molecule_key.proofs.rows_key.Lts as lts
-use Rattle.molecule_key.proofs.large_key.Reads as large-key-reads
-use Rattle.molecule_key.proofs.small_key.Reads as small-key-reads
 
--- src/lib.rt:88:9
 small-key-requires : tie.Need-small-key-requires
-small-key-requires c κs = ?
+small-key-requires c κs = let p = c .before .pre in let t = c .if1 .taken in let n = c .before .args .n in let m = c .before .args .m in (p .0, (p .1 .0, p .1 .1, leb-true n small (and-left (leb n small) (leb m small) t), leb-true m small (and-right (leb n small) (leb m small) t)))
 
--- src/lib.rt:88:9
 returns : tie.Need-returns
 returns c = search needs
 
--- src/lib.rt:90:5
 large-key-requires : tie.Need-large-key-requires
 large-key-requires c κs = search needs
 
--- src/lib.rt:82:1
 returns-2 : tie.Need-returns-2
 returns-2 c = search needs
 
