@@ -1,7 +1,7 @@
 // The withdrawal check's calls for C and Rust.
 ghost use mathlib.Core.Path.{_≡_};
 ghost use Rattle.withdrawal.specs.Withdrawal.{withdrew, withdrawOf, Answered};
-ghost use Rattle.withdrawal.specs.Walk.{outOf};
+ghost use Rattle.withdrawal.specs.Answer.{outOf};
 ghost use Rattle.balsa.specs.Withdrawals.{withdrawnOut};
 use withdrawal::walk::Withdrawn;
 

@@ -21,7 +21,8 @@ use Rattle.withdrawal.specs.declared.verdict.Verdict.{Verdict}
 use Rattle.withdrawal.specs.declared.walk.Withdrawn.{Withdrawn}
 use Rattle.withdrawal.specs.Withdrawal.{readText, accepted, drawn, Drawings, WithdrawnOut, refusedWith, True, Answered}
 use Rattle.withdrawal.specs.Verdict.{Says}
-use Rattle.withdrawal.specs.Walk.{outOf, Walked}
+use Rattle.withdrawal.specs.Answer.{outOf}
+use Rattle.withdrawal.specs.Walk.{Walked}
 use Rattle.withdrawal.proofs.Calls.{code-not-zero, readBlank}
 use Rattle.withdrawal.proofs.Verdicts.{text-accepted, text-drawn}
 

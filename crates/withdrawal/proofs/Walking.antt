@@ -19,7 +19,8 @@ use Rattle.withdrawal.specs.declared.verdict.Verdict.{Verdict}
 use Rattle.withdrawal.specs.declared.walk.Withdrawn.{Withdrawn}
 use Rattle.withdrawal.specs.Withdrawal.{isListed, isUnsure, Place, nowhere, at, orElse, firstOf, answers, ofUnsure, ofListed, judgedBy}
 use Rattle.withdrawal.specs.Verdict.{Says}
-use Rattle.withdrawal.specs.Walk.{outOf, placeOf, Seen, Walked}
+use Rattle.withdrawal.specs.Answer.{outOf}
+use Rattle.withdrawal.specs.Walk.{placeOf, Seen, Walked}
 
 -- what is said of a body by a verdict, under other names of both
 pub said : {b d : List ℕ} (y : Molecule) {v w : Verdict} → b ≡ d → v ≡ w → Says b y v → Says d y w

@@ -1,3 +1,4 @@
 pub mod Withdrawal
+pub mod Answer
 pub mod Verdict
 pub mod Walk

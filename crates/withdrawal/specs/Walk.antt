@@ -8,15 +8,9 @@ use Rattle.register.specs.Layout.{maxEntries, count, tagOf, bodyOf}
 use Rattle.same_model.specs.Same.{Molecule}
 use Rattle.withdrawal.specs.declared.verdict.Verdict.{Verdict}
 use Rattle.withdrawal.specs.declared.walk.Withdrawn.{Withdrawn}
-use Rattle.withdrawal.specs.Withdrawal.{isListed, isUnsure, Place, nowhere, at, firstOf, WithdrawnOut, refusedWith, answers, judgedBy}
+use Rattle.withdrawal.specs.Withdrawal.{isListed, isUnsure, Place, nowhere, at, firstOf, judgedBy}
+use Rattle.withdrawal.specs.Answer.{outOf}
 use Rattle.withdrawal.specs.Verdict.{Says}
-
--- the answer in numbers
-abbrev pub outOf : Withdrawn → WithdrawnOut
-outOf (Withdrawn.Refused c p) = refusedWith c p
-outOf Withdrawn.Clear = answers 0 0 0
-outOf (Withdrawn.Listed t p) = answers 1 t p
-outOf (Withdrawn.Undecided p) = answers 2 0 p
 
 -- the place of the first entry that could not be decided; past the last there is none
 abbrev pub placeOf : ℕ → Place

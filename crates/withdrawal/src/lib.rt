@@ -1,7 +1,7 @@
 // The withdrawal check: a withdrawn text is withdrawn in every drawing.
 ghost use mathlib.Core.Path.{_≡_};
 ghost use Rattle.withdrawal.specs.Withdrawal.{withdrew, withdrawOf, Answered};
-ghost use Rattle.withdrawal.specs.Walk.{outOf};
+ghost use Rattle.withdrawal.specs.Answer.{outOf};
 use reader::ending::ReadAnswer;
 use register::contents;
 use table::ATOM_CELLS;

@@ -1,4 +1,4 @@
-use Rattle.withdrawal.specs.Walk.{outOf}
+use Rattle.withdrawal.specs.Answer.{outOf}
 use mathlib.Core.Path.{ap, sym}
 use borrow.Author.Needs.{needs}
 use Rattle.balsa.proofs.withdrawal_calls.withdrawn_reply.Statement.{statement}
