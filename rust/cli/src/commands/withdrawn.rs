@@ -7,7 +7,7 @@ use crate::lines::{self, Text};
 use crate::output::{self, Messages};
 use crate::progress::Progress;
 use crate::texts;
-use balsa::{FileError, Refusal, RegisterFile, Withdrawn};
+use balsa::{Refusal, RegisterFile, Withdrawn};
 use std::io::{self, Write};
 use std::path::Path;
 
@@ -29,20 +29,15 @@ fn run(arguments: &Arguments) -> Result<Verdict, Failure> {
     let is_json = arguments.has(&output::JSON);
     let is_quiet = arguments.has(&output::QUIET) && !is_json;
     let messages = Messages::new(&arguments)?;
+    if let Err(error) = RegisterFile::read(path) {
+        return register::verdict(path, Err(error), &messages);
+    }
     let mut out = output::stdout();
     let mut progress = Progress::new();
     let mut verdict = Verdict::Accepted;
     let texts = lines::each_text(&arguments, |text| {
         progress.step();
-        let answer = match answer(path, text.bytes) {
-            Ok(answer) => answer,
-            Err(error) => {
-                out.flush()?;
-                progress.clear();
-                verdict = register::verdict(path, Err(error), &messages)?;
-                return Ok(());
-            }
-        };
+        let answer = answer(path, text.bytes)?;
         if answer != Ok(Withdrawn::Clear) {
             verdict = Verdict::Refused;
         }
@@ -67,9 +62,13 @@ fn run(arguments: &Arguments) -> Result<Verdict, Failure> {
     texts.map(|()| verdict)
 }
 
-/// What the register of a file, as it is now, says of a text; the error is the file's.
-fn answer(path: &Path, text: &[u8]) -> Result<Result<Withdrawn, Refusal>, FileError> {
-    Ok(RegisterFile::read(path)?.withdrawn(text))
+/// What the register of a file, as it is now, says of a text.
+fn answer(path: &Path, text: &[u8]) -> Result<Result<Withdrawn, Refusal>, Failure> {
+    let register = RegisterFile::read(path).map_err(|error| {
+        let error = io::Error::other(error.to_string());
+        Failure::File(path.display().to_string(), error)
+    })?;
+    Ok(register.withdrawn(text))
 }
 
 fn print(text: &Text<'_>, answer: Withdrawn, out: &mut dyn Write) -> io::Result<()> {
