@@ -30,6 +30,10 @@ class Withdrawn(NamedTuple):
     def __bool__(self):
         return not self.is_clear
 
+    def __str__(self):
+        named = [("entry", self.entry), ("tag", self.tag)]
+        return ", ".join([self.answer] + [f"{name} {number}" for name, number in named if number is not None])
+
 
 Withdrawn.__module__ = "balsa"
 

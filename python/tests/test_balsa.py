@@ -242,6 +242,8 @@ class Registers(unittest.TestCase):
         register.add(3, "no text")
         self.assertEqual(register.withdrawn("COC"), ("undecided", 2, None))
         self.assertEqual(register.withdrawn("CCO"), ("withdrawn", 1, 9))
+        told = [str(register.withdrawn(text)) for text in ["CCO", "COC"]]
+        self.assertEqual(told, ["withdrawn, entry 1, tag 9", "undecided, entry 2"])
         again = pickle.loads(pickle.dumps(register.withdrawn("COC")))
         self.assertEqual((again, again.is_clear, bool(again)), (("undecided", 2, None), False, True))
 

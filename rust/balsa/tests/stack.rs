@@ -3,8 +3,9 @@
 
 mod graphs;
 
+use balsa::register::{MAX_BODY, REGISTER};
 use balsa::tables::{self, Counts, ATOM_TABLE, BOND_TABLE, RENUMBERING, ROW, TEXT};
-use balsa::{Code, Molecule, PieceReader};
+use balsa::{Code, Molecule, PieceReader, Register, Withdrawn};
 use graphs::{families, Graph};
 use std::thread;
 
@@ -97,6 +98,29 @@ fn the_same_compound_of_64_atoms() {
     assert!(same(&apart, &apart));
 }
 
+/// Withdrawing, and asking registers of large molecules that are hard to tell apart.
+#[test]
+fn withdrawn_near_the_limits() {
+    let chain = "*".repeat(RENUMBERING);
+    let rings = vec!["*1**1"; RENUMBERING / 3].join(".");
+    let star = format!("*{}", "(*)".repeat(RENUMBERING - 1));
+    let apart = vec!["*"; RENUMBERING].join(".");
+    let texts = [chain, rings, star, apart];
+    for text in texts.clone() {
+        let texts = texts.clone();
+        let mut register = Register::new(vec![0; REGISTER]);
+        let said = on_little_stack(move || {
+            register.empty()?;
+            for (tag, body) in (0..).zip(&texts) {
+                assert!(body.len() <= MAX_BODY);
+                register.withdraw(tag, body.as_bytes())?;
+            }
+            register.withdrawn(text.as_bytes())
+        });
+        assert!(!matches!(said, Ok(Withdrawn::Clear) | Err(_)), "{said:?}");
+    }
+}
+
 /// Every call on tables, and reading what was written.
 #[test]
 fn all_calls_near_the_limits() {
@@ -109,6 +133,7 @@ fn all_calls_near_the_limits() {
             let mut text = vec![0; TEXT];
             let mut numbers = vec![0; RENUMBERING];
             assert_eq!(tables::check(&atoms, &bonds, counts), Ok(()));
+            assert!(tables::key(&atoms, &bonds, counts).is_ok());
             let written = tables::write(&atoms, &bonds, counts, &mut text, &mut numbers);
             let first = tables::first(&atoms, &bonds, counts, &mut row);
             let is_matching = tables::is_matching(&atoms, &bonds, counts, &row);
