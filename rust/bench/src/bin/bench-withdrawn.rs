@@ -150,7 +150,13 @@ fn keys(texts: &[&[u8]]) {
     for text in texts {
         let read = tables::read(text, &mut atoms, &mut bonds).expect("a text");
         let key = |counts: Counts| tables::key(black_box(&atoms), &bonds, counts);
-        let round = || clock::time(|| (0..CALLS).for_each(|_| drop(black_box(key(read.counts)))));
+        let round = || {
+            clock::time(|| {
+                for _ in 0..CALLS {
+                    let _ = black_box(key(read.counts));
+                }
+            })
+        };
         let least = (0..ROUNDS).map(|_| round()).min().unwrap_or_default();
         times.push(least.as_secs_f64() * 1e6 / CALLS as f64);
     }
