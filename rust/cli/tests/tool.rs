@@ -450,9 +450,16 @@ fn the_output_cannot_be_written() {
 
 #[test]
 fn a_broken_pipe_is_quiet() {
-    for command in ["check", "kekulize", "matchings", "sides", "key", "report"] {
+    let folder = Folder::new("pipe");
+    let register = folder.file("register");
+    run(&["register", "init", &register]);
+    let corpus = format!("{ROOT}/corpus/real.smi");
+    let commands = ["check", "kekulize", "matchings", "sides", "key", "report"];
+    let commands = commands.map(|command| vec![command, "-f", &corpus]);
+    let withdrawn = vec!["withdrawn", &register, "-f", &corpus];
+    for words in commands.into_iter().chain([withdrawn]) {
         let mut child = Command::new(TOOL)
-            .args([command, "-f", &format!("{ROOT}/corpus/real.smi")])
+            .args(words)
             .stdout(Stdio::piped())
             .stderr(Stdio::piped())
             .spawn()
