@@ -58,16 +58,22 @@ impl Question {
         })
     }
 
-    /// Asks both. They say the same, but that the proved library may leave an entry undecided whose body
-    /// has the text's key: how many such entries there are is told then, for none if they say the same.
+    /// Asks both: what the proved library says, and how many entries it left undecided for one key.
     pub fn compare(&self) -> Result<(Said, usize), String> {
-        let (proved, expected) = (self.proved(), self.reference());
-        if proved == expected {
-            return Ok((proved, 0));
+        let said = self.proved();
+        Ok((said, self.judge(said)?))
+    }
+
+    /// Whether what is said is what the reference says, but that an entry may be left undecided whose body
+    /// has the text's key: how many such entries there are is told then, 0 where the same is said.
+    pub fn judge(&self, said: Said) -> Result<usize, String> {
+        let expected = self.reference();
+        if said == expected {
+            return Ok(0);
         }
         let alike = self.alike();
         let is_alike = |entry: usize| alike.contains(&entry);
-        let may_be = match (proved, expected) {
+        let may_be = match (said, expected) {
             (Ok(Withdrawn::Undecided { entry }), Ok(_)) => is_alike(entry),
             (
                 Ok(Withdrawn::Withdrawn { entry, .. }),
@@ -76,8 +82,8 @@ impl Question {
             _ => false,
         };
         match may_be {
-            true => Ok((proved, alike.len())),
-            false => Err(format!("proved {proved:?}, reference {expected:?}")),
+            true => Ok(alike.len()),
+            false => Err(format!("{said:?} is said, the reference says {expected:?}")),
         }
     }
 

@@ -228,6 +228,55 @@ fn random_questions() {
     assert!(spent < 60, "{spent}");
 }
 
+/// Wrong answers are seen: the last entry left out, undecided told as clear, bodies that are not read
+/// skipped, the last entry found in place of the first, a refusal told as clear.
+#[test]
+fn wrong_answers_are_seen() {
+    let mut random = Random::new(39);
+    let mut seen = [0; 5];
+    for _ in 0..2000 {
+        let question = Question::random(&mut random, Effort::Plain);
+        let right = question.proved();
+        let Ok(bodies) = listed(&question.register) else {
+            continue;
+        };
+        let without = |keep: &dyn Fn(usize, &[u8]) -> bool| {
+            let mut register = emptied();
+            for (entry, (tag, body)) in bodies.iter().enumerate() {
+                if keep(entry, body) {
+                    register::add(&mut register, *tag, body).unwrap();
+                }
+            }
+            let text = question.text.clone();
+            Question { register, text }.proved()
+        };
+        let last = (1..bodies.len()).rev().find_map(|entry| {
+            let found = without(&|other, _| other >= entry);
+            match found {
+                Ok(Withdrawn::Withdrawn { tag, .. }) => Some(Withdrawn::Withdrawn { tag, entry }),
+                _ => None,
+            }
+        });
+        let is_undecided = matches!(right, Ok(Withdrawn::Undecided { .. }));
+        let wrong = [
+            without(&|entry, _| entry + 1 < bodies.len()),
+            if is_undecided {
+                Ok(Withdrawn::Clear)
+            } else {
+                right
+            },
+            without(&|_, body| Read::read(body).is_ok()),
+            last.map_or(right, Ok),
+            right.or(Ok(Withdrawn::Clear)),
+        ];
+        for (seen, wrong) in seen.iter_mut().zip(wrong) {
+            *seen += usize::from(wrong != right && question.judge(wrong).is_err());
+        }
+    }
+    println!("{seen:?}");
+    assert!(seen.iter().all(|&count| count > 20), "{seen:?}");
+}
+
 /// Redrawings have equal keys, and where keys differ the molecules are no redrawings.
 #[test]
 fn keys_of_random_redrawings() {

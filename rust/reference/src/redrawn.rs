@@ -23,12 +23,12 @@ pub fn folded(molecule: &Molecule) -> Molecule {
     }
     let mut number = vec![None; atoms.len()];
     let mut staying = 0;
-    for atom in 0..atoms.len() {
+    for (atom, number) in number.iter_mut().enumerate() {
         let host = host(molecule, &neighbours, atom);
         match host.filter(|&host| atoms[host].hydrogens < MAX_HYDROGENS) {
             Some(host) => atoms[host].hydrogens += 1,
             None => {
-                number[atom] = Some(staying);
+                *number = Some(staying);
                 staying += 1;
             }
         }

@@ -196,7 +196,7 @@ fn adversaries() -> Vec<Hard> {
     let mut random = Random::new(2);
     let mut all = Vec::new();
     for atoms in [60, 240, 490, 1000] {
-        let bodies = (0..MAX_ENTRIES).map(|i| rings(atoms, i + 1));
+        let bodies = (0..MAX_ENTRIES).map(|i| rings(atoms, 1 + i % 12));
         all.push(of_graphs(
             &mut random,
             &format!("rings, {atoms} atoms"),
