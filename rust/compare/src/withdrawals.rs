@@ -72,13 +72,8 @@ impl Question {
             return Ok(0);
         }
         let alike = self.alike();
-        let is_alike = |entry: usize| alike.contains(&entry);
         let may_be = match (said, expected) {
-            (Ok(Withdrawn::Undecided { entry }), Ok(_)) => is_alike(entry),
-            (
-                Ok(Withdrawn::Withdrawn { entry, .. }),
-                Ok(Withdrawn::Withdrawn { entry: first, .. }),
-            ) => first < entry && is_alike(entry) && is_alike(first),
+            (Ok(Withdrawn::Undecided { entry }), Ok(_)) => alike.contains(&entry),
             _ => false,
         };
         match may_be {
