@@ -228,6 +228,28 @@ fn random_questions() {
     assert!(spent < 60, "{spent}");
 }
 
+/// A drawing does not matter: redrawings get the same answer of one register.
+#[test]
+fn redrawings_get_one_answer() {
+    let mut random = Random::new(40);
+    let mut told = [0; 2];
+    for _ in 0..3000 {
+        let Question { register, text } = Question::random(&mut random, Effort::Plain);
+        let Ok(molecule) = read(&text) else {
+            continue;
+        };
+        let drawn = redrawing(&mut random, &molecule);
+        let drawn = spelling::text(&mut random, &drawn);
+        let ask = |text: &[u8]| Register::new(&register[..]).withdrawn(text);
+        if let (Ok(one), Ok(other)) = (ask(&text), ask(&drawn)) {
+            let shown = [&text, &drawn].map(|text| String::from_utf8_lossy(text));
+            assert_eq!(one, other, "{shown:?}");
+            told[usize::from(one.is_clear())] += 1;
+        }
+    }
+    assert!(told.iter().all(|&count| count > 200), "{told:?}");
+}
+
 /// Wrong answers are seen: the last entry left out, undecided told as clear, bodies that are not read
 /// skipped, the last entry found in place of the first, a refusal told as clear.
 #[test]
