@@ -227,6 +227,18 @@ fn adversaries() -> Vec<Hard> {
         let name = format!("Cai, Fürer, Immerman, {copies} over 8 atoms");
         all.push(of_graphs(&mut random, &name, bodies, &gadgets(copies, 0)));
     }
+    for half in [8, 10, 12, 14, 16] {
+        let kinds = lengths(half, 2);
+        let others = kinds[1..].iter().cycle().take(MAX_ENTRIES);
+        let bodies = others.map(|lengths| dense(half, lengths));
+        let name = format!("dense, {} atoms of {} bonds", 2 * half, half - 2);
+        all.push(of_graphs(
+            &mut random,
+            &name,
+            bodies,
+            &dense(half, &kinds[0]),
+        ));
+    }
     for (name, graph) in [
         ("single atoms", Plain::new(1000, [])),
         ("a star", Plain::new(1000, (1..1000).map(|leaf| (0, leaf)))),
@@ -388,6 +400,31 @@ fn gadgets(copies: usize, twisted: usize) -> Plain {
     let (plain, turned) = (one(false), one(true));
     let copies = (0..copies).map(|i| if i < twisted { &turned } else { &plain });
     copies.fold(Plain::new(0, []), |all, graph| all.beside(graph.clone()))
+}
+
+/// The ways to write a number as a sum of ascending numbers, each at least so large.
+fn lengths(sum: usize, least: usize) -> Vec<Vec<usize>> {
+    let mut all: Vec<Vec<usize>> = (least..=sum / 2)
+        .flat_map(|first| {
+            let rest = lengths(sum - first, first).into_iter();
+            rest.map(move |rest| [&[first], &rest[..]].concat())
+        })
+        .collect();
+    all.insert(0, vec![sum]);
+    all
+}
+
+/// Two halves, each atom of one joined to all of the other but two; what is not joined would be rings of
+/// twice these lengths.
+fn dense(half: usize, lengths: &[usize]) -> Plain {
+    let mut next = Vec::new();
+    for length in lengths {
+        let start = next.len();
+        next.extend((0..*length).map(|i| start + (i + 1) % length));
+    }
+    let pairs = (0..half).flat_map(|a| (0..half).map(move |b| (a, b)));
+    let joined = pairs.filter(|&(a, b)| a != b && next[a] != b);
+    Plain::new(2 * half, joined.map(|(a, b)| (a, half + b)))
 }
 
 fn hypercube(dimensions: usize) -> Plain {
