@@ -197,7 +197,7 @@ fn adversaries() -> Vec<Hard> {
     let mut all = Vec::new();
     for atoms in [60, 240, 490, 1000] {
         let bodies = (0..MAX_ENTRIES).map(|i| rings(atoms, 1 + i % 12));
-        all.push(of_graphs(
+        all.extend(of_graphs(
             &mut random,
             &format!("rings, {atoms} atoms"),
             bodies,
@@ -207,15 +207,15 @@ fn adversaries() -> Vec<Hard> {
     for atoms in [60, 140, 300, 700] {
         let bodies = (0..MAX_ENTRIES).map(|i| ladder(atoms, i + 1));
         let name = format!("ladders, {atoms} atoms");
-        all.push(of_graphs(&mut random, &name, bodies, &ladder(atoms, 0)));
+        all.extend(of_graphs(&mut random, &name, bodies, &ladder(atoms, 0)));
         let name = format!("the same ladder, {atoms} atoms");
         let bodies = (0..MAX_ENTRIES).map(|_| ladder(atoms, 3));
-        all.push(of_graphs(&mut random, &name, bodies, &ladder(atoms, 3)));
+        all.extend(of_graphs(&mut random, &name, bodies, &ladder(atoms, 3)));
     }
     for copies in [1, 5, 22] {
         let bodies = (0..MAX_ENTRIES).map(|i| strongly_regular(copies, 1 + i % copies));
         let name = format!("strongly regular, {copies} of 16 atoms");
-        all.push(of_graphs(
+        all.extend(of_graphs(
             &mut random,
             &name,
             bodies,
@@ -225,14 +225,14 @@ fn adversaries() -> Vec<Hard> {
     for copies in [1, 4, 9] {
         let bodies = (0..MAX_ENTRIES).map(|i| gadgets(copies, 1 + i % copies));
         let name = format!("Cai, Fürer, Immerman, {copies} over 8 atoms");
-        all.push(of_graphs(&mut random, &name, bodies, &gadgets(copies, 0)));
+        all.extend(of_graphs(&mut random, &name, bodies, &gadgets(copies, 0)));
     }
     for half in [8, 10, 12, 14, 16] {
         let kinds = lengths(half, 2);
         let others = kinds[1..].iter().cycle().take(MAX_ENTRIES);
         let bodies = others.map(|lengths| dense(half, lengths));
         let name = format!("dense, {} atoms of {} bonds", 2 * half, half - 2);
-        all.push(of_graphs(
+        all.extend(of_graphs(
             &mut random,
             &name,
             bodies,
@@ -257,7 +257,7 @@ fn adversaries() -> Vec<Hard> {
         ("a chain", Plain::new(1000, (1..1000).map(|a| (a - 1, a)))),
     ] {
         let bodies = std::iter::repeat_n(graph.clone(), MAX_ENTRIES);
-        all.push(of_graphs(&mut random, name, bodies, &graph));
+        all.extend(of_graphs(&mut random, name, bodies, &graph));
     }
     all.extend(slow_to_read());
     all
@@ -293,13 +293,14 @@ impl Plain {
     }
 }
 
-/// Texts of graphs with other numbers each, as short as they are found; those over a body are left out.
+/// Texts of graphs with other numbers each, as short as they are found; those over a body are left out. None
+/// where the question cannot be written.
 fn of_graphs(
     random: &mut Random,
     name: &str,
     bodies: impl Iterator<Item = Plain>,
     query: &Plain,
-) -> Hard {
+) -> Option<Hard> {
     let mut text = |graph: &Plain| {
         let molecule = graph.molecule();
         let tries = (0..6).map(|i| match i {
@@ -310,9 +311,9 @@ fn of_graphs(
         texts.min_by_key(Vec::len)
     };
     let bodies: Vec<Vec<u8>> = bodies.filter_map(|graph| text(&graph)).collect();
-    let query = text(query).expect("it can be written");
+    let query = text(query)?;
     let bodies = bodies.into_iter().filter(|body| body.len() <= MAX_BODY);
-    (name.into(), bodies.collect(), query)
+    Some((name.into(), bodies.collect(), query))
 }
 
 /// Rings of so many atoms together; each choice has other sizes.
