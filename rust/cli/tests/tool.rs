@@ -3,7 +3,7 @@
 use balsa::tables::{RENUMBERING, TEXT};
 use balsa::Code;
 use std::fs;
-use std::io::{Read, Write};
+use std::io::{BufRead, BufReader, Read, Write};
 use std::path::PathBuf;
 use std::process::{Command, Stdio};
 use std::thread;
@@ -661,6 +661,34 @@ fn withdrawn() {
         "1: withdrawn, entry 1, tag 9\n",
         "",
     );
+}
+
+/// Each text is answered at once, by the register as it is then.
+#[test]
+fn withdrawn_meanwhile() {
+    let folder = Folder::new("meanwhile");
+    let file = folder.file("register");
+    run(&["register", "init", &file]);
+    let mut child = Command::new(TOOL)
+        .args(["withdrawn", &file])
+        .stdin(Stdio::piped())
+        .stdout(Stdio::piped())
+        .spawn()
+        .unwrap();
+    let mut orders = child.stdin.take().unwrap();
+    let mut answers = BufReader::new(child.stdout.take().unwrap()).lines();
+    let mut ask = |text: &str| {
+        writeln!(orders, "{text}").unwrap();
+        answers.next().unwrap().unwrap()
+    };
+    assert_eq!(ask("OCC"), "1: clear");
+    run(&["register", "withdraw", &file, "9", "CCO"]);
+    assert_eq!(ask("OCC"), "2: withdrawn, entry 0, tag 9");
+    fs::write(&file, b"rubbish").unwrap();
+    writeln!(orders, "OCC").unwrap();
+    drop(orders);
+    assert!(answers.next().is_none());
+    assert_eq!(child.wait().unwrap().code(), Some(2));
 }
 
 #[test]

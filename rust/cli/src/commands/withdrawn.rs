@@ -15,7 +15,7 @@ pub static COMMAND: Command = Command {
     name: "withdrawn",
     operands: &["[OPTION]... FILE [TEXT]..."],
     about: "Tells whether texts are withdrawn by the register in FILE, in any drawing",
-    more: "`LINE: clear`, `LINE: withdrawn, entry N, tag T` or `LINE: undecided, entry N`; the register is read anew for each text. The exit status is 0 where all are clear, 1 where one is withdrawn, undecided or refused: release on 0 and on nothing else",
+    more: "`LINE: clear`, `LINE: withdrawn, entry N, tag T` or `LINE: undecided, entry N`; the register is read anew for each text, and each answer is written at once. The exit status is 0 where all are clear, 1 where one is withdrawn, undecided or refused: release on 0 and on nothing else",
     options: &texts::OPTIONS,
     run,
 };
@@ -50,12 +50,12 @@ fn run(arguments: &Arguments) -> Result<Verdict, Failure> {
                 out.write_all(object.line().as_bytes())?;
             }
             Err(refusal) => {
-                out.flush()?;
                 progress.clear();
                 messages.refused(&text, refusal)?;
             }
         }
-        Ok(())
+        // who asks through a pipe waits for the answer
+        Ok(out.flush()?)
     });
     progress.clear();
     out.flush()?;
