@@ -457,7 +457,11 @@ fn a_broken_pipe_is_quiet() {
     let commands = ["check", "kekulize", "matchings", "sides", "key", "report"];
     let commands = commands.map(|command| vec![command, "-f", &corpus]);
     let withdrawn = vec!["withdrawn", &register, "-f", &corpus];
-    for words in commands.into_iter().chain([withdrawn]) {
+    for (words, status) in commands
+        .map(|words| (words, 0))
+        .into_iter()
+        .chain([(withdrawn, 1)])
+    {
         let mut child = Command::new(TOOL)
             .args(words)
             .stdout(Stdio::piped())
@@ -467,7 +471,8 @@ fn a_broken_pipe_is_quiet() {
         let mut first = [0];
         child.stdout.take().unwrap().read_exact(&mut first).unwrap();
         let done = child.wait_with_output().unwrap();
-        assert_eq!((done.status.code(), &*done.stderr), (Some(0), &b""[..]));
+        let told = (done.status.code(), &*done.stderr);
+        assert_eq!(told, (Some(status), &b""[..]));
     }
 }
 

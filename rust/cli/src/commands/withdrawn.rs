@@ -20,7 +20,15 @@ pub static COMMAND: Command = Command {
     run,
 };
 
+/// Where whoever reads the answers has gone, not all were heard: that is not 0 here.
 fn run(arguments: &Arguments) -> Result<Verdict, Failure> {
+    match answer_all(arguments) {
+        Err(failure) if failure.is_broken_pipe() => Ok(Verdict::Refused),
+        done => done,
+    }
+}
+
+fn answer_all(arguments: &Arguments) -> Result<Verdict, Failure> {
     let Some((file, arguments)) = arguments.split_first() else {
         let what = format!("which register?\n{}", COMMAND.synopsis());
         return Err(Failure::usage(what));
