@@ -316,12 +316,14 @@ static balsa_withdraw_reply withdraw(uint8_t *reg, size_t reg_len, const char *t
 /* Whether a text is withdrawn so, with nothing else in the reply. */
 static int asked(const uint8_t *reg, const char *text, uint32_t answer, uint16_t tag, size_t entry) {
     balsa_withdrawn_reply w = balsa_withdrawn(reg, BALSA_REGISTER, (const uint8_t *)text, strlen(text));
+    expect(BALSA_IS_CLEAR(w) == (answer == BALSA_CLEAR), "only what is clear is clear");
     return w.code == 0 && w.place == 0 && w.answer == answer && w.tag == tag && w.entry == entry;
 }
 
 /* Whether a question is refused so, with nothing else in the reply. */
 static int refused(const uint8_t *reg, size_t reg_len, const char *text, uint32_t code, size_t place) {
     balsa_withdrawn_reply w = balsa_withdrawn(reg, reg_len, (const uint8_t *)text, strlen(text));
+    expect(!BALSA_IS_CLEAR(w), "a refusal is not clear");
     return w.code == code && w.place == place && w.answer == 0 && w.tag == 0 && w.entry == 0;
 }
 

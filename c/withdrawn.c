@@ -23,19 +23,14 @@ static size_t load(const char *path) {
 /* Prints what is said of a text; whether it may be released. */
 static int is_released(unsigned long line, const char *text, size_t length) {
     balsa_withdrawn_reply w = balsa_withdrawn(reg, sizeof reg, (const uint8_t *)text, length);
-    if (w.code != BALSA_ACCEPTED) {
-        return 0;
-    }
-    if (w.answer == BALSA_CLEAR) {
+    if (BALSA_IS_CLEAR(w)) {
         printf("%lu: clear\n", line);
-        return 1;
-    }
-    if (w.answer == BALSA_WITHDRAWN) {
+    } else if (w.code == BALSA_ACCEPTED && w.answer == BALSA_WITHDRAWN) {
         printf("%lu: withdrawn, entry %zu, tag %u\n", line, w.entry, w.tag);
-    } else {
+    } else if (w.code == BALSA_ACCEPTED) {
         printf("%lu: undecided, entry %zu\n", line, w.entry);
     }
-    return 0;
+    return BALSA_IS_CLEAR(w);
 }
 
 int main(int argc, char **argv) {

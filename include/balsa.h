@@ -362,7 +362,8 @@ balsa_walk_reply balsa_register_walk(const uint8_t *reg, size_t reg_len, size_t 
  *
  * A register lists texts that are withdrawn, each under a tag. A text is withdrawn if it and a listed one are
  * redrawings (docs/RULES.md): in every drawing, that is, whatever its numbers, its Kekule form, its selected
- * letters, its drawn hydrogens, its map numbers and its marks. Release on BALSA_CLEAR and on nothing else. */
+ * letters, its drawn hydrogens, its map numbers and its marks. Release on clear and on nothing else: that is
+ * BALSA_IS_CLEAR of a reply, code 0 and answer 0 (the answer of a refusal is 0 too). */
 
 enum {
     BALSA_CLEAR = 0,
@@ -382,8 +383,7 @@ typedef struct {
 balsa_withdraw_reply balsa_withdraw(uint8_t *reg, size_t reg_len, uint16_t tag, const uint8_t *text,
                                     size_t text_len);
 
-/* code 0 with the answer, or a refusal's code with its place. What is not named is 0, and a refusal's answer
- * too: look at the code first. */
+/* code 0 with the answer, or a refusal's code with its place. What is not named is 0. */
 typedef struct {
     uint32_t code;
     size_t place;
@@ -391,6 +391,9 @@ typedef struct {
     uint16_t tag;
     size_t entry;
 } balsa_withdrawn_reply;
+
+/* Whether a reply allows a release: the register and the text were read, and the text is clear. */
+#define BALSA_IS_CLEAR(reply) ((reply).code == BALSA_ACCEPTED && (reply).answer == BALSA_CLEAR)
 
 /* Whether a text is withdrawn. BALSA_WITHDRAWN: an entry is a redrawing of it, with the place and the tag of the
  * first that was found to be one. Else BALSA_UNDECIDED: an entry could not be decided, with the place of the
