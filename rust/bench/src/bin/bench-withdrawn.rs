@@ -16,7 +16,7 @@ use compare::corpus;
 use compare::drawings::{redrawing, renumbered};
 use compare::random::Random;
 use compare::spelling;
-use families::Graph;
+use families::{random, Graph};
 use std::collections::BTreeMap;
 use std::hint::black_box;
 use std::time::Duration;
@@ -436,7 +436,11 @@ fn hypercube(dimensions: usize) -> Plain {
 
 /// Bodies of selected atoms in which it takes long to find a matching: as many as there is room for.
 fn slow_to_read() -> Vec<Hard> {
-    let texts = families::all().into_iter().filter_map(|graph: Graph| {
+    let large = [30, 40, 50].into_iter();
+    let large = large.flat_map(|ring| (1..4).map(move |seed| random(1000, 1100, ring, seed)));
+    let few = (1..4).map(|seed| random(120, 150, 5, seed));
+    let graphs = families::all().into_iter().chain(large).chain(few);
+    let texts = graphs.filter_map(|graph: Graph| {
         let tables = graph.tables();
         let mut text = vec![0; tables::TEXT];
         let mut numbers = vec![0; tables::RENUMBERING];
