@@ -98,23 +98,34 @@ fn the_same_compound_of_64_atoms() {
     assert!(same(&apart, &apart));
 }
 
-/// Withdrawing, and asking registers of large molecules that are hard to tell apart.
+/// The text of a graph, if it can be written, is read and has room in a register.
+fn body(graph: &Graph) -> Option<String> {
+    let (atoms, bonds, counts) = graph.tables();
+    let mut text = vec![0; TEXT];
+    let mut numbers = vec![0; RENUMBERING];
+    let length = tables::write(&atoms, &bonds, counts, &mut text, &mut numbers).ok()?;
+    text.truncate(length.min(MAX_BODY + 1));
+    Molecule::read(&text).ok()?;
+    String::from_utf8(text).ok()
+}
+
+/// Withdrawing, and asking registers of large molecules that are hard to tell apart or hard to read.
 #[test]
 fn withdrawn_near_the_limits() {
     let chain = "*".repeat(RENUMBERING);
     let rings = vec!["*1**1"; RENUMBERING / 3].join(".");
     let star = format!("*{}", "(*)".repeat(RENUMBERING - 1));
     let apart = vec!["*"; RENUMBERING].join(".");
-    let texts = [chain, rings, star, apart];
-    for text in texts.clone() {
-        let texts = texts.clone();
+    let graphs = families().into_iter();
+    let mut texts: Vec<String> = graphs.filter_map(|(_, graph, _)| body(&graph)).collect();
+    assert!(texts.len() > 4, "{}", texts.len());
+    texts.extend([chain, rings, star, apart]);
+    for text in texts {
         let mut register = Register::new(vec![0; REGISTER]);
         let said = on_little_stack(move || {
             register.empty()?;
-            for (tag, body) in (0..).zip(&texts) {
-                assert!(body.len() <= MAX_BODY);
-                register.withdraw(tag, body.as_bytes())?;
-            }
+            register.withdraw(7, b"C")?;
+            register.withdraw(8, text.as_bytes())?;
             register.withdrawn(text.as_bytes())
         });
         assert!(!matches!(said, Ok(Withdrawn::Clear) | Err(_)), "{said:?}");
