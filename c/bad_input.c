@@ -280,6 +280,96 @@ static void registers(void) {
     expect(reg[BALSA_REGISTER] == 7, "bytes past the register stay");
 }
 
+/* The key of a text that is read. */
+static uint64_t key(const char *text) {
+    balsa_read_reply r = read_text(text);
+    balsa_key_reply k = balsa_key(atoms, BALSA_ATOM_TABLE, bonds, BALSA_BOND_TABLE, r.atoms, r.bonds);
+    expect(k.code == 0, "a key");
+    return k.key;
+}
+
+/* The key: the same for every drawing, at any size; 1 and 13 with key 0. */
+static void keys(void) {
+    expect(key("CC1=C(C)C=CC=C1") == key("CC=1C(C)=CC=CC1") && key("Cc1ccccc1C") == key("CC=1C(C)=CC=CC1"),
+           "Kekule forms and selected letters have one key");
+    expect(key("[H]C([H])([H])[H]") == key("C") && key("[CH4:1]") == key("C"), "drawn hydrogens and map numbers too");
+    expect(key("[2H]C") != key("[H]C") && key("CCO") != key("COC"), "an isotope has not, nor another compound");
+    char chain[BALSA_RENUMBERING + 1] = "";
+    memset(chain, 'C', BALSA_RENUMBERING);
+    expect(key(chain) != key("C"), "1,000 atoms");
+    balsa_read_reply r = read_text("CC");
+    balsa_key_reply k = balsa_key(atoms, BALSA_ATOM_TABLE - 1, bonds, BALSA_BOND_TABLE, r.atoms, r.bonds);
+    expect(k.code == 1 && k.key == 0, "a short table");
+    k = balsa_key(NULL, 0, NULL, 0, SIZE_MAX, SIZE_MAX);
+    expect(k.code == 1 && k.key == 0, "no tables, and 1 before 13");
+    bonds[1] = -1;
+    k = balsa_key(atoms, BALSA_ATOM_TABLE, bonds, BALSA_BOND_TABLE, r.atoms, r.bonds);
+    expect(k.code == 13 && k.key == 0, "an end that is no atom");
+    k = balsa_key(atoms, BALSA_ATOM_TABLE, bonds, BALSA_BOND_TABLE, SIZE_MAX, SIZE_MAX);
+    expect(k.code == 13 && k.key == 0, "counts above the limits");
+}
+
+static balsa_withdraw_reply withdraw(uint8_t *reg, size_t reg_len, const char *text) {
+    return balsa_withdraw(reg, reg_len, 7, (const uint8_t *)text, strlen(text));
+}
+
+/* Whether a text is withdrawn so, with nothing else in the reply. */
+static int asked(const uint8_t *reg, const char *text, uint32_t answer, uint16_t tag, size_t entry) {
+    balsa_withdrawn_reply w = balsa_withdrawn(reg, BALSA_REGISTER, (const uint8_t *)text, strlen(text));
+    expect(BALSA_IS_CLEAR(w) == (answer == BALSA_CLEAR), "only what is clear is clear");
+    return w.code == 0 && w.place == 0 && w.answer == answer && w.tag == tag && w.entry == entry;
+}
+
+/* Whether a question is refused so, with nothing else in the reply. */
+static int refused(const uint8_t *reg, size_t reg_len, const char *text, uint32_t code, size_t place) {
+    balsa_withdrawn_reply w = balsa_withdrawn(reg, reg_len, (const uint8_t *)text, strlen(text));
+    expect(!BALSA_IS_CLEAR(w), "a refusal is not clear");
+    return w.code == code && w.place == place && w.answer == 0 && w.tag == 0 && w.entry == 0;
+}
+
+/* Withdrawal: every drawing, bodies that are not read, the order of refusals; a refusal changes nothing. */
+static void withdrawals(void) {
+    static uint8_t reg[BALSA_REGISTER], before[sizeof reg];
+    static const char atom[] = "-[999CoH9-9:9999]";
+    static char chain[BALSA_REGISTER_BODY + sizeof atom] = "C";
+    memset(reg, 7, sizeof reg);
+    memset(before, 7, sizeof before);
+    balsa_withdraw_reply w = withdraw(reg, sizeof reg - 1, "C11");
+    expect(w.code == 1 && w.place == 0, "1 before what reading refuses");
+    w = withdraw(reg, sizeof reg, "C11");
+    expect(w.code == 7 && w.place == 2, "reading's refusal with its place, before 17");
+    w = withdraw(reg, sizeof reg, "C");
+    expect(w.code == 17 && w.place == 0, "rubbish is 17");
+    expect(balsa_withdraw(NULL, 0, 7, NULL, 0).code == 1, "no register");
+    expect(memcmp(reg, before, sizeof reg) == 0, "a refusal leaves the register");
+    expect(refused(reg, sizeof reg - 1, "C11", 1, 0) && refused(reg, 0, "C11", 1, 0), "1 first");
+    expect(refused(reg, sizeof reg, "C11", 17, 0), "17 before what reading refuses");
+    balsa_register_empty(reg, sizeof reg);
+    expect(refused(reg, sizeof reg, "C11", 7, 2) && refused(reg, sizeof reg, "cc", 22, 0), "reading's refusals");
+    expect(asked(reg, "C", BALSA_CLEAR, 0, 0), "nothing is listed");
+    expect(balsa_withdrawn(reg, sizeof reg, NULL, 0).answer == BALSA_CLEAR, "the empty text, as null");
+    expect(withdraw(reg, sizeof reg, "CC1=C(C)C=CC=C1").code == 0 && reg[1] == 1, "a text is withdrawn");
+    expect(asked(reg, "CC=1C(C)=CC=CC1", BALSA_WITHDRAWN, 7, 0), "in the other Kekule form");
+    expect(asked(reg, "Cc1ccccc1C", BALSA_WITHDRAWN, 7, 0), "with selected letters");
+    expect(asked(reg, "[H]C([H])([H])c1ccccc1[CH3:9]", BALSA_WITHDRAWN, 7, 0), "with hydrogens and a map number");
+    expect(asked(reg, "Cc1cccc(C)c1", BALSA_CLEAR, 0, 0), "another xylene is clear");
+    balsa_register_add(reg, sizeof reg, 8, (const uint8_t *)"no text", 7);
+    expect(asked(reg, "Cc1cccc(C)c1", BALSA_UNDECIDED, 0, 1), "a body that is not read");
+    expect(asked(reg, "Cc1ccccc1C", BALSA_WITHDRAWN, 7, 0), "withdrawn before undecided");
+    balsa_withdraw(reg, sizeof reg, 9, (const uint8_t *)"Cc1cccc(C)c1", 12);
+    expect(asked(reg, "Cc1cccc(C)c1", BALSA_WITHDRAWN, 9, 2), "behind what is not read too");
+    balsa_withdraw(reg, sizeof reg, 10, NULL, 0);
+    expect(asked(reg, "", BALSA_WITHDRAWN, 10, 3), "the empty text is withdrawn");
+    memcpy(before, reg, sizeof reg);
+    while (strlen(chain) <= BALSA_REGISTER_BODY) {
+        strcat(chain, atom);
+    }
+    w = withdraw(reg, sizeof reg, chain);
+    expect(w.code == 18 && w.place == 0 && asked(reg, chain, BALSA_UNDECIDED, 0, 1), "a text longer than a body");
+    w = withdraw(reg, sizeof reg, "C11");
+    expect(w.code == 7 && memcmp(reg, before, sizeof reg) == 0, "nothing is added");
+}
+
 /* The report: as long as it says; one byte too few changes nothing; zeros follow it. */
 static void reports(void) {
     static const char input[] = "c1ccccc1\nC11\n\n";
@@ -400,6 +490,8 @@ int main(void) {
     forced_pairs();
     compounds();
     registers();
+    keys();
+    withdrawals();
     reports();
     pieces();
     printf("%u checks hold\n", checks);

@@ -1,4 +1,5 @@
-/* Balsa text: reading, writing, kekulizing and comparing, by a proved library (crate balsa; link libbalsa.a).
+/* Balsa text: reading, writing, kekulizing and comparing, and whether a text is withdrawn in any drawing, by
+ * a proved library (crate balsa; link libbalsa.a).
  *
  * A slice is a pointer and then its length in elements; a length of 0 may come with a null pointer.
  * Every call is proved for all lengths and all contents: nothing outside the slices is touched, every
@@ -193,6 +194,21 @@ uint32_t balsa_same(const int32_t *atoms1, size_t atoms1_len, const int32_t *bon
                     const int32_t *bonds2, size_t bonds2_len, size_t n2, size_t m2, uint8_t *row1,
                     size_t row1_len, uint8_t *row2, size_t row2_len, uint16_t *ren, size_t ren_len);
 
+/* ---- The key ---- */
+
+/* code 0 with the key, or a refusal's code with key 0 */
+typedef struct {
+    uint32_t code;
+    uint64_t key;
+} balsa_key_reply;
+
+/* A number of a molecule of any size that all its redrawings have (docs/RULES.md says what these are): other
+ * numbers of atoms and bonds, other Kekule forms or selected letters, hydrogens drawn as atoms, extensions and
+ * marks do not change it. Two molecules with different keys are no redrawings; two with the same key need not
+ * be any. Fit for an index of one edition. Refusals 1, 13. */
+balsa_key_reply balsa_key(const int32_t *atoms, size_t atoms_len, const int32_t *bonds, size_t bonds_len,
+                          size_t n, size_t m);
+
 /* The report of the lines of an input, as the program `report` writes it (docs/RULES.md). Output: out; the
  * bytes after the report are zeroed. Refusal 1 where the report does not fit: nothing changes. */
 balsa_report_reply balsa_report(const uint8_t *input, size_t input_len, uint8_t *out, size_t out_len);
@@ -341,6 +357,51 @@ typedef struct {
 /* A step of a walk from a place, 0 at the start: each entry once, in order, and then 255 as often as
  * it is asked. Refusals 1, 17. */
 balsa_walk_reply balsa_register_walk(const uint8_t *reg, size_t reg_len, size_t place);
+
+/* ---- Withdrawal: may this compound be released? ----
+ *
+ * A register lists texts that are withdrawn, each under a tag. A text is withdrawn if it and a listed one are
+ * redrawings (docs/RULES.md): in every drawing, that is, whatever its numbers, its Kekule form, its selected
+ * letters, its drawn hydrogens, its map numbers and its marks. Release on clear and on nothing else: that is
+ * BALSA_IS_CLEAR of a reply, code 0 and answer 0 (the answer of a refusal is 0 too). */
+
+enum {
+    BALSA_CLEAR = 0,
+    BALSA_WITHDRAWN = 1,
+    BALSA_UNDECIDED = 2
+};
+
+/* code 0, or a refusal's code with its place in the text */
+typedef struct {
+    uint32_t code;
+    size_t place;
+} balsa_withdraw_reply;
+
+/* Adds a text that is accepted by reading: all the steps of balsa_register_step, in order, so that power may
+ * go after any of them. Refusals in this order: 1; reading's, with its place; 17; 18. A refusal leaves the
+ * register as it was. In a register that only this call has added to, every body is read. */
+balsa_withdraw_reply balsa_withdraw(uint8_t *reg, size_t reg_len, uint16_t tag, const uint8_t *text,
+                                    size_t text_len);
+
+/* code 0 with the answer, or a refusal's code with its place. What is not named is 0. */
+typedef struct {
+    uint32_t code;
+    size_t place;
+    uint32_t answer;
+    uint16_t tag;
+    size_t entry;
+} balsa_withdrawn_reply;
+
+/* Whether a reply allows a release: the register and the text were read, and the text is clear. */
+#define BALSA_IS_CLEAR(reply) ((reply).code == BALSA_ACCEPTED && (reply).answer == BALSA_CLEAR)
+
+/* Whether a text is withdrawn. BALSA_WITHDRAWN: an entry is a redrawing of it, with the place and the tag of the
+ * first that was found to be one. Else BALSA_UNDECIDED: an entry could not be decided, with the place of the
+ * first: its body is no text that is read, or it and the text have one key and no renumbering was found within
+ * the steps that are bounded. Else BALSA_CLEAR: every body is read, and no entry is a redrawing. Refusals in this
+ * order: 1; 17; reading's, with its place in the text. */
+balsa_withdrawn_reply balsa_withdrawn(const uint8_t *reg, size_t reg_len, const uint8_t *text,
+                                      size_t text_len);
 
 #ifdef __cplusplus
 }

@@ -23,16 +23,23 @@ balsa.Refusal: refusal 7 at byte 2: a bridge joins an atom to itself
   C11
     ^
 
+A register of withdrawn texts knows every drawing of a compound; release what is clear, and nothing else:
+
+>>> register = balsa.Register()
+>>> register.withdraw(7, "CC1=C(C)C=CC=C1")
+>>> register.withdrawn("CC=1C(C)=CC=CC1")
+Withdrawn(answer='withdrawn', entry=0, tag=7)
+
 Molecules may be used from any threads at once, a register from one at a time.
 """
 
 from ._molecule import Atom, Bond, Molecule, Sameness, Written
 from ._native import lib as _lib
 from ._refusal import Refusal
-from ._register import Register
+from ._register import Register, Withdrawn
 from ._report import report
 
-__all__ = ["Atom", "Bond", "EDITION", "Molecule", "Refusal", "Register", "Sameness", "Written", "report"]
+__all__ = ["Atom", "Bond", "EDITION", "Molecule", "Refusal", "Register", "Sameness", "Withdrawn", "Written", "report"]
 __version__ = _lib.balsa_version().decode("ascii")
 
 #: The edition of the rules: it grows with each change of an answer.

@@ -226,6 +226,26 @@ class Molecule:
             give(lent2)
 
     @property
+    def key(self) -> int:
+        """A number below 2 ** 64 that all redrawings of the molecule have: other numbers of its atoms, other
+        Kekulé forms or selected letters, hydrogens drawn as atoms, extensions and marks do not change it.
+        Molecules with different keys are no redrawings; those with the same key need not be any.
+
+        >>> from balsa import Molecule
+        >>> Molecule("CC1=C(C)C=CC=C1").key == Molecule("CC=1C(C)=CC=CC1").key
+        True
+        >>> Molecule("CCO").key == Molecule("COC").key
+        False
+        """
+        lent = take()
+        try:
+            reply = lib.balsa_key(*self._lend(lent))
+            _accept(reply.code)
+            return reply.key
+        finally:
+            give(lent)
+
+    @property
     def text(self) -> str:
         """The molecule as text. Refusal 14, 15 or 16 where it cannot be written.
 

@@ -27,6 +27,11 @@ REGISTER = 32768
 REGISTER_ENTRIES = 64
 REGISTER_BODY = 4096
 
+# The answers of balsa_withdrawn.
+CLEAR = 0
+WITHDRAWN = 1
+UNDECIDED = 2
+
 
 class ReadReply(ctypes.Structure):
     _fields_ = [
@@ -54,6 +59,24 @@ class EntryReply(ctypes.Structure):
     ]
 
 
+class KeyReply(ctypes.Structure):
+    _fields_ = [("code", ctypes.c_uint32), ("key", ctypes.c_uint64)]
+
+
+class WithdrawReply(ctypes.Structure):
+    _fields_ = [("code", ctypes.c_uint32), ("place", ctypes.c_size_t)]
+
+
+class WithdrawnReply(ctypes.Structure):
+    _fields_ = [
+        ("code", ctypes.c_uint32),
+        ("place", ctypes.c_size_t),
+        ("answer", ctypes.c_uint32),
+        ("tag", ctypes.c_uint16),
+        ("entry", ctypes.c_size_t),
+    ]
+
+
 def _open():
     """The library beside this file, as a wheel has it, or the one that BALSA_LIBRARY names."""
     beside = os.path.join(os.path.dirname(os.path.abspath(__file__)), "libbalsa.so")
@@ -78,11 +101,14 @@ def _declare(library):
         ("kekulize", code, None),
         ("same", code, None),
         ("sides", code, None),
+        ("key", KeyReply, None),
         ("report", LengthReply, [read_only, size, lent, size]),
         ("report_length", size, [read_only, size]),
         ("register_empty", code, [lent, size]),
         ("register_add", code, [lent, size, ctypes.c_uint16, read_only, size]),
         ("register_entry", EntryReply, [lent, size, size]),
+        ("withdraw", WithdrawReply, [lent, size, ctypes.c_uint16, read_only, size]),
+        ("withdrawn", WithdrawnReply, [lent, size, read_only, size]),
         ("refusal_text", ctypes.c_char_p, [code]),
         ("version", ctypes.c_char_p, []),
         ("edition", ctypes.c_uint32, []),

@@ -13,7 +13,7 @@ import threading
 import unittest
 
 import balsa
-from balsa import Molecule, Refusal, Register, _native
+from balsa import Molecule, Refusal, Register, Withdrawn, _native
 
 ROOT = os.path.join(os.path.dirname(os.path.abspath(__file__)), "..", "..")
 
@@ -50,7 +50,7 @@ class Agreement(unittest.TestCase):
         numbers = dict(re.findall(r"BALSA_(\w+) = (\d+)", header))
         for name in ["ATOM_TABLE", "BOND_TABLE", "ROW", "TEXT", "RENUMBERING", "SAME_ATOMS", "END", "DIFFERENT"]:
             self.assertEqual(getattr(_native, name), int(numbers[name]), name)
-        for name in ["REGISTER", "REGISTER_ENTRIES", "REGISTER_BODY"]:
+        for name in ["REGISTER", "REGISTER_ENTRIES", "REGISTER_BODY", "CLEAR", "WITHDRAWN", "UNDECIDED"]:
             self.assertEqual(getattr(_native, name), int(numbers[name]), name)
         self.assertEqual(_native.ATOM_TABLE, _native.ATOM_CELLS * _native.RENUMBERING)
         self.assertEqual(_native.BOND_TABLE, _native.BOND_CELLS * _native.ROW)
@@ -191,6 +191,17 @@ class Molecules(unittest.TestCase):
         self.assertEqual(seen, [expected] * 8)
 
 
+    def test_keys(self):
+        """All drawings have one key; few compounds share one."""
+        for text in CORPUS[:1000]:
+            molecule = Molecule(text)
+            self.assertEqual(molecule.key, Molecule(molecule.kekulized().text).key)
+            self.assertTrue(0 <= molecule.key < 2**64)
+        self.assertEqual(Molecule("[H]C([H])([H])[H]").key, Molecule("[CH4:1]").key)
+        self.assertNotEqual(Molecule("[2H]C").key, Molecule("[H]C").key)
+        self.assertGreater(len({Molecule(text).key for text in CORPUS}), 4000)
+
+
 class Registers(unittest.TestCase):
     def test_entries(self):
         register = Register()
@@ -215,6 +226,41 @@ class Registers(unittest.TestCase):
         self.assertEqual(refused(Register, bytes(_native.REGISTER)).code, 17)
         self.assertEqual(refused(Register, b"").code, 1)
         self.assertRaises(TypeError, Register, 5)
+
+    def test_withdrawn(self):
+        register = Register()
+        self.assertEqual(register.withdrawn("C"), Withdrawn("clear"))
+        register.withdraw(7, "CC1=C(C)C=CC=C1")
+        register.withdraw(9, b"CCO")
+        for text in ["CC=1C(C)=CC=CC1", b"Cc1ccccc1C", "[H]C([H])([H])c1ccccc1[CH3:4]"]:
+            self.assertEqual(register.withdrawn(text), ("withdrawn", 0, 7))
+            self.assertTrue(register.withdrawn(text))
+        self.assertEqual(register.withdrawn("C(O)C"), ("withdrawn", 1, 9))
+        for text in ["Cc1cccc(C)c1", "COC", ""]:
+            self.assertEqual(register.withdrawn(text), Withdrawn("clear"))
+            self.assertTrue(register.withdrawn(text).is_clear and not register.withdrawn(text))
+        register.add(3, "no text")
+        self.assertEqual(register.withdrawn("COC"), ("undecided", 2, None))
+        self.assertEqual(register.withdrawn("CCO"), ("withdrawn", 1, 9))
+        told = [str(register.withdrawn(text)) for text in ["CCO", "COC"]]
+        self.assertEqual(told, ["withdrawn, entry 1, tag 9", "undecided, entry 2"])
+        again = pickle.loads(pickle.dumps(register.withdrawn("COC")))
+        self.assertEqual((again, again.is_clear, bool(again)), (("undecided", 2, None), False, True))
+
+    def test_withdrawals_refused(self):
+        register = Register()
+        refusal = refused(register.withdraw, 7, "C11")
+        self.assertEqual((refusal.code, refusal.place, refusal.text, len(register)), (7, 2, b"C11", 0))
+        refusal = refused(register.withdrawn, "cc")
+        self.assertEqual((refusal.code, refusal.place), (22, None))
+        self.assertEqual(refused(register.withdraw, 7, "-" + "C" * 5000).code, 3)
+        self.assertEqual(refused(register.withdraw, 7, "[CH3:1000]" + "[CH2:1000]" * 500).code, 18)
+        for wrong in [65536, -1]:
+            self.assertRaises(ValueError, register.withdraw, wrong, "C")
+        self.assertRaises(TypeError, register.withdraw, "1", "C")
+        for wrong in [5, None, Molecule("C")]:
+            self.assertRaises(TypeError, register.withdrawn, wrong)
+            self.assertRaises(TypeError, register.withdraw, 1, wrong)
 
 
 if __name__ == "__main__":

@@ -78,10 +78,34 @@ pub struct WalkReply {
     pub next: usize,
 }
 
+/// What `balsa_key` hands back.
+#[repr(C)]
+pub struct KeyReply {
+    pub code: u32,
+    pub key: u64,
+}
+
+/// What `balsa_withdraw` hands back.
+#[repr(C)]
+pub struct WithdrawReply {
+    pub code: u32,
+    pub place: usize,
+}
+
+/// What `balsa_withdrawn` hands back.
+#[repr(C)]
+pub struct WithdrawnReply {
+    pub code: u32,
+    pub place: usize,
+    pub answer: u32,
+    pub tag: u16,
+    pub entry: usize,
+}
+
 mod linked {
     use super::{
-        EntryReply, FedReply, ForcedReply, ReadReply, ReportReply, State, SymbolReply, WalkReply,
-        WriteReply,
+        EntryReply, FedReply, ForcedReply, KeyReply, ReadReply, ReportReply, State, SymbolReply,
+        WalkReply, WithdrawReply, WithdrawnReply, WriteReply,
     };
 
     extern "C" {
@@ -220,6 +244,14 @@ mod linked {
             ren: *mut u16,
             ren_len: usize,
         ) -> u32;
+        pub fn balsa_key(
+            atoms: *const i32,
+            atoms_len: usize,
+            bonds: *const i32,
+            bonds_len: usize,
+            n: usize,
+            m: usize,
+        ) -> KeyReply;
         pub fn balsa_start(
             atoms: *mut i32,
             atoms_len: usize,
@@ -267,6 +299,19 @@ mod linked {
         ) -> u32;
         pub fn balsa_register_entry(reg: *const u8, reg_len: usize, place: usize) -> EntryReply;
         pub fn balsa_register_walk(reg: *const u8, reg_len: usize, place: usize) -> WalkReply;
+        pub fn balsa_withdraw(
+            reg: *mut u8,
+            reg_len: usize,
+            tag: u16,
+            text: *const u8,
+            text_len: usize,
+        ) -> WithdrawReply;
+        pub fn balsa_withdrawn(
+            reg: *const u8,
+            reg_len: usize,
+            text: *const u8,
+            text_len: usize,
+        ) -> WithdrawnReply;
     }
 }
 
@@ -509,6 +554,20 @@ pub fn same(
     }
 }
 
+pub fn key(atoms: &[i32], bonds: &[i32], n: usize, m: usize) -> KeyReply {
+    // SAFETY: as for `read`.
+    unsafe {
+        linked::balsa_key(
+            atoms.as_ptr(),
+            atoms.len(),
+            bonds.as_ptr(),
+            bonds.len(),
+            n,
+            m,
+        )
+    }
+}
+
 pub fn start(atoms: &mut [i32], bonds: &mut [i32]) -> FedReply {
     // SAFETY: as for `read`.
     unsafe {
@@ -593,4 +652,14 @@ pub fn register_entry(reg: &[u8], place: usize) -> EntryReply {
 pub fn register_walk(reg: &[u8], place: usize) -> WalkReply {
     // SAFETY: as for `read`.
     unsafe { linked::balsa_register_walk(reg.as_ptr(), reg.len(), place) }
+}
+
+pub fn withdraw(reg: &mut [u8], tag: u16, text: &[u8]) -> WithdrawReply {
+    // SAFETY: as for `read`.
+    unsafe { linked::balsa_withdraw(reg.as_mut_ptr(), reg.len(), tag, text.as_ptr(), text.len()) }
+}
+
+pub fn withdrawn(reg: &[u8], text: &[u8]) -> WithdrawnReply {
+    // SAFETY: as for `read`.
+    unsafe { linked::balsa_withdrawn(reg.as_ptr(), reg.len(), text.as_ptr(), text.len()) }
 }

@@ -6,7 +6,8 @@
 //! the buffers is touched.
 //!
 //! [`Register`] keeps bodies of bytes under tags and survives a power cut after any store;
-//! [`RegisterFile`] is one in a file.
+//! [`RegisterFile`] is one in a file. [`Register::withdrawn`] tells whether a text is withdrawn by one of
+//! them, in any drawing: release what is [`Withdrawn::Clear`], and nothing else.
 
 mod ffi;
 mod molecule;
@@ -22,7 +23,7 @@ pub mod tables;
 pub use molecule::{Matchings, Molecule, Sameness, Written};
 pub use pieces::PieceReader;
 pub use refusal::{Code, Excerpt, Refusal};
-pub use register::{Damage, Entries, Register};
+pub use register::{Damage, Entries, Register, Withdrawn};
 #[cfg(unix)]
 pub use register_file::{FileError, RegisterFile};
 pub use report::{report, report_into};

@@ -228,6 +228,24 @@ impl Molecule {
         }))
     }
 
+    /// The key: a number that all redrawings of the molecule have, of any size. Other numbers of atoms
+    /// and bonds, other Kekulé forms or selected letters, hydrogens drawn as atoms, extensions and marks
+    /// do not change it. Molecules with different keys are no redrawings; those with the same key need
+    /// not be any.
+    ///
+    /// ```
+    /// use balsa::Molecule;
+    ///
+    /// let key = |text: &[u8]| Molecule::read(text).map(|molecule| molecule.key());
+    /// assert_eq!(key(b"CC1=C(C)C=CC=C1")?, key(b"CC=1C(C)=CC=CC1")?);
+    /// assert_eq!(key(b"[H]C([H])([H])[NH2:7]")?, key(b"NC")?);
+    /// assert_ne!(key(b"CCO")?, key(b"COC")?);
+    /// # Ok::<(), balsa::Refusal>(())
+    /// ```
+    pub fn key(&self) -> u64 {
+        tables::key(&self.atoms, &self.bonds, self.counts).expect("sound tables")
+    }
+
     /// The tables, as long as the calls ask.
     fn tables(&self) -> Tables<'_> {
         Tables {

@@ -1,7 +1,8 @@
-//! A register of entries, each a tag and a body, in bytes that the caller owns.
+//! A register of entries, each a tag and a body, in bytes that the caller owns, and whether a text is
+//! withdrawn by one of them.
 
 use crate::ffi;
-use crate::refusal::Code;
+use crate::refusal::{Code, Refusal};
 use std::fmt;
 use std::iter::FusedIterator;
 use std::ops::Range;
@@ -85,6 +86,34 @@ impl<B: AsRef<[u8]>> Register<B> {
         }
     }
 
+    /// Whether a text is withdrawn: whether an entry's text is a redrawing of it. It is asked of the
+    /// compound and not of the text: another Kekulé form, selected letters, other numbers, hydrogens
+    /// drawn as atoms, map numbers and marks hide nothing.
+    ///
+    /// Release what is [`Withdrawn::Clear`], and nothing else: not what is undecided, nor a text that is
+    /// refused.
+    ///
+    /// ```
+    /// use balsa::{Register, Withdrawn};
+    ///
+    /// let mut register = Register::new(vec![0; 32_768]);
+    /// register.empty()?;
+    /// register.withdraw(7, b"CC1=C(C)C=CC=C1")?;
+    /// let listed = Withdrawn::Withdrawn { tag: 7, entry: 0 };
+    /// assert_eq!(register.withdrawn(b"CC=1C(C)=CC=CC1")?, listed);
+    /// assert_eq!(register.withdrawn(b"Cc1ccccc1C([H])[H]")?, listed);
+    /// assert!(register.withdrawn(b"Cc1cccc(C)c1")?.is_clear());
+    /// # Ok::<(), balsa::Refusal>(())
+    /// ```
+    ///
+    /// # Errors
+    /// 1 or 17, then what reading the text refuses, with its place.
+    pub fn withdrawn(&self, text: &[u8]) -> Result<Withdrawn, Refusal> {
+        let reply = ffi::withdrawn(self.bytes(), text);
+        told(reply.code, reply.place)?;
+        Ok(Withdrawn::of(reply.answer, reply.tag, reply.entry))
+    }
+
     /// Where the last entry stands of a register to which one was added: its line in the table of
     /// contents, and its body.
     pub(crate) fn last_entry(&self) -> (Range<usize>, Range<usize>) {
@@ -117,6 +146,26 @@ impl<B: AsMut<[u8]>> Register<B> {
         done(ffi::register_add(self.bytes.as_mut(), tag, body))
     }
 
+    /// Withdraws a text: adds it as a body, if it is one that is read. It is every step of
+    /// [`Register::step`], so that power may go after any of them.
+    ///
+    /// # Errors
+    /// 1, then what reading the text refuses, with its place, then 17 or 18; nothing changes.
+    ///
+    /// ```
+    /// # use balsa::{Code, Refusal, Register};
+    /// # let mut register = Register::new(vec![0; 32_768]);
+    /// # register.empty()?;
+    /// let refusal = register.withdraw(7, b"C11").unwrap_err();
+    /// assert_eq!(refusal, Refusal { code: Code::SelfBridge, place: 2 });
+    /// assert_eq!(register.entries()?.count(), 0);
+    /// # Ok::<(), balsa::Code>(())
+    /// ```
+    pub fn withdraw(&mut self, tag: u16, text: &[u8]) -> Result<(), Refusal> {
+        let reply = ffi::withdraw(self.bytes.as_mut(), tag, text);
+        told(reply.code, reply.place)
+    }
+
     /// Step `k` of adding, counted from 0: stores at most one byte. The last one, step
     /// `body.len() + 6`, makes the entry count; past it nothing changes.
     ///
@@ -124,6 +173,55 @@ impl<B: AsMut<[u8]>> Register<B> {
     /// 1, 17 or 18, and nothing changes.
     pub fn step(&mut self, tag: u16, body: &[u8], k: usize) -> Result<(), Code> {
         done(ffi::register_step(self.bytes.as_mut(), tag, body, k))
+    }
+}
+
+/// Whether a compound is withdrawn. Release on [`Withdrawn::Clear`], and on nothing else.
+#[must_use = "a compound is released only if it is clear"]
+#[derive(Clone, Copy, Debug, PartialEq, Eq)]
+pub enum Withdrawn {
+    /// Every body of the register is read, and no entry is a redrawing of the text.
+    Clear,
+    /// An entry is a redrawing of the text: the first that was found to be one.
+    Withdrawn {
+        /// The entry's tag.
+        tag: u16,
+        /// The entry's place.
+        entry: usize,
+    },
+    /// No entry was found to be a redrawing, but not all could be decided: a body is not read, or it and
+    /// the text have one key and no renumbering was found within the bounded steps.
+    Undecided {
+        /// The place of the first such entry.
+        entry: usize,
+    },
+}
+
+impl Withdrawn {
+    /// What a reply says. Only the number of "clear" is clear.
+    fn of(answer: u32, tag: u16, entry: usize) -> Self {
+        match answer {
+            0 => Withdrawn::Clear,
+            1 => Withdrawn::Withdrawn { tag, entry },
+            _ => Withdrawn::Undecided { entry },
+        }
+    }
+
+    /// Whether the compound may be released.
+    #[must_use]
+    pub fn is_clear(self) -> bool {
+        self == Withdrawn::Clear
+    }
+}
+
+impl fmt::Display for Withdrawn {
+    /// `clear`, `withdrawn, entry 0, tag 7` or `undecided, entry 0`
+    fn fmt(&self, f: &mut fmt::Formatter<'_>) -> fmt::Result {
+        match *self {
+            Withdrawn::Clear => write!(f, "clear"),
+            Withdrawn::Withdrawn { tag, entry } => write!(f, "withdrawn, entry {entry}, tag {tag}"),
+            Withdrawn::Undecided { entry } => write!(f, "undecided, entry {entry}"),
+        }
     }
 }
 
@@ -155,6 +253,11 @@ fn done(code: u32) -> Result<(), Code> {
         0 => Ok(()),
         number => Err(Code::of(number)),
     }
+}
+
+/// The same of a code with a place in the text.
+fn told(code: u32, place: usize) -> Result<(), Refusal> {
+    done(code).map_err(|code| Refusal { code, place })
 }
 
 /// What is wrong with the layout of a register: the first rule that it breaks.

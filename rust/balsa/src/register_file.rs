@@ -7,8 +7,8 @@
 #[cfg(test)]
 mod crashes;
 
-use crate::refusal::Code;
-use crate::register::{Damage, Register, REGISTER};
+use crate::refusal::{Code, Refusal};
+use crate::register::{Damage, Register, Withdrawn, REGISTER};
 use std::fs::{self, File, OpenOptions, TryLockError};
 use std::os::unix::fs::{FileExt, MetadataExt};
 use std::path::{Path, PathBuf};
@@ -49,6 +49,8 @@ pub enum FileError {
     Damaged(Damage),
     /// The register refuses: 18.
     Refused(Code),
+    /// Reading refuses the text, at a place.
+    Unread(Refusal),
     /// An earlier write failed, or the file was taken away, so that what it holds is not known here:
     /// open it anew.
     Stale,
@@ -120,11 +122,60 @@ impl RegisterFile {
     /// [`FileError::Refused`] leaves the file as it was. After [`FileError::Io`] the entry counts as
     /// made or as not made, and the file has to be opened anew.
     pub fn add(&mut self, tag: u16, body: &[u8]) -> Result<(), FileError> {
-        if self.failed {
-            return Err(FileError::Stale);
-        }
+        self.is_known()?;
         let mut next = self.register.clone();
         next.add(tag, body)?;
+        self.store(next)
+    }
+
+    /// Withdraws a text: adds it, as [`RegisterFile::add`] does, if it is one that is read. After a cut
+    /// at any moment the file lists the old texts, or these and the new one; once the call has returned,
+    /// no drawing of the compound is clear.
+    ///
+    /// ```
+    /// # let folder = std::env::temp_dir().join(format!("balsa-doc-withdraw-{}", std::process::id()));
+    /// # std::fs::create_dir_all(&folder)?;
+    /// # let path = folder.join("withdrawn");
+    /// let mut file = balsa::RegisterFile::open(&path)?;
+    /// file.withdraw(7, b"CC1=C(C)C=CC=C1")?;
+    /// assert!(!file.withdrawn(b"CC=1C(C)=CC=CC1")?.is_clear());
+    /// assert!(file.withdrawn(b"Cc1cccc(C)c1")?.is_clear());
+    /// # std::fs::remove_dir_all(&folder)?;
+    /// # Ok::<(), balsa::FileError>(())
+    /// ```
+    ///
+    /// # Errors
+    /// [`FileError::Unread`] and [`FileError::Refused`] leave the file as it was. After
+    /// [`FileError::Io`] the text counts as withdrawn or as not withdrawn, and the file has to be opened
+    /// anew.
+    pub fn withdraw(&mut self, tag: u16, text: &[u8]) -> Result<(), FileError> {
+        self.is_known()?;
+        let mut next = self.register.clone();
+        next.withdraw(tag, text).map_err(of_withdrawing)?;
+        self.store(next)
+    }
+
+    /// Whether a text is withdrawn by the register as it was opened, with what was added since
+    /// ([`Register::withdrawn`]). Release on [`Withdrawn::Clear`], and on nothing else.
+    ///
+    /// # Errors
+    /// [`FileError::Unread`] for a text that reading refuses; [`FileError::Stale`] after a write that
+    /// failed, since what the file lists is not known then.
+    pub fn withdrawn(&self, text: &[u8]) -> Result<Withdrawn, FileError> {
+        self.is_known()?;
+        self.register.withdrawn(text).map_err(of_withdrawing)
+    }
+
+    /// Whether it is known here what the file holds.
+    fn is_known(&self) -> Result<(), FileError> {
+        match self.failed {
+            true => Err(FileError::Stale),
+            false => Ok(()),
+        }
+    }
+
+    /// Stores a register that has one entry more.
+    fn store(&mut self, next: Register<Vec<u8>>) -> Result<(), FileError> {
         self.failed = true;
         commit(&mut self.file.0, &next)?;
         self.failed = false;
@@ -154,6 +205,14 @@ impl Drop for Locked {
     /// Gives up the lock, also where a process that is just being started still has the file open.
     fn drop(&mut self) {
         let _ = self.0.unlock();
+    }
+}
+
+/// A refusal of a register of full length and right layout: of the text, or 18.
+fn of_withdrawing(refusal: Refusal) -> FileError {
+    match refusal.code {
+        code @ (Code::Short | Code::InvalidRegister | Code::FullRegister) => code.into(),
+        _ => FileError::Unread(refusal),
     }
 }
 
@@ -283,6 +342,7 @@ impl fmt::Display for FileError {
                 write!(f, "refusal {}: {damage}", damage.code().number())
             }
             FileError::Refused(code) => code.fmt(f),
+            FileError::Unread(refusal) => refusal.fmt(f),
             FileError::Stale => write!(f, "what the file holds is not known: open it anew"),
         }
     }

@@ -210,6 +210,16 @@ pub fn same(
     }
 }
 
+/// The key of a molecule of any size: a number that all its redrawings have. Molecules with different
+/// keys are no redrawings; those with the same key need not be any.
+///
+/// # Errors
+/// 1 or 13.
+pub fn key(atoms: &[i32], bonds: &[i32], counts: Counts) -> Result<u64, Code> {
+    let reply = ffi::key(atoms, bonds, counts.atoms, counts.bonds);
+    accepted(reply.code).map(|()| reply.key)
+}
+
 /// Writes the molecule of the tables: the length of the text, with each atom's place in it.
 ///
 /// # Errors

@@ -53,6 +53,23 @@ fn invalid_tables_are_told() {
 }
 
 #[test]
+fn keys_of_bad_tables() {
+    let (mut atoms, bonds, counts) = benzene();
+    let key = tables::key(&atoms, &bonds, counts).unwrap();
+    assert_eq!(Molecule::read(b"C1=CC=CC=C1").unwrap().key(), key);
+    let short = tables::key(&atoms[1..], &bonds, counts);
+    assert_eq!(short, Err(Code::Short));
+    let huge = Counts {
+        atoms: usize::MAX,
+        bonds: usize::MAX,
+    };
+    assert_eq!(tables::key(&atoms, &bonds, huge), Err(Code::Invalid));
+    assert_eq!(tables::key(&[], &[], huge), Err(Code::Short));
+    atoms[3] = 10;
+    assert_eq!(tables::key(&atoms, &bonds, counts), Err(Code::Invalid));
+}
+
+#[test]
 fn tetrahedral_marks_are_judged() {
     let mut atoms = vec![7; ATOM_TABLE];
     let mut bonds = vec![9; BOND_TABLE];

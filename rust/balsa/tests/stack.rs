@@ -3,8 +3,9 @@
 
 mod graphs;
 
+use balsa::register::{MAX_BODY, REGISTER};
 use balsa::tables::{self, Counts, ATOM_TABLE, BOND_TABLE, RENUMBERING, ROW, TEXT};
-use balsa::{Code, Molecule, PieceReader};
+use balsa::{Code, Molecule, PieceReader, Register, Withdrawn};
 use graphs::{families, Graph};
 use std::thread;
 
@@ -97,6 +98,40 @@ fn the_same_compound_of_64_atoms() {
     assert!(same(&apart, &apart));
 }
 
+/// The text of a graph, if it can be written, is read and has room in a register.
+fn body(graph: &Graph) -> Option<String> {
+    let (atoms, bonds, counts) = graph.tables();
+    let mut text = vec![0; TEXT];
+    let mut numbers = vec![0; RENUMBERING];
+    let length = tables::write(&atoms, &bonds, counts, &mut text, &mut numbers).ok()?;
+    text.truncate(length.min(MAX_BODY + 1));
+    Molecule::read(&text).ok()?;
+    String::from_utf8(text).ok()
+}
+
+/// Withdrawing, and asking registers of large molecules that are hard to tell apart or hard to read.
+#[test]
+fn withdrawn_near_the_limits() {
+    let chain = "*".repeat(RENUMBERING);
+    let rings = vec!["*1**1"; RENUMBERING / 3].join(".");
+    let star = format!("*{}", "(*)".repeat(RENUMBERING - 1));
+    let apart = vec!["*"; RENUMBERING].join(".");
+    let graphs = families().into_iter();
+    let mut texts: Vec<String> = graphs.filter_map(|(_, graph, _)| body(&graph)).collect();
+    assert!(texts.len() > 4, "{}", texts.len());
+    texts.extend([chain, rings, star, apart]);
+    for text in texts {
+        let mut register = Register::new(vec![0; REGISTER]);
+        let said = on_little_stack(move || {
+            register.empty()?;
+            register.withdraw(7, b"C")?;
+            register.withdraw(8, text.as_bytes())?;
+            register.withdrawn(text.as_bytes())
+        });
+        assert!(!matches!(said, Ok(Withdrawn::Clear) | Err(_)), "{said:?}");
+    }
+}
+
 /// Every call on tables, and reading what was written.
 #[test]
 fn all_calls_near_the_limits() {
@@ -109,6 +144,7 @@ fn all_calls_near_the_limits() {
             let mut text = vec![0; TEXT];
             let mut numbers = vec![0; RENUMBERING];
             assert_eq!(tables::check(&atoms, &bonds, counts), Ok(()));
+            assert!(tables::key(&atoms, &bonds, counts).is_ok());
             let written = tables::write(&atoms, &bonds, counts, &mut text, &mut numbers);
             let first = tables::first(&atoms, &bonds, counts, &mut row);
             let is_matching = tables::is_matching(&atoms, &bonds, counts, &row);

@@ -166,7 +166,7 @@ fn fullerene(name: String, faces: usize, pentagons: [usize; 12]) -> Graph {
 
 /// A random graph in which each atom has two or three bonds: rings of so many atoms (the last may be
 /// longer), and further bonds between any two atoms.
-fn random(atoms: usize, bonds: usize, ring: usize, seed: u64) -> Graph {
+pub fn random(atoms: usize, bonds: usize, ring: usize, seed: u64) -> Graph {
     let mut state = seed;
     let mut below = |bound: usize| {
         state ^= state << 13;

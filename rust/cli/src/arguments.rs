@@ -70,6 +70,16 @@ impl Arguments {
         given.map(|(_, value)| value.as_os_str())
     }
 
+    /// The first operand, and the arguments without it.
+    pub fn split_first(&self) -> Option<(OsString, Arguments)> {
+        let (first, rest) = self.operands.split_first()?;
+        let rest = Arguments {
+            given: self.given.clone(),
+            operands: rest.to_vec(),
+        };
+        Some((first.clone(), rest))
+    }
+
     /// The words that are no options.
     pub fn operands(&self) -> &[OsString] {
         &self.operands

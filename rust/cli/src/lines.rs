@@ -26,6 +26,8 @@ const KEPT: u64 = 1 << 20;
 const BUFFER: usize = 1 << 16;
 /// Stands for the name of a file where texts are words at the prompt.
 pub const ARGUMENTS: &str = "<arguments>";
+/// Stands for the name of standard input.
+pub const STDIN: &str = "<stdin>";
 
 /// The name of a file, and its lines.
 type Lines = (String, Box<dyn BufRead>);
@@ -45,7 +47,12 @@ pub struct Text<'a> {
     pub title: &'a [u8],
 }
 
-impl Text<'_> {
+impl<'a> Text<'a> {
+    /// A text that is the only one of its file.
+    pub fn alone(file: &'a str, bytes: &'a [u8]) -> Self {
+        text(file, 1, 0, bytes, false)
+    }
+
     /// The title without the blanks before it.
     pub fn name(&self) -> &[u8] {
         self.title.trim_ascii()
@@ -185,7 +192,7 @@ fn files(arguments: &Arguments) -> Result<Vec<Lines>, Failure> {
 
 fn stdin() -> Lines {
     let lines = BufReader::with_capacity(BUFFER, io::stdin());
-    ("<stdin>".into(), Box::new(lines))
+    (STDIN.into(), Box::new(lines))
 }
 
 fn open(path: &Path) -> Result<Lines, Failure> {

@@ -21,7 +21,7 @@ pub const QUIET: Opt = Opt {
     name: "quiet",
     value: None,
     about:
-        "says nothing of refusals, the exit status does; `check` and `same` then say nothing at all",
+        "says nothing of refusals, the exit status does; `check`, `same` and `withdrawn` then say nothing at all",
 };
 /// When to colour.
 pub const COLOR: Opt = Opt {

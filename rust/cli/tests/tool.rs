@@ -3,7 +3,7 @@
 use balsa::tables::{RENUMBERING, TEXT};
 use balsa::Code;
 use std::fs;
-use std::io::{Read, Write};
+use std::io::{BufRead, BufReader, Read, Write};
 use std::path::PathBuf;
 use std::process::{Command, Stdio};
 use std::thread;
@@ -401,7 +401,20 @@ fn what_was_asked_wrongly() {
         ),
         (&["nothing"], "no command nothing"),
         (&[], "which command?"),
-        (&["register"], "init, add or list?"),
+        (&["register"], "init, withdraw, add or list?"),
+        (&["withdrawn"], "which register?"),
+        (
+            &["withdrawn", "/no/such/register", "C"],
+            "/no/such/register: No such file or directory (os error 2)",
+        ),
+        (
+            &["register", "withdraw", "f", "x", "C"],
+            "a tag is a number from 0 to 65535",
+        ),
+        (
+            &["register", "withdraw", "f", "1", "C", "C"],
+            "these words do not fit together",
+        ),
         (
             &["register", "add", "f", "70000", "C"],
             "a tag is a number from 0 to 65535",
@@ -437,9 +450,20 @@ fn the_output_cannot_be_written() {
 
 #[test]
 fn a_broken_pipe_is_quiet() {
-    for command in ["check", "kekulize", "matchings", "sides", "report"] {
+    let folder = Folder::new("pipe");
+    let register = folder.file("register");
+    run(&["register", "init", &register]);
+    let corpus = format!("{ROOT}/corpus/real.smi");
+    let commands = ["check", "kekulize", "matchings", "sides", "key", "report"];
+    let commands = commands.map(|command| vec![command, "-f", &corpus]);
+    let withdrawn = vec!["withdrawn", &register, "-f", &corpus];
+    for (words, status) in commands
+        .map(|words| (words, 0))
+        .into_iter()
+        .chain([(withdrawn, 1)])
+    {
         let mut child = Command::new(TOOL)
-            .args([command, "-f", &format!("{ROOT}/corpus/real.smi")])
+            .args(words)
             .stdout(Stdio::piped())
             .stderr(Stdio::piped())
             .spawn()
@@ -447,7 +471,8 @@ fn a_broken_pipe_is_quiet() {
         let mut first = [0];
         child.stdout.take().unwrap().read_exact(&mut first).unwrap();
         let done = child.wait_with_output().unwrap();
-        assert_eq!((done.status.code(), &*done.stderr), (Some(0), &b""[..]));
+        let told = (done.status.code(), &*done.stderr);
+        assert_eq!(told, (Some(status), &b""[..]));
     }
 }
 
@@ -551,4 +576,209 @@ fn a_register() {
     let short = folder.with("short", b"");
     let told = format!("{short}: refusal 1: a buffer is too short: 0 bytes are under 32768\n");
     assert_run(&["register", "list", &short], 1, "", &told);
+}
+
+/// All drawings of a compound have one key.
+#[test]
+fn keys() {
+    let texts = [
+        "CC1=C(C)C=CC=C1",
+        "CC=1C(C)=CC=CC1",
+        "[H]C([H])([H])c1ccccc1[CH3:4]",
+    ];
+    let Run { status, out, err } = run(&["key", texts[0], texts[1], texts[2], "Cc1cccc(C)c1"]);
+    assert_eq!((status, err.as_str()), (0, ""));
+    let told: Vec<(&str, &str)> = out.lines().flat_map(|line| line.split_once(": ")).collect();
+    let lines: Vec<&str> = told.iter().map(|(line, _)| *line).collect();
+    let keys: Vec<&str> = told.iter().map(|(_, key)| *key).collect();
+    assert_eq!(lines, ["1", "2", "3", "4"]);
+    assert!(
+        keys[0] == keys[1] && keys[0] == keys[2] && keys[0] != keys[3],
+        "{out}"
+    );
+    assert!(keys
+        .iter()
+        .all(|key| key.len() == 16 && u64::from_str_radix(key, 16).is_ok()));
+    let at = r#"{"file": "<arguments>", "line": 1, "#;
+    let json = format!("{at}\"key\": \"{}\"}}\n", keys[0]);
+    assert_run(&["key", "--json", texts[0]], 0, &json, "");
+    let named = run_on(&["key", "-t"], b"Cc1ccccc1C o-xylene\r\n");
+    assert_eq!(named.out, format!("1: {} o-xylene\n", keys[0]));
+    let open = "<arguments>:1:2: refusal 10: a bridge is open at the end\n  C1\n   ^\n";
+    assert_run(&["key", "C1"], 1, "", open);
+}
+
+/// A compound that is withdrawn is so in every drawing; the exit status is 0 where all are clear.
+#[test]
+fn withdrawn() {
+    let folder = Folder::new("withdrawn");
+    let file = folder.file("register");
+    run(&["register", "init", &file]);
+    assert_run(&["withdrawn", &file, "C"], 0, "1: clear\n", "");
+    assert_run(
+        &["register", "withdraw", &file, "7", "CC1=C(C)C=CC=C1"],
+        0,
+        "",
+        "",
+    );
+    assert_eq!(
+        run_on(&["register", "withdraw", &file, "9"], b"CCO\n").status,
+        0
+    );
+    assert_run(
+        &["register", "list", &file],
+        0,
+        "7\tCC1=C(C)C=CC=C1\n9\tCCO\n",
+        "",
+    );
+    let drawings = [
+        "CC=1C(C)=CC=CC1",
+        "Cc1ccccc1C",
+        "[H]C([H])([H])c1ccccc1[CH3:4]",
+    ];
+    for drawing in drawings {
+        let told = "1: withdrawn, entry 0, tag 7\n";
+        assert_run(&["withdrawn", &file, drawing], 1, told, "");
+    }
+    let told = "1: clear\n2: withdrawn, entry 1, tag 9\n3: clear\n";
+    assert_run(
+        &["withdrawn", &file, "Cc1cccc(C)c1", "OCC", ""],
+        1,
+        told,
+        "",
+    );
+    assert_run(&["withdrawn", "-q", &file, "OCC"], 1, "", "");
+    assert_run(&["withdrawn", "-q", &file, "COC"], 0, "", "");
+    let lines = folder.with("orders", b"COC dimethyl ether\r\nC(C)O ethanol\r\n");
+    let told = "1: clear dimethyl ether\n2: withdrawn, entry 1, tag 9 ethanol\n";
+    assert_run(&["withdrawn", "-t", &file, "-f", &lines], 1, told, "");
+    assert_eq!(
+        run_on(&["withdrawn", &file], b"C\n[OH]CC\n").out,
+        "1: clear\n2: withdrawn, entry 1, tag 9\n"
+    );
+    let bad = "<arguments>:2:3: refusal 7: a bridge joins an atom to itself\n  C11\n    ^\n";
+    assert_run(&["withdrawn", &file, "C", "C11"], 1, "1: clear\n", bad);
+    run(&["register", "add", &file, "3", "no text"]);
+    assert_run(&["withdrawn", &file, "C"], 1, "1: undecided, entry 2\n", "");
+    assert_run(
+        &["withdrawn", &file, "CCO"],
+        1,
+        "1: withdrawn, entry 1, tag 9\n",
+        "",
+    );
+}
+
+/// Each text is answered at once, by the register as it is then.
+#[test]
+fn withdrawn_meanwhile() {
+    let folder = Folder::new("meanwhile");
+    let file = folder.file("register");
+    run(&["register", "init", &file]);
+    let mut child = Command::new(TOOL)
+        .args(["withdrawn", &file])
+        .stdin(Stdio::piped())
+        .stdout(Stdio::piped())
+        .spawn()
+        .unwrap();
+    let mut orders = child.stdin.take().unwrap();
+    let mut answers = BufReader::new(child.stdout.take().unwrap()).lines();
+    let mut ask = |text: &str| {
+        writeln!(orders, "{text}").unwrap();
+        answers.next().unwrap().unwrap()
+    };
+    assert_eq!(ask("OCC"), "1: clear");
+    run(&["register", "withdraw", &file, "9", "CCO"]);
+    assert_eq!(ask("OCC"), "2: withdrawn, entry 0, tag 9");
+    fs::write(&file, b"rubbish").unwrap();
+    writeln!(orders, "OCC").unwrap();
+    drop(orders);
+    assert!(answers.next().is_none());
+    assert_eq!(child.wait().unwrap().code(), Some(2));
+}
+
+#[test]
+fn withdrawn_in_json() {
+    let folder = Folder::new("withdrawn-json");
+    let file = folder.file("register");
+    run(&["register", "init", &file]);
+    run(&["register", "withdraw", &file, "9", "CCO"]);
+    let at = |line: usize| format!(r#"{{"file": "<arguments>", "line": {line}"#);
+    let bad = "\"message\": \"a bridge joins an atom to itself\"";
+    let told = [
+        format!("{}, \"answer\": \"clear\"}}\n", at(1)),
+        format!(
+            "{}, \"answer\": \"withdrawn\", \"entry\": 0, \"tag\": 9}}\n",
+            at(2)
+        ),
+        format!("{}, \"refusal\": 7, \"place\": 2, {bad}}}\n", at(3)),
+    ];
+    assert_run(
+        &["withdrawn", "--json", &file, "C", "OCC", "C11"],
+        1,
+        &told.concat(),
+        "",
+    );
+    run(&["register", "add", &file, "3", "no text"]);
+    let told = format!("{}, \"answer\": \"undecided\", \"entry\": 1}}\n", at(1));
+    assert_run(&["withdrawn", "--json", &file, "C"], 1, &told, "");
+}
+
+/// A text that is refused is not withdrawn, and a register that is damaged answers nothing.
+#[test]
+fn withdrawals_refused() {
+    let folder = Folder::new("withdrawals");
+    let file = folder.file("register");
+    let missing = format!("balsa: {file}: no register; `balsa register init` makes one\n");
+    assert_run(&["register", "withdraw", &file, "7", "C"], 2, "", &missing);
+    run(&["register", "init", &file]);
+    let open =
+        |place: &str| format!("{place}:1:2: refusal 10: a bridge is open at the end\n  C1\n   ^\n");
+    assert_run(
+        &["register", "withdraw", &file, "7", "C1"],
+        1,
+        "",
+        &open("<arguments>"),
+    );
+    let piped = run_on(&["register", "withdraw", &file, "7"], b"C1\n");
+    assert_eq!((piped.status, piped.err), (1, open("<stdin>")));
+    assert_run(&["register", "withdraw", "-q", &file, "7", "C1"], 1, "", "");
+    let long = "[CH2:1000]".repeat(500);
+    let full = format!("{file}: refusal 18: the register has no room for the body\n");
+    assert_run(&["register", "withdraw", &file, "7", &long], 1, "", &full);
+    assert_run(&["register", "list", &file], 0, "", "");
+    let bad = folder.with("bad", &[3; balsa::register::REGISTER]);
+    let layout = "refusal 17: the layout of the register breaks a rule: byte 0 is 3 and not 1";
+    let told = format!("{bad}: {layout}\n");
+    assert_run(&["withdrawn", &bad, "C", "C11"], 1, "", &told);
+    assert_run(&["register", "withdraw", &bad, "7", "C"], 1, "", &told);
+    let short = folder.with("short", b"");
+    let told = format!("{short}: refusal 1: a buffer is too short: 0 bytes are under 32768\n");
+    assert_run(&["withdrawn", &short, "C"], 1, "", &told);
+}
+
+/// Each text of the corpus is withdrawn by its kekulized form.
+#[test]
+fn the_corpus_is_withdrawn() {
+    let folder = Folder::new("corpus");
+    let path = format!("{ROOT}/corpus/real.smi");
+    let corpus = fs::read_to_string(&path).unwrap();
+    let kekulized = run(&["kekulize", "-f", &path]).out;
+    let texts: Vec<(&str, &str)> = corpus.lines().zip(kekulized.lines()).collect();
+    for (round, texts) in texts.chunks(64).step_by(10).enumerate() {
+        let file = folder.file(&round.to_string());
+        let mut register = balsa::RegisterFile::create(&file).unwrap();
+        for (tag, (_, drawn)) in (0..).zip(texts) {
+            register.withdraw(tag, drawn.as_bytes()).unwrap();
+        }
+        let queries: String = texts.iter().map(|(text, _)| format!("{text}\n")).collect();
+        let Run { status, out, err } = run_on(&["withdrawn", &file], queries.as_bytes());
+        assert_eq!(
+            (status, out.lines().count(), err.as_str()),
+            (1, texts.len(), "")
+        );
+        assert!(
+            out.lines().all(|line| line.contains(": withdrawn, ")),
+            "{out}"
+        );
+    }
 }

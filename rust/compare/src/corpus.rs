@@ -6,8 +6,8 @@ use std::collections::BTreeMap;
 /// Each text on a line.
 pub const TEXTS: &str = include_str!("../../../corpus/real.smi");
 
-/// Texts with tetrahedral marks.
-const MARKED: &str = include_str!("../../../corpus/marked.smi");
+/// Texts with tetrahedral marks, each on a line.
+pub const MARKED: &str = include_str!("../../../corpus/marked.smi");
 
 /// The molecules of at most 64 atoms.
 pub fn molecules() -> Vec<Molecule> {

@@ -3,7 +3,8 @@
 use crate::molecules::{self, Effort};
 use crate::random::Random;
 use balsa_reference::{
-    delocalized, first, implied_hydrogens, next, Atom, Bond, Kind, Mark, Molecule, MAX_COMPARED,
+    delocalized, first, implied_hydrogens, next, Atom, Bond, Kind, Mark, Molecule, MAX_ATOMS,
+    MAX_BONDS, MAX_COMPARED,
 };
 
 /// Two molecules, both mostly of at most 64 atoms: renumbered, redrawn, with other tetrahedral marks,
@@ -160,6 +161,84 @@ fn matching(random: &mut Random, molecule: &Molecule) -> Option<Vec<u8>> {
         }
     }
     Some(row)
+}
+
+/// A redrawing of a molecule: perhaps with double bonds placed, with hydrogens drawn as atoms, with
+/// extensions, with marks put in or left out, and with other numbers. What is sound stays so.
+pub fn redrawing(random: &mut Random, molecule: &Molecule) -> Molecule {
+    let mut drawn = redrawn(random, molecule);
+    if random.percent(60) {
+        draw_hydrogens(random, &mut drawn);
+    }
+    if random.percent(50) {
+        for atom in &mut drawn.atoms {
+            atom.extension = [0, random.below(10_000) as u16][random.below(2)];
+        }
+    }
+    if random.percent(50) {
+        turn_marks(random, &mut drawn);
+        mark_atoms(random, &mut drawn);
+        mark_bonds(random, &mut drawn);
+    }
+    match random.percent(85) {
+        true => renumbered(random, &drawn),
+        false => drawn,
+    }
+}
+
+/// Draws hydrogens as atoms: some, or all.
+fn draw_hydrogens(random: &mut Random, molecule: &mut Molecule) {
+    let chance = *random.pick(&[10, 50, 100]);
+    for host in 0..molecule.atoms.len() {
+        let count = match molecule.atoms[host].element {
+            1 => 0,
+            _ => molecule.atoms[host].hydrogens,
+        };
+        for _ in 0..count {
+            let number = molecule.atoms.len();
+            let is_full = number == MAX_ATOMS || molecule.bonds.len() == MAX_BONDS;
+            if random.percent(chance) && !is_full {
+                molecule.atoms[host].hydrogens -= 1;
+                molecule.atoms.push(Atom {
+                    element: 1,
+                    ..Atom::default()
+                });
+                let kind = *random.pick(&[Kind::Elided, Kind::Single]);
+                molecule.bonds.push(Bond::between(host, number, kind));
+            }
+        }
+    }
+}
+
+/// Marks some of the atoms that have four neighbours, one hydrogen among them at most.
+fn mark_atoms(random: &mut Random, molecule: &mut Molecule) {
+    let degrees = molecule.degrees();
+    for (atom, degree) in molecule.atoms.iter_mut().zip(degrees) {
+        let is_fit = atom.hydrogens < 2 && degree + usize::from(atom.hydrogens) == 4;
+        if is_fit && random.percent(40) {
+            atom.mark = *random.pick(&[Mark::Counterclockwise, Mark::Clockwise]);
+        }
+    }
+}
+
+/// Leaves out some marks of bonds, and marks some of those that are no matching's, where all stays sound.
+fn mark_bonds(random: &mut Random, molecule: &mut Molecule) {
+    let delocalized = delocalized(molecule);
+    for bond in 0..molecule.bonds.len() {
+        let Bond {
+            first,
+            second,
+            kind,
+        } = molecule.bonds[bond];
+        let is_induced = kind == Kind::Elided && delocalized[first] && delocalized[second];
+        if kind.order() > 1 || is_induced || random.percent(60) {
+            continue;
+        }
+        molecule.bonds[bond].kind = *random.pick(&[Kind::Single, Kind::Up, Kind::Down]);
+        if molecule.late_refusal().is_some() {
+            molecule.bonds[bond].kind = kind;
+        }
+    }
 }
 
 /// For each atom the lowest of those that induced bonds join it to, over any number of them.

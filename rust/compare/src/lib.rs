@@ -19,3 +19,4 @@ pub mod registers;
 pub mod spelling;
 pub mod states;
 pub mod texts;
+pub mod withdrawals;

@@ -1,7 +1,7 @@
 //! A register in a real file: opened, made, added to, read meanwhile, damaged, and its process killed at any moment.
 
 use balsa::register::REGISTER;
-use balsa::{Code, FileError, Register, RegisterFile};
+use balsa::{Code, FileError, Refusal, Register, RegisterFile, Withdrawn};
 use compare::random::Random;
 use compare::registers::{self, body_of_tag, listed};
 use std::fs;
@@ -83,6 +83,47 @@ fn full_leaves_the_file() {
     let again = add(&mut file, tag).unwrap_err();
     assert!(matches!(again, FileError::Refused(Code::FullRegister)));
     assert!(fs::read(folder.file()).unwrap() == before);
+}
+
+/// A text that is withdrawn stays so when the file is opened anew, in every drawing; one that reading or
+/// the register refuses leaves the file as it was.
+#[test]
+fn withdrawn_texts_stay() {
+    let folder = Folder::new("withdrawn");
+    let mut file = RegisterFile::open(folder.file()).unwrap();
+    assert_eq!(file.withdrawn(b"C").unwrap(), Withdrawn::Clear);
+    file.withdraw(7, b"CC1=C(C)C=CC=C1").unwrap();
+    let before = fs::read(folder.file()).unwrap();
+    let unread = file.withdraw(8, b"C11").unwrap_err();
+    let refusal = Refusal {
+        code: Code::SelfBridge,
+        place: 2,
+    };
+    assert!(matches!(unread, FileError::Unread(it) if it == refusal));
+    assert_eq!(unread.to_string(), refusal.to_string());
+    let asked = file.withdrawn(b"C11").unwrap_err();
+    assert!(matches!(asked, FileError::Unread(it) if it == refusal));
+    let long = "[CH2:1000]".repeat(500);
+    let full = file.withdraw(8, long.as_bytes()).unwrap_err();
+    assert!(matches!(full, FileError::Refused(Code::FullRegister)));
+    assert!(fs::read(folder.file()).unwrap() == before);
+    let listed = Withdrawn::Withdrawn { tag: 7, entry: 0 };
+    let drawings = [
+        "CC=1C(C)=CC=CC1",
+        "Cc1ccccc1C",
+        "[H]C([H])([H])c1ccccc1[CH3:4]",
+    ];
+    for drawing in drawings.map(str::as_bytes) {
+        assert_eq!(file.withdrawn(drawing).unwrap(), listed);
+        let seen = RegisterFile::read(folder.file()).unwrap();
+        assert_eq!(seen.withdrawn(drawing), Ok(listed));
+    }
+    drop(file);
+    let file = RegisterFile::open(folder.file()).unwrap();
+    for drawing in drawings.map(str::as_bytes) {
+        assert_eq!(file.withdrawn(drawing).unwrap(), listed);
+    }
+    assert!(file.withdrawn(b"Cc1cccc(C)c1").unwrap().is_clear());
 }
 
 /// A second writer is refused, a reader is not.

@@ -3,8 +3,9 @@
 //! It is the second program to which the proved one is compared, and the baseline of the
 //! benchmark. [`read`], [`first`], [`next`], [`kekulize`], [`same`] and [`write`] work on a [`Molecule`];
 //! [`tables`] holds the same calls on tables of `i32`, with the paper's rules for short buffers
-//! and for what a refusal leaves behind. [`register`] holds the calls on a register. [`Pieces`] is a text
-//! that comes in pieces; [`pieces_state`] tells which states of such a reading are refused.
+//! and for what a refusal leaves behind. [`register`] holds the calls on a register, [`withdrawal`]
+//! those that ask whether a compound is withdrawn in it. [`Pieces`] is a text that comes in pieces;
+//! [`pieces_state`] tells which states of such a reading are refused.
 
 mod blossom;
 mod conformation;
@@ -16,6 +17,7 @@ mod pieces;
 pub mod pieces_state;
 mod read;
 mod redrawing;
+mod redrawn;
 mod refusal;
 pub mod register;
 mod report;
@@ -24,6 +26,7 @@ mod search;
 pub mod tables;
 mod tetrahedral;
 mod valence;
+pub mod withdrawal;
 mod write;
 
 pub use conformation::sides;
@@ -33,6 +36,7 @@ pub use matching::{first, has_matching, is_matching, kekulize, next};
 pub use molecule::{Atom, Bond, Kind, Molecule, Neighbour, Neighbours};
 pub use pieces::Pieces;
 pub use read::{read, reading, Reading};
+pub use redrawn::{are_redrawings, folded};
 pub use refusal::{Code, Refusal};
 pub use report::{report, report_line, Accepted};
 pub use same::{same, same_by_search, same_by_trying, shows, Sameness};

@@ -209,15 +209,15 @@ fn smallest(first: &Drawing, second: &Drawing, mut found: Found) -> Vec<usize> {
 
 /// The colours of the atoms of both drawings. An atom goes to atoms of its colour only.
 #[derive(Clone, Debug)]
-struct Colours {
-    first: Vec<usize>,
-    second: Vec<usize>,
+pub(crate) struct Colours {
+    pub(crate) first: Vec<usize>,
+    pub(crate) second: Vec<usize>,
 }
 
 impl Colours {
     /// Numbers whatever the atoms of both drawings are told apart by; none where they do not have
     /// the same ones equally often.
-    fn numbered<T: Ord>(first: Vec<T>, second: Vec<T>) -> Option<Colours> {
+    pub(crate) fn numbered<T: Ord>(first: Vec<T>, second: Vec<T>) -> Option<Colours> {
         let mut kinds: Vec<&T> = first.iter().chain(&second).collect();
         kinds.sort_unstable();
         kinds.dedup();
@@ -231,18 +231,18 @@ impl Colours {
     }
 
     /// How many atoms of the first drawing have each colour.
-    fn sizes(&self) -> Vec<usize> {
+    pub(crate) fn sizes(&self) -> Vec<usize> {
         let colours = self.first.iter().chain(&self.second).max();
         sizes(&self.first, colours.map_or(0, |last| last + 1))
     }
 
     /// How many colours there are.
-    fn count(&self) -> usize {
+    pub(crate) fn count(&self) -> usize {
         self.sizes().iter().filter(|&&size| size > 0).count()
     }
 
     /// These colours, with a new one for an atom and its image.
-    fn with(&self, atom: usize, image: usize) -> Colours {
+    pub(crate) fn with(&self, atom: usize, image: usize) -> Colours {
         let mut colours = self.clone();
         let new = colours.sizes().len();
         colours.first[atom] = new;
@@ -251,7 +251,7 @@ impl Colours {
     }
 
     /// The image of each atom that is the only one of its colour.
-    fn placed(&self) -> Vec<Option<usize>> {
+    pub(crate) fn placed(&self) -> Vec<Option<usize>> {
         let sizes = self.sizes();
         let mut atom_of = vec![None; sizes.len()];
         for (atom, &colour) in self.second.iter().enumerate() {

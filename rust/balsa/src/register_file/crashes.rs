@@ -1,6 +1,6 @@
 //! The crash model: between two syncs any subset of the stored bytes may have reached the disk.
 
-use super::{commit, Disk};
+use super::{commit, Disk, FileError, RegisterFile};
 use crate::refusal::Code;
 use crate::register::{Register, MAX_BODY, REGISTER};
 use std::io;
@@ -178,4 +178,17 @@ fn a_missing_sync_is_seen() {
         Register::new(&left[..]).entry(0),
         Err(Code::InvalidRegister)
     );
+}
+
+/// Where a write failed, nothing is told of any text: what the file lists is not known.
+#[test]
+fn nothing_is_clear_after_a_failure() {
+    let name = format!("balsa-stale-{}", std::process::id());
+    let path = std::env::temp_dir().join(name);
+    let mut file = RegisterFile::create(&path).unwrap();
+    assert!(file.withdrawn(b"C").unwrap().is_clear());
+    file.failed = true;
+    assert!(matches!(file.withdrawn(b"C"), Err(FileError::Stale)));
+    assert!(matches!(file.withdraw(7, b"C"), Err(FileError::Stale)));
+    std::fs::remove_file(&path).unwrap();
 }

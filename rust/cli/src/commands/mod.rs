@@ -2,23 +2,27 @@
 
 mod check;
 mod kekulize;
+mod key;
 mod matchings;
 mod register;
 mod report;
 mod same;
 mod sides;
+mod withdrawn;
 
 use crate::arguments::{Arguments, Opt, HELP};
 use crate::failure::{Failure, Verdict};
 
-pub static COMMANDS: [&Command; 7] = [
+pub static COMMANDS: [&Command; 9] = [
     &check::COMMAND,
     &kekulize::COMMAND,
     &matchings::COMMAND,
     &sides::COMMAND,
     &same::COMMAND,
+    &key::COMMAND,
     &report::COMMAND,
     &register::COMMAND,
+    &withdrawn::COMMAND,
 ];
 
 /// A command: how it is written, what it does and what runs it.

@@ -1,6 +1,6 @@
 //! Makes the calls of every implementation on random texts, whole and in pieces, tables, pairs of
-//! molecules and states of a reading, checks the laws of the paper on each, and compares each with the
-//! reference.
+//! molecules, states of a reading and registers of withdrawn texts, checks the laws of the paper on each,
+//! and compares each with the reference.
 
 use compare::buffers::Buffers;
 use compare::implementation::{Implementation, Reference};
@@ -10,7 +10,8 @@ use compare::pieces::{compare_pieces, cut, shown};
 use compare::proved::Proved;
 use compare::random::Random;
 use compare::states::{check_state, damaged};
-use compare::{drawings, laws, texts};
+use compare::withdrawals::{check_keys, Question};
+use compare::{drawings, laws, molecules, texts};
 use std::process::ExitCode;
 
 /// The implementations that are compared with the reference.
@@ -45,7 +46,8 @@ fn usage() -> ExitCode {
     ExitCode::FAILURE
 }
 
-/// Runs one case: a text, whole and in pieces, tables, two molecules and a damaged state.
+/// Runs one case: a text, whole and in pieces, tables, two molecules, a damaged state, and a question to a
+/// register.
 fn run(seed: u64, case: u64, effort: Effort) -> bool {
     let mut random = Random::new(seed.wrapping_mul(1 << 32).wrapping_add(case));
     let text = texts::text(&mut random, effort);
@@ -97,6 +99,18 @@ fn run(seed: u64, case: u64, effort: Effort) -> bool {
     let (state, buffers) = damaged(&mut random, &text);
     if let Err(message) = check_state(&state, &text, &buffers) {
         tell("state", Proved.name(), format!("{message}\n{state:?}"));
+    }
+    let question = Question::random(&mut random, effort);
+    if let Err(message) = question.compare() {
+        tell(
+            "withdrawn",
+            Proved.name(),
+            format!("{message}\n{question:?}"),
+        );
+    }
+    let molecule = molecules::molecule(&mut random, effort);
+    if let Some(Err(message)) = check_keys(&mut random, &molecule) {
+        tell("key", Proved.name(), message);
     }
     is_right
 }
