@@ -16,6 +16,7 @@ use table::Check;
 use writer::Written;
 
 pub mod forced;
+mod lease_calls;
 mod pieces_call;
 mod register_calls;
 pub mod reporting;

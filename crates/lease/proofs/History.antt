@@ -2,17 +2,16 @@
 use mathlib.Core.Path.{_≡_, refl, sym, ap, _∙_}
 use mathlib.Core.Bool.{Bool, true, false, _&&_, _||_, not, true≢false}
 use mathlib.Core.List.{List, [], _∷_}
-use Prim.Native.Nat.{ℕ, zero, suc, _+_, _-_, _≤_, _<_}
+use Prim.Native.Nat.{ℕ, _+_, _-_, _≤_, _<_}
 use native.Mathlib.Omega.{arith}
 use lib.Dec.{eqb, leb, ltb}
-use borrow.Author.Tests.{ltb-true, ltb-false, leb-true, le-leb, eqb-true, eqb-false, eq-eqb, ne-eqb, not-true, not-false}
+use borrow.Author.Tests.{ltb-true, ltb-false, leb-true, le-leb, eqb-true, eqb-false, not-false}
 use Rattle.lease.specs.declared.Lease.{Lease}
-use Rattle.lease.specs.declared.Release.{Release}
 use Rattle.lease.specs.declared.Release.the-variants.{Yes, Withdrawn, Undecided, Stale, Halted}
-use Rattle.lease.specs.Lease.{begun, halted, heardOf, storedOf, freshOf, releaseOf}
+use Rattle.lease.specs.Lease.{halted, heardOf, storedOf, freshOf, releaseOf}
 use Rattle.loops.specs.Loop.{pick}
 use Rattle.lease.proofs.Laws.{heard-halted, heard-back, heard-below, heard-on, stored-halted, stored-gap, stored-next, told-yes, by-age}
-use Rattle.lease.specs.History.{Event, heard, stored, failed, stepOf, after, lastStored, Hearing, never, at, lastHeard, headOf, broken, isStored, Released}
+use Rattle.lease.specs.History.{Event, heard, stored, failed, after, lastStored, Hearing, never, at, lastHeard, headOf, broken, isStored, Released}
 
 -- what the hearing makes of the three cells
 abbrev askedOf : Hearing → ℕ

@@ -1,12 +1,10 @@
 -- The cases of the lease's definitions, one law for each way through the code
-use mathlib.Core.Path.{_≡_, refl, sym}
-use mathlib.Core.Bool.{Bool, true, false, _&&_, _||_}
+use mathlib.Core.Path.{_≡_}
+use mathlib.Core.Bool.{true, false}
 use Prim.Native.Nat.{ℕ, _+_, _-_, _≤_, _<_}
-use native.Mathlib.Omega.{arith}
-use lib.Dec.{eqb, leb, ltb}
+use lib.Dec.{leb}
 use borrow.Author.Tests.{lt-ltb, le-ltb, le-leb, lt-leb, eq-eqb, ne-eqb}
 use Rattle.lease.specs.declared.Lease.{Lease}
-use Rattle.lease.specs.declared.Release.{Release}
 use Rattle.lease.specs.declared.Release.the-variants.{Yes, Withdrawn, Undecided, Stale, Halted}
 use Rattle.lease.specs.Lease.{halted, heardOf, storedOf, freshOf, releaseOf}
 

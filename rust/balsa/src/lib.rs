@@ -6,9 +6,10 @@
 //! the buffers is touched.
 //!
 //! [`Register`] keeps bodies of bytes under tags and survives a power cut after any store;
-//! [`RegisterFile`] is one in a file.
+//! [`RegisterFile`] is one in a file. [`Lease`] says whether a follower of a feed may release.
 
 mod ffi;
+mod lease;
 mod molecule;
 pub mod pieces;
 mod refusal;
@@ -19,6 +20,7 @@ mod report;
 mod symbol;
 pub mod tables;
 
+pub use lease::{Lease, Release, Verdict};
 pub use molecule::{Matchings, Molecule, Sameness, Written};
 pub use pieces::PieceReader;
 pub use refusal::{Code, Excerpt, Refusal};

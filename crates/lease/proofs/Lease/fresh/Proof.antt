@@ -1,23 +1,17 @@
 use Rattle.lease.proofs.Lease.fresh.Statement.{statement}
 use Rattle.lease.proofs.Lease.fresh.Tie as tie
-use Rattle.lease.proofs.Lease.fresh.Reads as reads
-use Rattle.lease.proofs.Lease.fresh.Lts as lts
 use native.Mathlib.Omega.{arith}
 use Rattle.lease.proofs.Laws.{unheard, behind, to-come, by-age}
 
--- src/lib.rt:112:13
 returns : tie.Need-returns
 returns c = unheard _ _ _ (λ e. omega arith)
 
--- src/lib.rt:115:13
 returns-2 : tie.Need-returns-2
 returns-2 c = behind _ _ _ (omega arith) (omega arith)
 
--- src/lib.rt:118:13
 returns-3 : tie.Need-returns-3
 returns-3 c = to-come _ _ _ (omega arith) (omega arith) (omega arith)
 
--- src/lib.rt:108:5
 returns-4 : tie.Need-returns-4
 returns-4 c = by-age _ _ _ (omega arith) (omega arith) (omega arith)
 

@@ -1,42 +1,31 @@
 use borrow.Author.Needs.{needs}
 use Rattle.lease.proofs.Lease.stored.Statement.{statement}
 use Rattle.lease.proofs.Lease.stored.Tie as tie
-use Rattle.lease.proofs.Lease.stored.Reads as reads
-use Rattle.lease.proofs.Lease.stored.Lts as lts
-use Rattle.lease.proofs.Lease.halt.Reads as halt-reads
 use mathlib.Core.Path.{_∙_}
 use native.Mathlib.Omega.{arith}
 use Rattle.lease.proofs.Laws.{stored-halted, stored-gap, stored-next}
 
--- src/lib.rt:79:13
 halt-requires : tie.Need-halt-requires
 halt-requires c κs = search needs
 
--- src/lib.rt:79:13
 returns : tie.Need-returns
 returns c = c .halt .ensures ∙ stored-halted _ _ (omega arith)
 
--- src/lib.rt:82:13
 halt-requires-2 : tie.Need-halt-requires-2
 halt-requires-2 c κs = search needs
 
--- src/lib.rt:82:13
 returns-2 : tie.Need-returns-2
 returns-2 c = c .halt2 .ensures ∙ stored-gap _ _ (omega arith) (λ e. omega arith)
 
--- src/lib.rt:84:12
 sub-if3 : tie.Need-sub-if3
 sub-if3 c = search needs
 
--- src/lib.rt:92:13
 halt-requires-3 : tie.Need-halt-requires-3
 halt-requires-3 c κs = search needs
 
--- src/lib.rt:75:5
 returns-3 : tie.Need-returns-3
 returns-3 c = stored-next _ _ (omega arith) (omega arith)
 
--- src/lib.rt:75:5
 returns-4 : tie.Need-returns-4
 returns-4 c = c .halt3 .ensures ∙ stored-gap _ _ (omega arith) (λ e. omega arith)
 
