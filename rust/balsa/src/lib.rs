@@ -5,8 +5,10 @@
 //! the lines of an input. Every answer is defined for all inputs: nothing panics, and nothing outside
 //! the buffers is touched.
 //!
+//! [`Lease`] says whether a follower of a feed of withdrawals may release.
+//!
 //! [`Register`] keeps bodies of bytes under tags and survives a power cut after any store;
-//! [`RegisterFile`] is one in a file. [`Lease`] says whether a follower of a feed may release.
+//! [`RegisterFile`] is one in a file.
 
 mod ffi;
 mod lease;
