@@ -17,7 +17,7 @@ import time
 
 WORK, BIN, OWNER = sys.argv[1:4]
 SIDECAR = "rust/sidecar/target/release/balsa-sidecar"
-ASK = "rust/sidecar/target/release/ask"
+ASK = "rust/sidecar/target/release/balsa-ask"
 SETTINGS = f"host={os.environ['PGHOST']} user=tester dbname=postgres connect_timeout=2"
 LEASE = 1500  # milliseconds
 SEGMENT_ENTRIES = 64
@@ -478,8 +478,38 @@ def reconnect():
     DB = Database()
 
 
+def processor_time(pid):
+    """Seconds of processor time that a process has used."""
+    return int(open(f"/proc/{pid}/schedstat").read().split()[0]) / 1e9
+
+
+def speed(call, workers):
+    """Texts a second through a function of the extension, the best of 20 looks at the corpus: by the clock, and in one process
+    by its processor time."""
+    DB.run(f"SET max_parallel_workers_per_gather = {workers}")
+    pid = int(DB.run("SELECT pg_backend_pid()"))
+    clock, processor = [], []
+    for _ in range(20):
+        started, used = time.monotonic(), processor_time(pid)
+        rows = int(DB.run(f"SELECT count({call}) FROM shelf"))
+        clock.append(time.monotonic() - started)
+        processor.append(processor_time(pid) - used)
+    print(f"    {call}, {workers} workers: {rows / min(clock):,.0f} texts a second" +
+          (f", {rows / min(processor):,.0f} of processor time" if workers == 0 else ""))
+
+
 def figures():
     """What docs/PERFORMANCE.md has of these."""
+    DB.run("CREATE TEMP TABLE corpus (line text)")
+    DB.run(f"\\copy corpus FROM 'corpus/real.smi' (DELIMITER E'\\x01')")
+    DB.run("CREATE TABLE shelf AS SELECT line::balsa AS text FROM corpus, generate_series(1, 4)")
+    DB.run("SET parallel_setup_cost = 0; SET parallel_tuple_cost = 0; SET min_parallel_table_scan_size = 0")
+    DB.run("VACUUM ANALYZE shelf")
+    for call in ("text", "(balsa_check(text)).code", "balsa_kekulized(text)", "balsa_key(text)"):
+        for workers in (0, 2):
+            speed(call, workers)
+    DB.run("CREATE INDEX shelf_key ON shelf (balsa_key(text)); ANALYZE shelf; SET max_parallel_workers_per_gather = 0")
+    print("    " + DB.run("EXPLAIN (ANALYZE, COSTS OFF, TIMING OFF) SELECT * FROM shelf WHERE balsa_key(text) = balsa_key('Cc1c(C)cccc1') AND balsa_redrawn(text, 'Cc1c(C)cccc1')").replace("\n", "\n    "))
     benches = [Bench(f"figures-{i}", lease=60000) for i in range(3)]
     for bench in benches:
         bench.until("", "yes", 60)

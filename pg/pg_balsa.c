@@ -44,6 +44,11 @@ typedef struct {
 } Writing;
 
 typedef struct {
+    Tables tables;
+    TupleDesc row;
+} Checking;
+
+typedef struct {
     uint8_t reg[BALSA_REGISTER];
 } Redrawing;
 
@@ -86,11 +91,11 @@ lent(FunctionCallInfo fcinfo, Size size)
     check_stack_depth();
     if (fcinfo->flinfo == NULL) {
         check_edition();
-        return palloc(size);
+        return palloc0(size);
     }
     if (fcinfo->flinfo->fn_extra == NULL) {
         check_edition();
-        fcinfo->flinfo->fn_extra = MemoryContextAlloc(fcinfo->flinfo->fn_mcxt, size);
+        fcinfo->flinfo->fn_extra = MemoryContextAllocZero(fcinfo->flinfo->fn_mcxt, size);
     }
     return fcinfo->flinfo->fn_extra;
 }
@@ -236,20 +241,35 @@ pg_balsa_hash(PG_FUNCTION_ARGS)
 
 /* ---- the calls ---- */
 
+/* The columns of the answer, found once. */
+static TupleDesc
+columns(FunctionCallInfo fcinfo)
+{
+    TupleDesc found;
+    MemoryContext before;
+
+    if (get_call_result_type(fcinfo, NULL, &found) != TYPEFUNC_COMPOSITE)
+        elog(ERROR, "balsa_check answers with a record");
+    before = MemoryContextSwitchTo(fcinfo->flinfo->fn_mcxt);
+    found = BlessTupleDesc(CreateTupleDescCopy(found));
+    MemoryContextSwitchTo(before);
+    return found;
+}
+
 PG_FUNCTION_INFO_V1(pg_balsa_check);
 Datum
 pg_balsa_check(PG_FUNCTION_ARGS)
 {
-    balsa_read_reply reply = read_into(lent(fcinfo, sizeof(Tables)), bytes_of(PG_GETARG_TEXT_PP(0)));
+    Checking *c = lent(fcinfo, sizeof(Checking));
+    balsa_read_reply reply = read_into(&c->tables, bytes_of(PG_GETARG_TEXT_PP(0)));
     Datum values[3] = {UInt32GetDatum(reply.code), Int32GetDatum((int32) reply.place), (Datum) 0};
     bool nulls[3] = {false, !has_place(reply.code), reply.code == 0};
-    TupleDesc row;
 
-    if (get_call_result_type(fcinfo, NULL, &row) != TYPEFUNC_COMPOSITE)
-        elog(ERROR, "balsa_check answers with a record");
+    if (c->row == NULL)
+        c->row = columns(fcinfo);
     if (reply.code)
         values[2] = CStringGetTextDatum(balsa_refusal_text(reply.code));
-    PG_RETURN_DATUM(HeapTupleGetDatum(heap_form_tuple(BlessTupleDesc(row), values, nulls)));
+    PG_RETURN_DATUM(HeapTupleGetDatum(heap_form_tuple(c->row, values, nulls)));
 }
 
 /* Places double bonds by the first matching and writes: 0 with the length, or a refusal's code. */

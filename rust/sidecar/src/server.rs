@@ -90,17 +90,39 @@ pub fn listen(path: &Path) -> io::Result<UnixListener> {
     Ok(listener)
 }
 
+/// Clients that are being answered.
+static CLIENTS_NOW: AtomicUsize = AtomicUsize::new(0);
+
+/// A client that is being answered, as long as this lives.
+struct Seat;
+
+impl Seat {
+    /// A seat, or none where all are taken.
+    fn take() -> Option<Seat> {
+        let seat = Seat;
+        (CLIENTS_NOW.fetch_add(1, Ordering::Relaxed) < CLIENTS).then_some(seat)
+    }
+}
+
+impl Drop for Seat {
+    fn drop(&mut self) {
+        CLIENTS_NOW.fetch_sub(1, Ordering::Relaxed);
+    }
+}
+
 /// Answers clients, each in a thread of its own; one too many is turned away.
 pub fn run(listener: &UnixListener, desk: &'static Desk) {
-    static CLIENTS_NOW: AtomicUsize = AtomicUsize::new(0);
     for stream in listener.incoming().flatten() {
-        if CLIENTS_NOW.load(Ordering::Relaxed) >= CLIENTS {
+        let Some(seat) = Seat::take() else {
             continue;
-        }
-        CLIENTS_NOW.fetch_add(1, Ordering::Relaxed);
-        thread::spawn(move || {
+        };
+        let answers = move || {
+            let _seat = seat;
+            // an error is a client that has gone
             let _ = desk.serve(&stream);
-            CLIENTS_NOW.fetch_sub(1, Ordering::Relaxed);
-        });
+        };
+        if let Err(error) = thread::Builder::new().spawn(answers) {
+            eprintln!("balsa-sidecar: a client is turned away: {error}");
+        }
     }
 }

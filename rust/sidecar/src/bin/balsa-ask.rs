@@ -10,7 +10,7 @@ use std::process::ExitCode;
 use std::time::{Duration, Instant};
 
 const USAGE: &str = "\
-usage: ask [--times] SOCKET LEASE [TEXT ..]
+usage: balsa-ask [--times] SOCKET LEASE [TEXT ..]
 
 Asks for each text, or each line of standard input, and prints the answer. One that takes, with its age, longer than the lease
 (milliseconds) is 'no late'. The exit status is 0 if all may be released, 1 if not, 2 if there is no answer.
