@@ -104,6 +104,16 @@ class Bench:
             time.sleep(0.001)
         raise AssertionError(f"{text} is not told '{wanted}' within {seconds} s, but {words}: {self.said()}")
 
+    def halts(self):
+        """Asks until it has halted, with no yes before; the reason."""
+        end = time.monotonic() + 10
+        while time.monotonic() < end:
+            words, _, _ = self.ask("CCO")
+            assert not words or words[0] == "no", words
+            if words and words[1] == "halted":
+                return " ".join(words[2:])
+        raise AssertionError(f"it has not halted: {self.said()}")
+
     def said(self):
         self.log.flush()
         self.log.seek(0)
@@ -342,7 +352,7 @@ def restored():
     time.sleep(0.5)
     bench.until(text, "no halted")
     away = Bench("restored-away")
-    assert "not the one held" in " ".join(away.until("CCO", "no halted"))
+    assert "not the one held" in away.halts()
     for each in (bench, away):
         each.kill()
 
@@ -366,13 +376,13 @@ def gap():
 
 
 def damaged():
-    """A segment with a wrong byte, a segment cut short, one that is missing, one of an older state: halted from the start."""
+    """A segment with a wrong byte in its contents or in a text, one cut short, missing, of an older state: halted, and no yes before."""
     bench = Bench("damaged")
     bench.until("", "yes")
     bench.kill()
     segments = sorted(glob.glob(f"{WORK}/benches/damaged/withdrawn-*"))
     assert len(segments) > 2, segments
-    for harm in ("byte", "cut", "missing", "older"):
+    for harm in ("byte", "text", "cut", "missing", "older"):
         folder = f"{WORK}/benches/damaged-{harm}"
         shutil.copytree(f"{WORK}/benches/damaged", folder)
         segment = sorted(glob.glob(f"{folder}/withdrawn-*"))[1]
@@ -380,6 +390,10 @@ def damaged():
             if harm == "byte":
                 file.seek(2 + 6 * 5)
                 file.write(b"\x01")
+            if harm == "text":
+                held = file.read()
+                file.seek(held.index(b"]CCO[", 386) + 1)
+                file.write(b"NCO")
             if harm == "cut":
                 file.truncate(20000)
             if harm == "older":
@@ -388,7 +402,7 @@ def damaged():
         if harm == "missing":
             os.remove(segment)
         bench = Bench(f"damaged-{harm}")
-        bench.until("CCO", "no halted")
+        bench.halts()
         DB.withdraw(next(FRESH))
         time.sleep(0.1)
         assert bench.ask("CCO")[0][:2] == ["no", "halted"]
@@ -415,15 +429,13 @@ def full_disk():
         resource.setrlimit(resource.RLIMIT_FSIZE, (20000, 20000))
 
     bench = Bench("full", preexec_fn=no_room)
-    bench.until("CCO", "no halted")
+    bench.halts()
     bench.kill()
     bench = Bench("full")
     bench.until("CCO", "yes")
     bench.kill()
     bench = Bench("full", "--audit", "/dev/full")
-    told = [bench.until("CCO", "")]
-    told += [bench.ask("CCO")[0] for _ in range(20)]
-    assert all(words[:2] == ["no", "halted"] for words in told), told
+    assert "audit" in bench.halts()
     bench.kill()
 
 

@@ -48,10 +48,43 @@ fn connected(
 ) -> Result<(), String> {
     let connection = Connection::open(&settings.database)?;
     connection.run("LISTEN balsa_withdrawal", settings.within)?;
+    compare(&connection, settings.within, store)?;
     while store.read().expect("no panic").fault().is_none() {
         if look(&connection, settings.within, segments, store)? {
             connection.wait(settings.poll)?;
             connection.take_notices();
+        }
+    }
+    Ok(())
+}
+
+/// Compares all that is held with the database, once for each connection, and halts where a withdrawal differs: the disk may
+/// have changed, and a database that was restored older may have gone on with another history. Where the database has fewer,
+/// the head will tell.
+fn compare(connection: &Connection, within: Duration, store: &RwLock<Store>) -> Result<(), String> {
+    let held = store.read().expect("no panic").held();
+    let mut next = 1;
+    while next <= held {
+        let rows = connection.run(
+            &format!(
+                "SELECT number, tag, body FROM balsa_feed.withdrawal \
+                 WHERE number BETWEEN {next} AND {held} ORDER BY number LIMIT {ROWS}"
+            ),
+            within,
+        )?;
+        if rows.len() == 0 {
+            break;
+        }
+        for row in 0..rows.len() {
+            let there = withdrawal(&rows, row);
+            if !there.is_some_and(|(number, entry)| {
+                number == next && store.read().expect("no panic").holds(number, &entry)
+            }) {
+                let why = format!("withdrawal {next} of the database is not the one held");
+                store.write().expect("no panic").halt(why);
+                return Ok(());
+            }
+            next += 1;
         }
     }
     Ok(())
@@ -80,17 +113,16 @@ fn look(
     Ok(store.held() >= head || store.fault().is_some())
 }
 
-/// What is asked for: the withdrawals from the last held on, beside the head, in one snapshot.
+/// What is asked for: the withdrawals after the last held, beside the head, in one snapshot.
 fn question(held: u64) -> String {
     format!(
         "SELECT w.number, w.tag, w.body, h.head, pg_is_in_recovery() \
          FROM (SELECT coalesce(max(number), 0) AS head FROM balsa_feed.withdrawal) h \
-         LEFT JOIN balsa_feed.withdrawal w ON w.number >= {held} ORDER BY w.number LIMIT {ROWS}"
+         LEFT JOIN balsa_feed.withdrawal w ON w.number > {held} ORDER BY w.number LIMIT {ROWS}"
     )
 }
 
-/// Takes in the rows of an answer. The first has to be what was held last: another one under its number, or none, is another
-/// history.
+/// Takes in the rows of an answer: at least one, where the head is above what is held.
 fn take(
     rows: &Rows,
     held: u64,
@@ -98,29 +130,13 @@ fn take(
     segments: &mut Segments,
     store: &RwLock<Store>,
 ) -> Result<(), String> {
-    if head < held {
+    if head <= held {
         return Ok(());
     }
-    let known = usize::from(held > 0);
-    if known == 1 && withdrawal(rows, 0) != Some((held, last(store))) {
-        return Err(format!(
-            "withdrawal {held} of the database is not the one held"
-        ));
-    }
-    if head > held && rows.len() <= known {
-        return Err(format!("the head is {head}, and nothing follows {held}"));
-    }
-    let end = if head > held { rows.len() } else { known };
-    (known..end).try_for_each(|row| {
+    (0..rows.len()).try_for_each(|row| {
         let (number, entry) = withdrawal(rows, row).ok_or("a row that is no withdrawal")?;
         keep(number, entry, segments, store)
     })
-}
-
-/// The withdrawal that was held last.
-fn last(store: &RwLock<Store>) -> Entry {
-    let store = store.read().expect("no panic");
-    store.last().cloned().unwrap_or_default()
 }
 
 /// Takes in a withdrawal: on the disk first, and then it counts.

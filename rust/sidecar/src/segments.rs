@@ -9,7 +9,7 @@ use std::path::{Path, PathBuf};
 const NAME: &str = "withdrawn-";
 
 /// A withdrawal as it is held.
-#[derive(Clone, Debug, Default, PartialEq, Eq)]
+#[derive(Debug, PartialEq, Eq)]
 pub struct Entry {
     /// Its tag.
     pub tag: u16,

@@ -86,9 +86,10 @@ impl Store {
         self.lease.is_halted().then_some(&self.fault)
     }
 
-    /// The withdrawal that was held last.
-    pub fn last(&self) -> Option<&Entry> {
-        self.entries.last()
+    /// Whether this is the withdrawal that is held under a number.
+    pub fn holds(&self, number: u64, entry: &Entry) -> bool {
+        let place = usize::try_from(number).ok().and_then(|n| n.checked_sub(1));
+        place.and_then(|place| self.entries.get(place)) == Some(entry)
     }
 
     /// Halts for good; the first reason is kept.
