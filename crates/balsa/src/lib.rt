@@ -16,12 +16,14 @@ use table::Check;
 use writer::Written;
 
 pub mod forced;
+mod key_call;
 mod lease_calls;
 mod pieces_call;
 mod register_calls;
 pub mod reporting;
 mod same_call;
 pub mod symbol;
+mod withdrawal_calls;
 
 // What reading hands back: code 0 with the counts of atoms, of bonds and of over-full atoms outside brackets, or the refusal's code
 // with its offset and counts of 0.

@@ -10,3 +10,4 @@ pub mod Again
 pub mod Claims
 pub mod Links
 pub mod Paths
+pub mod Samples

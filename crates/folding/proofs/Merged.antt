@@ -54,6 +54,15 @@ module _ (x : Molecule) where
   unfolding merged
   merged-bonds = refl
 
+  -- the lengths of the tables stay
+  pub atoms-length : length (merged x .atoms) ≡ length (x .atoms)
+  unfolding merged
+  atoms-length = let t = foldedTo x (x .n) in packed-length atomCells (stays x) (λ a. cellsOf (atomRow t a)) (x .n) t ∙ to-length x (x .n)
+
+  pub bonds-length : length (merged x .bonds) ≡ length (x .bonds)
+  unfolding merged
+  bonds-length = packed-length bondCells (bondStays x) (λ b. bondCellsOf (movedBond x b)) (x .m) (x .bonds)
+
   pub old-at : (k : ℕ) → k < merged x .n → Nth (stays x) (x .n) k
   unfolding merged
   old-at k l = nth-at (stays x) (x .n) k l
@@ -208,14 +217,6 @@ module _ (x : Molecule) where
           bond-rows = each-all (bondOk (merged x .bonds) (merged x .n)) (merged x .m) bond-ok;
           apart = apart;
         }
-
-    atoms-length : length (merged x .atoms) ≡ length (x .atoms)
-    unfolding merged
-    atoms-length = let t = foldedTo x (x .n) in packed-length atomCells (stays x) (λ a. cellsOf (atomRow t a)) (x .n) t ∙ to-length x (x .n)
-
-    bonds-length : length (merged x .bonds) ≡ length (x .bonds)
-    unfolding merged
-    bonds-length = packed-length bondCells (bondStays x) (λ b. bondCellsOf (movedBond x b)) (x .m) (x .bonds)
 
     pub merged-complete : Complete (merged x)
     merged-complete =

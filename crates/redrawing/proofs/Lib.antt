@@ -4,4 +4,6 @@ pub mod Merged
 pub mod Matched
 pub mod Lengths
 pub mod Claims
+pub mod Tested
 pub mod Xylene
+pub mod Samples

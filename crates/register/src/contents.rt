@@ -2,7 +2,8 @@
 ghost use mathlib.Core.Path.{_≡_};
 ghost use Prim.Native.Nat.{_+_, _<_, _≤_};
 ghost use lib.ListN.{length};
-ghost use Rattle.register.specs.Layout.{size, maxEntries, firstBody, two, count, startOf, lengthOf, tagOf, endBefore, validEntry, valid};
+ghost use mathlib.Core.Bool.{true};
+ghost use Rattle.register.specs.Layout.{size, maxEntries, firstBody, two, count, startOf, lengthOf, tagOf, bodyOf, endBefore, validEntry, valid};
 ghost use Rattle.register.specs.Adding.{fits};
 
 // internal: the least length of a register.
@@ -121,4 +122,14 @@ pub fn fits(r: &[u8], m: usize) -> bool
         return false;
     }
     end_before(r, n) + m <= SIZE
+}
+
+// internal: the body of entry j, a part of the register.
+pub fn body(r: &[u8], j: usize) -> &[u8]
+    requires { ⌜ (size ≤ length (now r)) × (valid (now r) ≡ true) × (j < count (now r)) ⌝ }
+    ensures { λ b. ⌜ now b ≡ bodyOf (now (r .entry)) j ⌝ }
+{
+    let s = start(r, j);
+    let e = s + length(r, j);
+    &r[s..e]
 }

@@ -3,7 +3,7 @@ ghost use mathlib.Core.Path.{_≡_};
 ghost use Rattle.register.specs.Answers.{codeOf, out, emptiedOf, steppedOf, addedOf, foundOut, foundOf, bodyAt};
 use contents::SIZE;
 
-mod contents;
+pub mod contents;
 mod store;
 
 // What a call that changes the register answers; a refusal leaves the register as it was.

@@ -22,10 +22,10 @@ use Rattle.register.specs.Answers as register
 use Rattle.withdrawal.specs.Withdrawal.{WithdrawOut, readText, accepted, withdrew, withdrawOf}
 
 -- a refusal's code is not 0
-code-not-zero : (c : Refusal) → eqb (codeOf c) 0 ≡ false
+pub code-not-zero : (c : Refusal) → eqb (codeOf c) 0 ≡ false
 code-not-zero c = ne-eqb (codeOf c) 0 (λ e. absurd (omega (arith, e, code-range c)))
 
-abbrev readBlank : List ℕ → ReadResult
+abbrev pub readBlank : List ℕ → ReadResult
 readBlank s = readOf s (replicate (atomCells * maxAtoms) (pos 0)) (replicate (bondCells * maxBonds) (pos 0))
 
 module _ (r : List ℕ) (t : ℕ) (s : List ℕ) where

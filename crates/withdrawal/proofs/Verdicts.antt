@@ -50,11 +50,11 @@ module _ (s : List ℕ) (a b : List ℤ) (x : reply.ReadAnswer) (read : told x a
       let q : length b ≡ bondCells * maxBonds = ap (λ (t : ReadResult). length (t .bonds)) same ∙ l .1 ∙ length-replicate (bondCells * maxBonds) (pos 0) in
       record { valid = v; atoms-room = omega (arith, v .few-atoms, p); bonds-room = omega (arith, v .few-bonds, q) }
 
-  text-accepted : accepted s ≡ true
+  pub text-accepted : accepted s ≡ true
   unfolding readText
   text-accepted = eq-eqb (readOf s atomZeros bondZeros .code) 0 fine
 
-  text-drawn : molecule a b n m ≡ drawn s
+  pub text-drawn : molecule a b n m ≡ drawn s
   unfolding readText
   text-drawn = ap (λ (t : ReadResult). molecule (t .atoms) (t .bonds) (t .atomCount) (t .bondCount)) same
 

@@ -1,2 +1,4 @@
 pub mod Withdrawal
+pub mod Answer
 pub mod Verdict
+pub mod Walk

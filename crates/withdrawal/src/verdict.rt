@@ -98,9 +98,11 @@ fn compare(
     )
 }
 
-// internal: whether a text of a register draws a folded molecule.
+// internal: whether a text of a register draws a folded molecule; it is read into tables that are used again and again.
 pub fn judge(
     body: &[u8],
+    atoms1: &mut [i32; ATOM_CELLS * MAX_ATOMS],
+    bonds1: &mut [i32; BOND_CELLS * MAX_BONDS],
     atoms2: &[i32],
     bonds2: &[i32],
     n2: usize,
@@ -112,14 +114,12 @@ pub fn judge(
     requires { ⌜ key2 ≡ keyOf (molecule (now atoms2) (now bonds2) n2 m2) ⌝ }
     ensures { λ r. ⌜ Says (now (body .entry)) (molecule (now (atoms2 .entry)) (now (bonds2 .entry)) n2 m2) r ⌝ }
 {
-    let mut atoms1 = [0i32; ATOM_CELLS * MAX_ATOMS];
-    let mut bonds1 = [0i32; BOND_CELLS * MAX_BONDS];
-    let a = reader::read(body, &mut atoms1, &mut bonds1);
+    let a = reader::read(body, atoms1, bonds1);
     match a {
         ReadAnswer::Refused(_, _) => Verdict::Unsure,
         ReadAnswer::Molecule(n1, m1, _) => compare(
-            &mut atoms1,
-            &mut bonds1,
+            atoms1,
+            bonds1,
             n1,
             m1,
             atoms2,

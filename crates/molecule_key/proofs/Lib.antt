@@ -1,0 +1,6 @@
+pub mod Copying
+pub mod Rows
+pub mod Used
+pub mod Claims
+pub mod Tables
+pub mod Samples

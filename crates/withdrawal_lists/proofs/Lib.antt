@@ -1,0 +1,5 @@
+pub mod Listing
+pub mod Answering
+pub mod Calls
+pub mod Entries
+pub mod Claims
