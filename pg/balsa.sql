@@ -35,6 +35,7 @@ CREATE OPERATOR CLASS balsa_hash_ops DEFAULT FOR TYPE balsa USING hash AS
 CREATE FUNCTION balsa_check(text, OUT code integer, OUT place integer, OUT words text) AS 'MODULE_PATHNAME', 'pg_balsa_check' LANGUAGE C IMMUTABLE STRICT PARALLEL SAFE COST 30;
 CREATE FUNCTION balsa_kekulized(text) RETURNS text AS 'MODULE_PATHNAME', 'pg_balsa_kekulized' LANGUAGE C IMMUTABLE STRICT PARALLEL SAFE COST 60;
 CREATE FUNCTION balsa_key(text) RETURNS bigint AS 'MODULE_PATHNAME', 'pg_balsa_key' LANGUAGE C IMMUTABLE STRICT PARALLEL SAFE COST 60;
+CREATE FUNCTION balsa_compared(text, text) RETURNS text AS 'MODULE_PATHNAME', 'pg_balsa_compared' LANGUAGE C IMMUTABLE STRICT PARALLEL SAFE COST 1000;
 CREATE FUNCTION balsa_redrawn(text, text) RETURNS boolean AS 'MODULE_PATHNAME', 'pg_balsa_redrawn' LANGUAGE C IMMUTABLE STRICT PARALLEL SAFE COST 1000;
 CREATE FUNCTION balsa_same(text, text) RETURNS boolean AS 'MODULE_PATHNAME', 'pg_balsa_same' LANGUAGE C IMMUTABLE STRICT PARALLEL SAFE COST 1000;
 CREATE FUNCTION balsa_edition() RETURNS integer AS 'MODULE_PATHNAME', 'pg_balsa_edition' LANGUAGE C STABLE STRICT PARALLEL SAFE;
@@ -43,6 +44,7 @@ COMMENT ON TYPE balsa IS 'a Balsa text that reading accepts; = compares bytes';
 COMMENT ON FUNCTION balsa_check(text) IS 'code 0, or the refusal''s code, its place in bytes where it has one, and its words';
 COMMENT ON FUNCTION balsa_kekulized(text) IS 'the text with double bonds placed by the first matching';
 COMMENT ON FUNCTION balsa_key(text) IS 'a number that all redrawings of a compound share; for an index';
+COMMENT ON FUNCTION balsa_compared(text, text) IS 'the withdrawal check of the second text by the first: clear, redrawn or undecided';
 COMMENT ON FUNCTION balsa_redrawn(text, text) IS 'whether the second text is a redrawing of the first, as the withdrawal check decides; an error where it cannot';
 COMMENT ON FUNCTION balsa_same(text, text) IS 'whether two texts of at most 12 atoms are the same compound (no equivalence relation)';
 COMMENT ON FUNCTION balsa_edition() IS 'the edition of the library';

@@ -316,11 +316,9 @@ pg_balsa_key(PG_FUNCTION_ARGS)
     PG_RETURN_INT64((int64) reply.key);
 }
 
-/* The withdrawal check on a register that holds the first text alone. Where it cannot decide: an error, so that no
- * search passes a text over. */
-PG_FUNCTION_INFO_V1(pg_balsa_redrawn);
-Datum
-pg_balsa_redrawn(PG_FUNCTION_ARGS)
+/* The withdrawal check on a register that holds the first text alone. */
+static uint32_t
+compared(FunctionCallInfo fcinfo)
 {
     Bytes kept = bytes_of(PG_GETARG_TEXT_PP(0)), asked = bytes_of(PG_GETARG_TEXT_PP(1));
     Redrawing *r = lent(fcinfo, sizeof(Redrawing));
@@ -329,8 +327,8 @@ pg_balsa_redrawn(PG_FUNCTION_ARGS)
 
     if (kept.length > BALSA_REGISTER_BODY)
         ereport(ERROR, errcode(ERRCODE_PROGRAM_LIMIT_EXCEEDED),
-                errmsg("balsa_redrawn takes at most %d bytes as its first text, and has %zu", BALSA_REGISTER_BODY,
-                       kept.length));
+                errmsg("the first of two texts that are compared has at most %d bytes, and this one %zu",
+                       BALSA_REGISTER_BODY, kept.length));
     balsa_register_empty(r->reg, BALSA_REGISTER);
     withdrawn = balsa_withdraw(r->reg, BALSA_REGISTER, 0, kept.bytes, kept.length);
     if (withdrawn.code)
@@ -338,10 +336,30 @@ pg_balsa_redrawn(PG_FUNCTION_ARGS)
     reply = balsa_withdrawn(r->reg, BALSA_REGISTER, asked.bytes, asked.length);
     if (reply.code)
         refuse(asked, reply.code, reply.place);
-    if (reply.answer > 1)
+    return reply.answer;
+}
+
+PG_FUNCTION_INFO_V1(pg_balsa_compared);
+Datum
+pg_balsa_compared(PG_FUNCTION_ARGS)
+{
+    uint32_t answer = compared(fcinfo);
+
+    PG_RETURN_TEXT_P(cstring_to_text(answer == BALSA_CLEAR ? "clear" : answer == BALSA_WITHDRAWN ? "redrawn" : "undecided"));
+}
+
+/* Where the check cannot decide: an error, so that no condition passes a text over. */
+PG_FUNCTION_INFO_V1(pg_balsa_redrawn);
+Datum
+pg_balsa_redrawn(PG_FUNCTION_ARGS)
+{
+    uint32_t answer = compared(fcinfo);
+
+    if (answer != BALSA_CLEAR && answer != BALSA_WITHDRAWN)
         ereport(ERROR, errcode(ERRCODE_PROGRAM_LIMIT_EXCEEDED),
-                errmsg("balsa_redrawn cannot decide: the texts are too much alike in too many places"));
-    PG_RETURN_BOOL(reply.answer == 1);
+                errmsg("whether one text is a redrawing of the other was not decided within the bounded steps"),
+                errhint("balsa_compared tells such a text as undecided."));
+    PG_RETURN_BOOL(answer == BALSA_WITHDRAWN);
 }
 
 /* The number of atoms of a text, which has to be small. */

@@ -31,6 +31,10 @@ SELECT balsa_key('c1ccccc1') = balsa_key('C=1C=CC=CC1'), balsa_key('CCO') = bals
 SELECT balsa_key('C11');
 -- the withdrawal check's comparison
 SELECT balsa_redrawn('c1ccccc1', 'C=1C=CC=CC1'), balsa_redrawn('CC1=C(C)C=CC=C1', 'CC=1C(C)=CC=CC1'), balsa_redrawn('CCO', 'OCC'), balsa_redrawn('CCO', 'COC');
+-- two that have one key and are no redrawings are not decided
+SELECT a, b, balsa_key(a) = balsa_key(b) AS one_key, balsa_compared(a, b) FROM (VALUES ('CCO', 'OCC'), ('CCO', 'COC'),
+    (repeat('C', 20) || 'N' || repeat('C', 40) || 'O', repeat('C', 19) || 'N' || repeat('C', 41) || 'O')) AS pairs (a, b);
+SELECT balsa_redrawn(repeat('C', 20) || 'N' || repeat('C', 40) || 'O', repeat('C', 19) || 'N' || repeat('C', 41) || 'O');
 SELECT balsa_redrawn('CCO', 'C11');
 SELECT balsa_redrawn('C(', 'CCO');
 SELECT balsa_redrawn(repeat('[CH3]', 1000), 'C');
