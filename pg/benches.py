@@ -522,6 +522,7 @@ def figures():
             speed(call, workers)
     DB.run("CREATE INDEX shelf_key ON shelf (balsa_key(text)); ANALYZE shelf; SET max_parallel_workers_per_gather = 0")
     print("    " + DB.run("EXPLAIN (ANALYZE, COSTS OFF, TIMING OFF) SELECT * FROM shelf WHERE balsa_key(text) = balsa_key('Cc1c(C)cccc1') AND balsa_compared(text, 'Cc1c(C)cccc1') <> 'clear'").replace("\n", "\n    "))
+    print("    pairs of the corpus that have one key: " + DB.run("SELECT string_agg(told || ' ' || n, ', ') FROM (SELECT balsa_compared(a.line, b.line) AS told, count(*) AS n FROM corpus a JOIN corpus b ON balsa_key(a.line) = balsa_key(b.line) AND a.ctid < b.ctid GROUP BY 1) AS pairs"))
     benches = [Bench(f"figures-{i}", lease=60000) for i in range(3)]
     for bench in benches:
         bench.until("", "yes", 60)
