@@ -301,6 +301,46 @@ balsa_fed balsa_feed(balsa_pieces state, const uint8_t *piece, size_t piece_len,
 balsa_fed balsa_end(balsa_pieces state, int32_t *atoms, size_t atoms_len, int32_t *bonds,
                     size_t bonds_len);
 
+/* ---- A lease: whether a follower of a numbered feed of withdrawals may release ----
+ *
+ * The follower stores withdrawals 1, 2, 3, .. as they come, notes the time and then asks for the head, the number
+ * of the newest withdrawal. It may release only while everything up to the last head is stored and that head was
+ * asked for at most a limit ago: then a withdrawal that it missed is younger than the limit. Times are numbers of
+ * one clock of the follower's, in any unit. Every call has an answer for all numbers; a lease is handed on from
+ * call to call. docs/SIDECAR.md says how it is used. */
+
+typedef struct {
+    uint32_t phase;  /* 0: no head was heard, 1: one was, any other: halted */
+    uint64_t held;   /* every withdrawal up to this number is stored */
+    uint64_t head;   /* the last head, and the time at which it was asked for */
+    uint64_t asked;
+} balsa_lease;
+
+/* answer 0 yes, with the number up to which everything is stored and the age of the head; 1 withdrawn; 2 undecided;
+ * 3 stale, with the age; 4 halted. What is not named is 0. */
+typedef struct {
+    uint32_t answer;
+    uint64_t held;
+    uint64_t age;
+} balsa_release_reply;
+
+/* The lease of a follower that has stored everything up to a number, and has heard nothing. */
+balsa_lease balsa_lease_new(uint64_t held);
+
+/* After a fault, as of a disk: halted, and no call undoes that. */
+balsa_lease balsa_lease_halt(balsa_lease lease);
+
+/* A head was heard, asked for at a time. One below an earlier head, or below what is stored, halts. */
+balsa_lease balsa_lease_heard(balsa_lease lease, uint64_t asked, uint64_t head);
+
+/* The withdrawal with a number was stored. Any number but the next one halts. */
+balsa_lease balsa_lease_stored(balsa_lease lease, uint64_t number);
+
+/* Whether a text may be released at a time, by the verdict of all that is stored on it, as balsa_withdrawn answers:
+ * 0 clear, 1 withdrawn, any other undecided. Halted comes first, then the verdict, then stale. */
+balsa_release_reply balsa_lease_release(balsa_lease lease, uint64_t now, uint64_t limit,
+                                        uint32_t verdict);
+
 /* ---- A register of entries, each a tag and a body, that survives a power cut ----
  *
  * A register is at least 32,768 bytes that the caller lends (what is beyond is neither looked at nor

@@ -5,3 +5,4 @@ pub mod Keys
 pub mod Reporting
 pub mod Pieces
 pub mod Withdrawals
+pub mod Releases

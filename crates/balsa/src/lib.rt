@@ -17,6 +17,7 @@ use writer::Written;
 
 pub mod forced;
 mod key_call;
+mod lease_calls;
 mod pieces_call;
 mod register_calls;
 pub mod reporting;

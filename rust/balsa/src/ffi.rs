@@ -3,6 +3,8 @@
 //! This is the only module with `unsafe`. Every call is proved for all buffers and all contents, so
 //! the wrappers have nothing to test: `&` and `&mut` keep the memory valid and the buffers apart.
 
+pub mod lease;
+
 use crate::pieces::State;
 use crate::tables::Tables;
 

@@ -5,11 +5,14 @@
 //! the lines of an input. Every answer is defined for all inputs: nothing panics, and nothing outside
 //! the buffers is touched.
 //!
+//! [`Lease`] says whether a follower of a feed of withdrawals may release.
+//!
 //! [`Register`] keeps bodies of bytes under tags and survives a power cut after any store;
 //! [`RegisterFile`] is one in a file. [`Register::withdrawn`] tells whether a text is withdrawn by one of
 //! them, in any drawing: release what is [`Withdrawn::Clear`], and nothing else.
 
 mod ffi;
+mod lease;
 mod molecule;
 pub mod pieces;
 mod refusal;
@@ -20,6 +23,7 @@ mod report;
 mod symbol;
 pub mod tables;
 
+pub use lease::{Lease, Release, Verdict};
 pub use molecule::{Matchings, Molecule, Sameness, Written};
 pub use pieces::PieceReader;
 pub use refusal::{Code, Excerpt, Refusal};

@@ -1,0 +1,2 @@
+pub mod Lease
+pub mod History
