@@ -240,26 +240,10 @@ fn keeps(
     true
 }
 
-// Whether the atom a may go to b beside those that are placed.
-fn fits(
-    graph1: &[u16],
-    keys1: &[u64],
-    graph2: &[u16],
-    keys2: &[u64],
-    n: usize,
-    a: u16,
-    b: u16,
-    t: &[u16],
-    taken: &[u16],
-) -> bool
+// Whether the atom a may go to b, which is free and has its key, beside those that are placed.
+fn fits(graph1: &[u16], graph2: &[u16], n: usize, a: u16, b: u16, t: &[u16], taken: &[u16]) -> bool
     requires { ⌜ n ≤ maxAtoms ⌝ }
 {
-    if !same_key(keys1, wide(a), keys2, wide(b)) {
-        return false;
-    }
-    if at(taken, wide(b)) != NONE {
-        return false;
-    }
     if !keeps(graph1, graph2, n, a, b, t, taken) {
         return false;
     }
@@ -304,6 +288,35 @@ fn candidate_atom(graph2: &[u16], n: usize, from: u16, c: u16) -> u16
     c - 1
 }
 
+// The first candidate from one on whose atom is free and has the key of a; 0 where there is none.
+fn free_candidate(
+    graph2: &[u16],
+    n: usize,
+    keys1: &[u64],
+    keys2: &[u64],
+    taken: &[u16],
+    a: u16,
+    from: u16,
+    cursor: u16,
+) -> u16
+    requires { ⌜ n ≤ maxAtoms ⌝ }
+{
+    let mut c = cursor;
+    let mut i = 0;
+    while i < MAX_ATOMS {
+        if c == 0 {
+            return 0;
+        }
+        let b = candidate_atom(graph2, n, from, c);
+        if (at(taken, wide(b)) == NONE) & same_key(keys1, wide(a), keys2, wide(b)) {
+            return c;
+        }
+        c = candidate_after(graph2, n, from, c);
+        i += 1;
+    }
+    0
+}
+
 // Takes back the atom before a place of the plan; answers the place to go on at, past all if the place begins a part.
 fn take_back(plan: &[u16], i: usize, from: u16, t: &[u16], taken: &mut [u16]) -> usize
     requires { ⌜ i ≤ maxAtoms ⌝ }
@@ -339,6 +352,37 @@ fn settle(
     i + 1
 }
 
+// How many bonds an atom has.
+fn degree(graph: &[u16], n: usize, a: u16) -> usize
+    requires { ⌜ n ≤ maxAtoms ⌝ }
+{
+    let mut h = first(graph, a);
+    let mut d = 0;
+    while d < MAX_ATOMS {
+        if h == 0 {
+            return d;
+        }
+        h = next(graph, n, h);
+        d += 1;
+    }
+    d
+}
+
+// What is left of a budget after a step at an atom with d bonds: it costs 1, and more where there are many.
+fn spend(left: usize, d: usize) -> usize
+    requires { ⌜ 0 < left ⌝ }
+    ensures { λ r. ⌜ r < left ⌝ }
+{
+    if d <= 4 {
+        return left - 1;
+    }
+    let cost = d / 2;
+    if left < cost {
+        return 0;
+    }
+    left - cost
+}
+
 // One step: tries the next candidate of the atom at a place of the plan; answers the place to go on at.
 fn step(
     graph1: &[u16],
@@ -356,19 +400,19 @@ fn step(
 {
     let a = at(plan, 2 * i);
     let from = at(plan, 2 * i + 1);
-    let c = at(cursors, i);
+    let c = free_candidate(graph2, n, keys1, keys2, taken, a, from, at(cursors, i));
     if c == 0 {
         return take_back(plan, i, from, t, taken);
     }
     put(cursors, i, candidate_after(graph2, n, from, c));
     let b = candidate_atom(graph2, n, from, c);
-    if !fits(graph1, keys1, graph2, keys2, n, a, b, t, taken) {
+    if !fits(graph1, graph2, n, a, b, t, taken) {
         return i;
     }
     settle(graph2, plan, i, a, b, cursors, taken, t)
 }
 
-// Whether all atoms of a plan were placed within so many steps; `taken` begins with NONE in each cell.
+// Whether all atoms of a plan were placed within a budget; `taken` begins with NONE in each cell.
 fn search(
     graph1: &[u16],
     keys1: &[u64],
@@ -385,13 +429,13 @@ fn search(
 {
     begin(graph2, plan, t, 0, cursors);
     let mut i = 0;
-    let mut steps = 0;
-    while steps < budget {
+    let mut left = budget;
+    while 0 < left {
         if n <= i {
             return i == n;
         }
+        left = spend(left, degree(graph1, n, at(plan, 2 * i)));
         i = step(graph1, keys1, graph2, keys2, n, plan, i, cursors, taken, t);
-        steps += 1;
     }
     i == n
 }

@@ -19,7 +19,7 @@ pub enum Verdict {
 }
 
 // The steps that a guess may take.
-const BUDGET: usize = 20000;
+const BUDGET: usize = 8000;
 
 // Whether two folded molecules are redrawings; of the second, the key and those of its atoms are known.
 fn decide(

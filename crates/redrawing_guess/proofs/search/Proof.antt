@@ -1,5 +1,4 @@
 -- `redrawing_guess::search` meets its contract: safe, and no more is claimed. Assumes nothing.
-use Prim.Native.Nat.{_-_}
 use mathlib.Core.Path.{_≡_, refl}
 use native.Mathlib.Omega.{arith}
 use lib.ListN.{length}
@@ -7,10 +6,10 @@ use Rattle.redrawing_guess.proofs.search.Statement.{statement}
 use Rattle.redrawing_guess.proofs.search.Tie as tie
 
 abbrev Inv-loop : tie.InvT-loop
-Inv-loop graph1 keys1 graph2 keys2 n plan budget cursors₀ taken₀ t₀ i₀ steps₀ cursors taken t i steps = (length cursors ≡ length cursors₀) × (length taken ≡ length taken₀) × (length t ≡ length t₀)
+Inv-loop graph1 keys1 graph2 keys2 n plan budget cursors₀ taken₀ t₀ i₀ left₀ cursors taken t i left = (length cursors ≡ length cursors₀) × (length taken ≡ length taken₀) × (length t ≡ length t₀)
 
 abbrev μ-loop : tie.MeasureT-loop
-μ-loop graph1 keys1 graph2 keys2 n plan budget cursors₀ taken₀ t₀ i₀ steps₀ cursors taken t i steps = budget - steps
+μ-loop graph1 keys1 graph2 keys2 n plan budget cursors₀ taken₀ t₀ i₀ left₀ cursors taken t i left = left
 
 begin-requires : tie.Need-begin-requires Inv-loop μ-loop
 begin-requires c κs = omega arith
@@ -30,11 +29,20 @@ same-length-3 c = omega arith
 returns : tie.Need-returns Inv-loop μ-loop
 returns c = tt
 
+mul-at : tie.Need-mul-at Inv-loop μ-loop
+mul-at c = omega arith
+
+at-requires : tie.Need-at-requires Inv-loop μ-loop
+at-requires c κs = tt
+
+degree-requires : tie.Need-degree-requires Inv-loop μ-loop
+degree-requires c κs = omega arith
+
+spend-requires : tie.Need-spend-requires Inv-loop μ-loop
+spend-requires c κs = omega arith
+
 step-requires : tie.Need-step-requires Inv-loop μ-loop
 step-requires c κs = (omega arith, omega arith)
-
-add-steps : tie.Need-add-steps Inv-loop μ-loop
-add-steps c = omega arith
 
 loop-less : tie.Need-loop-less Inv-loop μ-loop
 loop-less c = omega arith
@@ -66,8 +74,11 @@ search-spec =
     same-length-2
     same-length-3
     returns
+    mul-at
+    at-requires
+    degree-requires
+    spend-requires
     step-requires
-    add-steps
     loop-less
     loop-again
     same-length-4
