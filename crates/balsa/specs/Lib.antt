@@ -3,3 +3,4 @@ pub mod Symbol
 pub mod Registers
 pub mod Reporting
 pub mod Pieces
+pub mod Standard

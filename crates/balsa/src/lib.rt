@@ -20,6 +20,7 @@ mod pieces_call;
 mod register_calls;
 pub mod reporting;
 mod same_call;
+mod standard_call;
 pub mod symbol;
 
 // What reading hands back: code 0 with the counts of atoms, of bonds and of over-full atoms outside brackets, or the refusal's code

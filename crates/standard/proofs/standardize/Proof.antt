@@ -1,0 +1,66 @@
+use mathlib.Core.Path.{_∙_}
+use Rattle.standard.proofs.Calls.{too-short, read-refused, read-accepted}
+use borrow.Author.Needs.{needs}
+use Rattle.standard.proofs.standardize.Statement.{statement}
+use Rattle.standard.proofs.standardize.Tie as tie
+
+returns : tie.Need-returns
+returns c = too-short _ _ (c .if1 .taken)
+
+slice-aggregate-read : tie.Need-slice-aggregate-read
+slice-aggregate-read c = search needs
+
+slice-aggregate-read-2 : tie.Need-slice-aggregate-read-2
+slice-aggregate-read-2 c = search needs
+
+read-requires : tie.Need-read-requires
+read-requires c κs = search needs
+
+enum-known-a : tie.Need-enum-known-a
+enum-known-a c = search needs
+
+refuse-requires : tie.Need-refuse-requires
+refuse-requires c κs = search needs
+
+enum-known-a-2 : tie.Need-enum-known-a-2
+enum-known-a-2 c = search needs
+
+slice-aggregate-kekulize-first : tie.Need-slice-aggregate-kekulize-first
+slice-aggregate-kekulize-first c = search needs
+
+slice-aggregate-kekulize-first-2 : tie.Need-slice-aggregate-kekulize-first-2
+slice-aggregate-kekulize-first-2 c = search needs
+
+kekulize-first-requires : tie.Need-kekulize-first-requires
+kekulize-first-requires c κs = search needs
+
+same-length : tie.Need-same-length
+same-length c = search needs
+
+returns-2 : tie.Need-returns-2
+returns-2 c = c .before .before .refuse .ensures ∙ read-refused _ _ _ _ _ (c .before .before .before .before .before .before .before .before .before .before .before .before .if1 .left) (c .before .before .before .before .before .before .before .before .before .read .ensures) (c .before .before .before .before .before .a .given .1)
+
+same-length-2 : tie.Need-same-length-2
+same-length-2 c = search needs
+
+returns-3 : tie.Need-returns-3
+returns-3 c = c .before .before .before .before .kekulize-first .ensures ∙ read-accepted _ _ _ _ _ (c .before .before .before .before .before .before .before .before .before .before .before .before .before .before .before .before .if1 .left) (c .before .before .before .before .before .before .before .before .before .before .before .before .before .read .ensures) (c .before .before .before .before .before .before .before .before .before .a2 .given .1)
+
+pub standardize-spec : {M : Type 1} → statement M
+standardize-spec =
+    tie.close
+    (tie.spec
+    returns
+    slice-aggregate-read
+    slice-aggregate-read-2
+    read-requires
+    enum-known-a
+    refuse-requires
+    enum-known-a-2
+    slice-aggregate-kekulize-first
+    slice-aggregate-kekulize-first-2
+    kekulize-first-requires
+    same-length
+    returns-2
+    same-length-2
+    returns-3)

@@ -1,0 +1,89 @@
+// One call from a text to the text kekulized: reading, the first matching, kekulizing and writing.
+ghost use mathlib.Core.Path.{_≡_};
+ghost use lib.ListN.{replicate};
+ghost use Rattle.refusal.specs.Code.{codeOf};
+ghost use Rattle.table.specs.Limits.{maxAtoms};
+ghost use Rattle.writing.specs.Write.{writeOf};
+ghost use Rattle.standard.specs.Standard.{told, zeroed, ofWritten, ofMolecule, standardOf};
+use ids::MAX_TEXT;
+use reader::ending::ReadAnswer;
+use refusal::Refusal;
+use table::ATOM_CELLS;
+use table::BOND_CELLS;
+use table::Check;
+use table::MAX_ATOMS;
+use table::MAX_BONDS;
+use writer::Written;
+
+// A text, with the counts of atoms, bonds and over-full atoms and its length, or a refusal with its place.
+pub enum Standardized {
+    Text(usize, usize, usize, usize),
+    Refused(Refusal, usize),
+}
+
+// A refusal; the output is zeroed.
+fn refuse(r: Refusal, p: usize, out: &mut [u8]) -> Standardized
+    ensures { λ t. ⌜ told t (now (out .exit)) ≡ zeroed (codeOf r) p (now (out .entry)) ⌝ }
+{
+    buffer::clear_from(out, 0);
+    Standardized::Refused(r, p)
+}
+
+// The text of a kekulized molecule.
+fn write_kekulized(
+    atoms: &[i32],
+    bonds: &[i32],
+    n: usize,
+    m: usize,
+    overfull: usize,
+    out: &mut [u8],
+) -> Standardized
+    ensures { λ t. ⌜ told t (now (out .exit)) ≡ ofWritten n m overfull (writeOf (now (atoms .entry)) (now (bonds .entry)) n m (now (out .entry)) (replicate maxAtoms 0)) ⌝ }
+{
+    let mut numbers = [0u16; MAX_ATOMS];
+    let w = writer::write(atoms, bonds, n, m, out, &mut numbers);
+    match w {
+        Written::Text(size) => Standardized::Text(n, m, overfull, size),
+        Written::Refused(r) => Standardized::Refused(r, 0),
+    }
+}
+
+// A molecule that was read: kekulized by its first matching, and its text.
+fn kekulize_first(
+    atoms: &mut [i32],
+    bonds: &mut [i32],
+    n: usize,
+    m: usize,
+    overfull: usize,
+    out: &mut [u8],
+) -> Standardized
+    ensures { λ t. ⌜ told t (now (out .exit)) ≡ ofMolecule (now (atoms .entry)) (now (bonds .entry)) n m overfull (now (out .entry)) ⌝ }
+{
+    let mut row = [0u8; MAX_BONDS];
+    kekule::first(atoms, bonds, n, m, &mut row);
+    let c = kekule::kekulize(atoms, bonds, n, m, &row);
+    match c {
+        Check::Fine => write_kekulized(atoms, bonds, n, m, overfull, out),
+        Check::Refused(r) => refuse(r, 0, out),
+    }
+}
+
+// Reads a text, kekulizes it by its first matching and writes it: the counts of atoms, of bonds and of over-full atoms outside brackets, and the
+// length of the text, whose bytes the output holds, and zeros after them; or the first refusal among these, with its place, which is 0 after reading.
+// An output that is too short (1) stays as it was; every other refusal leaves it zeroed.
+pub fn standardize(text: &[u8], out: &mut [u8]) -> Standardized
+    ensures { λ t. ⌜ told t (now (out .exit)) ≡ standardOf (now (text .entry)) (now (out .entry)) ⌝ }
+{
+    if out.len() < MAX_TEXT {
+        return Standardized::Refused(Refusal::Short, 0);
+    }
+    let mut atoms = [0i32; ATOM_CELLS * MAX_ATOMS];
+    let mut bonds = [0i32; BOND_CELLS * MAX_BONDS];
+    let a = reader::read(text, &mut atoms, &mut bonds);
+    match a {
+        ReadAnswer::Refused(r, p) => refuse(r, p, out),
+        ReadAnswer::Molecule(n, m, overfull) => {
+            kekulize_first(&mut atoms, &mut bonds, n, m, overfull, out)
+        }
+    }
+}
