@@ -1,10 +1,10 @@
 -- From what the calls hand back to the answer. Assumes nothing.
 use Prim.Native.Nat.{ℕ, _*_, _-_, _≤_, _<_}
 use native.Mathlib.Omega.{arith}
-use mathlib.Core.Path.{_≡_, refl, sym, ap, _∙_}
+use mathlib.Core.Path.{_≡_, refl, sym, ap, subst, _∙_}
 use mathlib.Core.List.{List, _++_}
-use mathlib.Core.Bool.{Bool, true, false}
-use lib.ListN.{length, take, replicate}
+use mathlib.Core.Bool.{Bool, true, false, _&&_}
+use lib.ListN.{length, take, replicate, length-replicate}
 use lib.IntN.{ℤ, pos}
 use lib.Dec.{eqb, leb}
 use borrow.Author.Tests.{ne-eqb, lt-leb, le-leb}
@@ -13,21 +13,32 @@ use Rattle.refusal.specs.Code.{codeOf}
 use Rattle.refusal.specs.declared.Refusal.{Refusal}
 use Rattle.refusal.proofs.Codes.{code-range}
 use Rattle.table.specs.Limits.{maxAtoms, maxBonds, atomCells, bondCells}
-use Rattle.table.specs.declared.Check.{Check}
+use Rattle.table.specs.Valid.{Valid, enough}
+use Rattle.table.specs.Sound.{noneUnfit, sound}
+use Rattle.table.proofs.Sound.{sound-valid, sound-late, late-none}
+use Rattle.table_marks.specs.Chosen.{noneCrowdedBy}
+use Rattle.table_graph.specs.Graph.{matchingOf}
 use Rattle.table.specs.declared.Check.the-variants as check
 use Rattle.ids.specs.Limits.{maxText}
 use Rattle.matching.specs.declared.Call.the-variants.{First}
 use Rattle.reading.specs.Read as read
 use Rattle.reader.specs.Ending as reader
 use Rattle.reader.specs.declared.ending.ReadAnswer as reply
-use Rattle.kekule.specs.Kekule.{KekulizeReply, CallReply, out, tables, callOn, kekulizedOf}
-use Rattle.kekule.proofs.Kekule.{cleared}
+use Rattle.reading.proofs.Accepted as reading
+use Rattle.matching.specs.Enumeration.{rowCall}
+use Rattle.kekule.specs.Kekule as kekulize
+use Rattle.kekule.specs.Kekule.{KekulizeReply, CallReply, callReplyOf, out, tables, roomy, isMatchingOf, kekulizedOf}
+use Rattle.kekule.proofs.Kekule.{cleared, call-done, kekulize-crowded, kekulize-done}
+use Rattle.kekule.proofs.Kekulized.{kekulize-settles}
 use Rattle.kekule_answers.specs.declared.Found.{Found}
 use Rattle.writing.specs.Write as write
 use Rattle.writer.specs.Told as writer
+use Rattle.writer.proofs.Answer.{told-valid}
 use Rattle.writer.specs.declared.Written.{Written}
 use Rattle.writer.specs.declared.Written.the-variants as written
 use Rattle.standard.specs.Standard.{StandardOut, refusedAs, zeroed, firstRow, kekuleOf, writtenOf, ofWritten, ofMolecule, ofRead, standardOf, told}
+use Rattle.standard.specs.Standing.{Writable, Standing}
+use Rattle.standard.proofs.First.{first-is}
 use Rattle.standard.specs.declared.Standardized.the-variants.{Text, Refused}
 
 code-not-zero : (r : Refusal) → eqb (codeOf r) 0 ≡ false
@@ -39,44 +50,112 @@ refuses r p out after e = ap (refusedAs (codeOf r) p) (e ∙ cleared out)
 
 -- ---- writing
 
-module _ (n m k : ℕ) (w : Written) (after numbers : List ℕ) {x : write.WriteResult} (answer : writer.told w after numbers ≡ x) where
-  pub is-written : {size : ℕ} → w ≡ written.Text size → told (Text n m k size) after ≡ ofWritten n m k x
-  is-written e = sym (ap (λ (y : Written). ofWritten n m k (writer.told y after numbers)) e) ∙ ap (ofWritten n m k) answer
+pub numbers-long : maxAtoms ≤ length {A = ℕ} (replicate maxAtoms 0)
+numbers-long = omega (arith, length-replicate {A = ℕ} maxAtoms 0)
 
-  pub not-written : {r : Refusal} → w ≡ written.Refused r → told (Refused r 0) after ≡ ofWritten n m k x
+module _ (atoms bonds : List ℤ) (n m k : ℕ) (out : List ℕ) (w : Written) (after numbers : List ℕ) (u : Writable atoms bonds n m) (long : maxText ≤ length out) (answer : writer.told w after numbers ≡ write.writeValid atoms bonds n m out (replicate maxAtoms 0)) where
+  the-writing : writer.told w after numbers ≡ write.writeOf atoms bonds n m out (replicate maxAtoms 0)
+  the-writing = answer ∙ told-valid atoms bonds n m out (replicate maxAtoms 0) (u .room) long numbers-long (u .is-sound)
+
+  pub is-written : {size : ℕ} → w ≡ written.Text size → told (Text n m k size) after ≡ ofWritten n m k (write.writeOf atoms bonds n m out (replicate maxAtoms 0))
+  is-written e = sym (ap (λ (y : Written). ofWritten n m k (writer.told y after numbers)) e) ∙ ap (ofWritten n m k) the-writing
+
+  pub not-written : {r : Refusal} → w ≡ written.Refused r → told (Refused r 0) after ≡ ofWritten n m k (write.writeOf atoms bonds n m out (replicate maxAtoms 0))
   not-written {r} e =
       sym (ap (λ t. pick t (record { code = 0; place = 0; atoms = n; bonds = m; overfull = k; size = 0; output = after }) (refusedAs (codeOf r) 0 after)) (code-not-zero r))
-      ∙ sym (ap (λ (y : Written). ofWritten n m k (writer.told y after numbers)) e) ∙ ap (ofWritten n m k) answer
+      ∙ sym (ap (λ (y : Written). ofWritten n m k (writer.told y after numbers)) e) ∙ ap (ofWritten n m k) the-writing
+
+pub writable-facts : {atoms bonds : List ℤ} {n m : ℕ} → Writable atoms bonds n m → Valid atoms bonds n m × (noneUnfit atoms bonds n m ≡ true)
+writable-facts {atoms} {bonds} {n} {m} u = (sound-valid atoms bonds n m (u .is-sound), late-none atoms bonds n m (sound-late atoms bonds n m (u .is-sound)) .fit)
 
 -- ---- kekulizing
 
-module _ (atoms bonds : List ℤ) (n m k : ℕ) (row : List ℕ) (a b : List ℤ) (output : List ℕ) (f : Found) (c : Check) (first : out f row ≡ callOn First atoms bonds n m (replicate maxBonds 0)) (kekule : tables c a b ≡ kekulizedOf atoms bonds n m row) where
-  the-tables : tables c a b ≡ kekuleOf atoms bonds n m
-  unfolding kekuleOf firstRow
-  the-tables = kekule ∙ ap (λ (o : CallReply). kekulizedOf atoms bonds n m (o .row)) first
+-- a row of zeros, and one as long, has a cell for each bond
+pub blank-fits : {atoms bonds : List ℤ} {n m : ℕ} → Valid atoms bonds n m → m ≤ length {A = ℕ} (replicate maxBonds 0)
+blank-fits v = omega (arith, v .few-bonds, length-replicate {A = ℕ} maxBonds 0)
 
-  -- the answer, by what kekulizing hands back
-  abbrev byTables : KekulizeReply → StandardOut
-  byTables t = pick (eqb (t .code) 0) (ofWritten n m k (write.writeOf (t .atoms) (t .bonds) n m output (replicate maxAtoms 0))) (zeroed (t .code) 0 output)
+pub row-fits : {atoms bonds : List ℤ} {n m : ℕ} → Valid atoms bonds n m → (row : List ℕ) → length row ≡ length {A = ℕ} (replicate maxBonds 0) → m ≤ length row
+row-fits v row e = omega (arith, v .few-bonds, e, length-replicate {A = ℕ} maxBonds 0)
 
-  the-answer : {x : Check} → c ≡ x → byTables (tables x a b) ≡ ofMolecule atoms bonds n m k output
-  unfolding ofMolecule writtenOf
-  the-answer e = sym (ap (λ (x : Check). byTables (tables x a b)) e) ∙ ap byTables the-tables
+module _ (atoms bonds : List ℤ) (n m : ℕ) (w : Standing atoms bonds n m) where
+  pub standing-valid : Valid atoms bonds n m
+  standing-valid = sound-valid atoms bonds n m (w .is-sound)
 
-  pub kekulized : c ≡ check.Fine → ofWritten n m k (write.writeOf a b n m output (replicate maxAtoms 0)) ≡ ofMolecule atoms bonds n m k output
-  kekulized e = the-answer e
+  module _ (k : ℕ) (row output : List ℕ) (f : Found) (first : out f row ≡ callReplyOf (rowCall (matchingOf atoms bonds n m) m First (replicate maxBonds 0))) where
+    the-row : row ≡ rowCall (matchingOf atoms bonds n m) m First (replicate maxBonds 0) .row
+    the-row = ap (λ (o : CallReply). o .row) first
 
-  pub not-kekulized : {r : Refusal} → c ≡ check.Refused r → zeroed (codeOf r) 0 output ≡ ofMolecule atoms bonds n m k output
-  not-kekulized {r} e = sym (ap (λ t. pick t (ofWritten n m k (write.writeOf a b n m output (replicate maxAtoms 0))) (zeroed (codeOf r) 0 output)) (code-not-zero r)) ∙ the-answer e
+    row-long : length row ≡ length {A = ℕ} (replicate maxBonds 0) → roomy atoms bonds (length row) ≡ true
+    row-long l = ap (λ (x : ℕ). leb maxBonds x && enough atoms bonds) (l ∙ length-replicate {A = ℕ} maxBonds 0) ∙ w .room
+
+    blank-long : roomy atoms bonds (length {A = ℕ} (replicate maxBonds 0)) ≡ true
+    blank-long = ap (λ (x : ℕ). leb maxBonds x && enough atoms bonds) (length-replicate {A = ℕ} maxBonds 0) ∙ w .room
+
+    the-first : row ≡ firstRow atoms bonds n m
+    unfolding firstRow
+    the-first = ap (λ (o : CallReply). o .row) (call-done First atoms bonds n m (replicate maxBonds 0) blank-long (w .is-sound) first)
+
+    matches : isMatchingOf atoms bonds n m row ≡ true
+    matches = subst (λ (r : List ℕ). isMatchingOf atoms bonds n m r ≡ true) (sym the-row) (first-is atoms bonds n m (replicate maxBonds 0) (w .matched))
+
+    the-tables : {t : KekulizeReply} → t ≡ kekulizedOf atoms bonds n m row → t ≡ kekuleOf atoms bonds n m
+    unfolding kekuleOf
+    the-tables e = e ∙ ap (kekulizedOf atoms bonds n m) the-first
+
+    -- the answer, by what kekulizing hands back
+    abbrev byTables : KekulizeReply → StandardOut
+    byTables t = pick (eqb (t .code) 0) (ofWritten n m k (write.writeOf (t .atoms) (t .bonds) n m output (replicate maxAtoms 0))) (zeroed (t .code) 0 output)
+
+    the-answer : {t : KekulizeReply} → t ≡ kekulizedOf atoms bonds n m row → byTables t ≡ ofMolecule atoms bonds n m k output
+    unfolding ofMolecule writtenOf
+    the-answer e = ap byTables (the-tables e)
+
+    pub crowded : length row ≡ length {A = ℕ} (replicate maxBonds 0) → noneCrowdedBy bonds m row ≡ false → zeroed 20 0 output ≡ ofMolecule atoms bonds n m k output
+    crowded l d = the-answer (kekulize-crowded atoms bonds n m row (row-long l) (w .is-sound) matches d)
+
+    module _ {a b : List ℤ} (l : length row ≡ length {A = ℕ} (replicate maxBonds 0)) (d : noneCrowdedBy bonds m row ≡ true) (done : tables check.Fine a b ≡ kekulize.kekulized atoms bonds n m row) where
+      the-done : tables check.Fine a b ≡ kekulizedOf atoms bonds n m row
+      the-done = kekulize-done atoms bonds n m row (row-long l) (w .is-sound) matches d done
+
+      pub kekulized : ofWritten n m k (write.writeOf a b n m output (replicate maxAtoms 0)) ≡ ofMolecule atoms bonds n m k output
+      kekulized = the-answer the-done
+
+      pub writable : length a ≡ length atoms → length b ≡ length bonds → Writable a b n m
+      unfolding enough
+      writable la lb =
+          record {
+            room = (λ i. leb (atomCells * maxAtoms) (la i) && leb (bondCells * maxBonds) (lb i)) ∙ w .room;
+            is-sound = subst (λ (t : KekulizeReply). sound (t .atoms) (t .bonds) n m ≡ true) (sym the-done) (kekulize-settles atoms bonds n m row (ap (λ (t : KekulizeReply). t .code) (sym the-done)) .still-sound);
+          }
 
 -- ---- reading
 
 abbrev readBlank : List ℕ → read.ReadResult
 readBlank s = read.readOf s (replicate (atomCells * maxAtoms) (pos 0)) (replicate (bondCells * maxBonds) (pos 0))
 
+both : {x y : Bool} → x ≡ true → y ≡ true → (x && y) ≡ true
+both e f = λ i. e i && f i
+
+-- an accepted text leaves sound tables that have a matching
+accepted-standing : (s : List ℕ) → readBlank s .code ≡ 0 → Standing (readBlank s .atoms) (readBlank s .bonds) (readBlank s .atomCount) (readBlank s .bondCount)
+unfolding enough
+accepted-standing s e =
+    let t = reading.read-accepted s _ _ e in
+    record {
+      room = both (le-leb (atomCells * maxAtoms) (length (readBlank s .atoms)) (omega (arith, t .lengths .0, length-replicate {A = ℤ} (atomCells * maxAtoms) (pos 0)))) (le-leb (bondCells * maxBonds) (length (readBlank s .bonds)) (omega (arith, t .lengths .1, length-replicate {A = ℤ} (bondCells * maxBonds) (pos 0))));
+      is-sound = reading.read-sound s _ _ e;
+      matched = t .matched;
+    }
+
 pub too-short : (s output : List ℕ) → length output < maxText → refusedAs 1 0 output ≡ standardOf s output
 unfolding standardOf
 too-short s output l = sym (ap (λ t. pick t (ofRead (readBlank s) output) (refusedAs 1 0 output)) (lt-leb maxText (length output) l))
+
+pub read-standing : (s : List ℕ) (a b : List ℤ) (x : reply.ReadAnswer) → reader.told x a b ≡ readBlank s → {n m k : ℕ} → x ≡ reply.ReadAnswer.Molecule n m k → Standing a b n m
+read-standing s a b x answer {n} {m} {k} e =
+    let same : reader.told (reply.ReadAnswer.Molecule n m k) a b ≡ readBlank s = ap (λ (y : reply.ReadAnswer). reader.told y a b) (sym e) ∙ answer in
+    let fine : readBlank s .code ≡ 0 = ap (λ (t : read.ReadResult). t .code) (sym same) in
+    subst (λ (t : read.ReadResult). Standing (t .atoms) (t .bonds) (t .atomCount) (t .bondCount)) (sym same) (accepted-standing s fine)
 
 module _ (s output : List ℕ) (a b : List ℤ) (x : reply.ReadAnswer) (long : maxText ≤ length output) (answer : reader.told x a b ≡ readBlank s) where
   the-reading : {y : reply.ReadAnswer} → x ≡ y → ofRead (reader.told y a b) output ≡ standardOf s output

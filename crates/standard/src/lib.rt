@@ -1,16 +1,19 @@
 // One call from a text to the text kekulized: reading, the first matching, kekulizing and writing.
 ghost use mathlib.Core.Path.{_≡_};
-ghost use lib.ListN.{replicate};
+ghost use Prim.Native.Nat.{_≤_};
+ghost use lib.ListN.{length, replicate};
 ghost use Rattle.refusal.specs.Code.{codeOf};
 ghost use Rattle.table.specs.Limits.{maxAtoms};
+ghost use Rattle.ids.specs.Limits.{maxText};
 ghost use Rattle.writing.specs.Write.{writeOf};
 ghost use Rattle.standard.specs.Standard.{told, zeroed, ofWritten, ofMolecule, standardOf};
+ghost use Rattle.standard.specs.Standing.{Writable, Standing};
 use ids::MAX_TEXT;
+use matching::Call;
 use reader::ending::ReadAnswer;
 use refusal::Refusal;
 use table::ATOM_CELLS;
 use table::BOND_CELLS;
-use table::Check;
 use table::MAX_ATOMS;
 use table::MAX_BONDS;
 use writer::Written;
@@ -38,10 +41,12 @@ fn write_kekulized(
     overfull: usize,
     out: &mut [u8],
 ) -> Standardized
+    requires { ⌜ Writable (now atoms) (now bonds) n m ⌝ }
+    requires { ⌜ maxText ≤ length (now out) ⌝ }
     ensures { λ t. ⌜ told t (now (out .exit)) ≡ ofWritten n m overfull (writeOf (now (atoms .entry)) (now (bonds .entry)) n m (now (out .entry)) (replicate maxAtoms 0)) ⌝ }
 {
     let mut numbers = [0u16; MAX_ATOMS];
-    let w = writer::write(atoms, bonds, n, m, out, &mut numbers);
+    let w = writer::write_valid(atoms, bonds, n, m, out, &mut numbers);
     match w {
         Written::Text(size) => Standardized::Text(n, m, overfull, size),
         Written::Refused(r) => Standardized::Refused(r, 0),
@@ -57,15 +62,17 @@ fn kekulize_first(
     overfull: usize,
     out: &mut [u8],
 ) -> Standardized
+    requires { ⌜ Standing (now atoms) (now bonds) n m ⌝ }
+    requires { ⌜ maxText ≤ length (now out) ⌝ }
     ensures { λ t. ⌜ told t (now (out .exit)) ≡ ofMolecule (now (atoms .entry)) (now (bonds .entry)) n m overfull (now (out .entry)) ⌝ }
 {
     let mut row = [0u8; MAX_BONDS];
-    kekule::first(atoms, bonds, n, m, &mut row);
-    let c = kekule::kekulize(atoms, bonds, n, m, &row);
-    match c {
-        Check::Fine => write_kekulized(atoms, bonds, n, m, overfull, out),
-        Check::Refused(r) => refuse(r, 0, out),
+    kekule::call_valid(Call::First, atoms, bonds, n, m, &mut row);
+    if !table_marks::none_crowded_by(bonds, m, &row) {
+        return refuse(Refusal::CrowdedEnd, 0, out);
     }
+    kekule::kekulize_valid(atoms, bonds, n, m, &row);
+    write_kekulized(atoms, bonds, n, m, overfull, out)
 }
 
 // Reads a text, kekulizes it by its first matching and writes it: the counts of atoms, of bonds and of over-full atoms outside brackets, and the

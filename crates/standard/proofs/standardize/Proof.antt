@@ -1,5 +1,5 @@
 use mathlib.Core.Path.{_∙_}
-use Rattle.standard.proofs.Calls.{too-short, read-refused, read-accepted}
+use Rattle.standard.proofs.Calls.{too-short, read-refused, read-standing, read-accepted}
 use borrow.Author.Needs.{needs}
 use Rattle.standard.proofs.standardize.Statement.{statement}
 use Rattle.standard.proofs.standardize.Tie as tie
@@ -32,7 +32,7 @@ slice-aggregate-kekulize-first-2 : tie.Need-slice-aggregate-kekulize-first-2
 slice-aggregate-kekulize-first-2 c = search needs
 
 kekulize-first-requires : tie.Need-kekulize-first-requires
-kekulize-first-requires c κs = search needs
+kekulize-first-requires c κs = (read-standing _ _ _ _ (c .before .before .before .before .before .before .before .before .read .ensures) (c .before .before .before .before .a2 .given .1), c .before .before .before .before .before .before .before .before .before .before .before .if1 .left)
 
 same-length : tie.Need-same-length
 same-length c = search needs
