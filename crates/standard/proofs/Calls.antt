@@ -23,6 +23,7 @@ use Rattle.ids.specs.Limits.{maxText}
 use Rattle.matching.specs.declared.Call.the-variants.{First}
 use Rattle.reading.specs.Read as read
 use Rattle.reader.specs.Ending as reader
+use Rattle.reader.proofs.Ends.{cleared-blank}
 use Rattle.reader.specs.declared.ending.ReadAnswer as reply
 use Rattle.reading.proofs.Accepted as reading
 use Rattle.matching.specs.Enumeration.{rowCall}
@@ -135,6 +136,27 @@ readBlank s = read.readOf s (replicate (atomCells * maxAtoms) (pos 0)) (replicat
 
 both : {x y : Bool} → x ≡ true → y ≡ true → (x && y) ≡ true
 both e f = λ i. e i && f i
+
+-- the tables that are read into
+abbrev blankAtoms : List ℤ
+blankAtoms = replicate (atomCells * maxAtoms) (pos 0)
+
+abbrev blankBonds : List ℤ
+blankBonds = replicate (bondCells * maxBonds) (pos 0)
+
+blank-is : (k : ℕ) → replicate k (pos 0) ≡ read.zeros (replicate k (pos 0))
+blank-is k = ap (λ (x : ℕ). replicate x (pos 0)) (sym (length-replicate {A = ℤ} k (pos 0)))
+
+blank-room : enough blankAtoms blankBonds ≡ true
+unfolding enough
+blank-room = both (le-leb (atomCells * maxAtoms) (length blankAtoms) (omega (arith, length-replicate {A = ℤ} (atomCells * maxAtoms) (pos 0)))) (le-leb (bondCells * maxBonds) (length blankBonds) (omega (arith, length-replicate {A = ℤ} (bondCells * maxBonds) (pos 0))))
+
+pub blank-tables : reader.Blank blankAtoms blankBonds
+blank-tables = cleared-blank blankAtoms blankBonds blank-room (blank-is (atomCells * maxAtoms)) (blank-is (bondCells * maxBonds))
+
+-- what reading into them promises
+pub blank-read : (s : List ℕ) {t : read.ReadResult} → ((a b : List ℤ) → blankAtoms ≡ read.zeros a → blankBonds ≡ read.zeros b → enough a b ≡ true → t ≡ read.readOf s a b) → t ≡ readBlank s
+blank-read s f = f blankAtoms blankBonds (blank-is (atomCells * maxAtoms)) (blank-is (bondCells * maxBonds)) blank-room
 
 -- an accepted text leaves sound tables that have a matching
 accepted-standing : (s : List ℕ) → readBlank s .code ≡ 0 → Standing (readBlank s .atoms) (readBlank s .bonds) (readBlank s .atomCount) (readBlank s .bondCount)

@@ -86,7 +86,7 @@ pub fn standardize(text: &[u8], out: &mut [u8]) -> Standardized
     }
     let mut atoms = [0i32; ATOM_CELLS * MAX_ATOMS];
     let mut bonds = [0i32; BOND_CELLS * MAX_BONDS];
-    let a = reader::read(text, &mut atoms, &mut bonds);
+    let a = reader::read_zeroed(text, &mut atoms, &mut bonds);
     match a {
         ReadAnswer::Refused(r, p) => refuse(r, p, out),
         ReadAnswer::Molecule(n, m, overfull) => {
