@@ -55,6 +55,22 @@ fn nested_and_long() {
     assert!(read(chain).is_ok());
 }
 
+/// The same texts from text to text in one call.
+#[test]
+fn standardized() {
+    let nested = format!("C{}{}", "(C".repeat(64), ")".repeat(64));
+    let ring = format!("{nested}.c1{}c1", "c".repeat(932));
+    let chain = "C".repeat(13) + &"-[999CoH9-9:9999]".repeat(963);
+    for text in [nested, ring, chain] {
+        let mut molecule = Molecule::read(text.as_bytes()).expect("it is read");
+        let first = molecule.matchings().next().expect("it has a matching");
+        molecule.kekulize(&first).expect("it is kekulized");
+        let written = molecule.write().map(|written| written.text);
+        let told = on_little_stack(move || balsa::standardize(text.as_bytes()));
+        assert_eq!(told.map_err(|refusal| refusal.code), written);
+    }
+}
+
 /// The same in pieces of 1,000 bytes.
 #[test]
 fn nested_and_long_in_pieces() {
