@@ -13,7 +13,9 @@ use Rattle.refusal.specs.Code.{codeOf}
 use Rattle.refusal.specs.declared.Refusal.{Refusal}
 use Rattle.refusal.proofs.Codes.{code-range}
 use Rattle.table.specs.Limits.{maxAtoms, maxBonds, atomCells, bondCells}
-use Rattle.table.specs.Valid.{Valid, enough}
+use Rattle.table.specs.Valid.{Valid, enough, checkCode}
+use Rattle.table.specs.declared.Check.{Check}
+use Rattle.refusal.specs.declared.Refusal.the-variants.{CrowdedEnd}
 use Rattle.table.specs.Sound.{noneUnfit, sound}
 use Rattle.table.proofs.Sound.{sound-valid, sound-late, late-none}
 use Rattle.table_marks.specs.Chosen.{noneCrowdedBy}
@@ -28,7 +30,7 @@ use Rattle.reader.specs.declared.ending.ReadAnswer as reply
 use Rattle.reading.proofs.Accepted as reading
 use Rattle.matching.specs.Enumeration.{rowCall}
 use Rattle.kekule.specs.Kekule as kekulize
-use Rattle.kekule.specs.Kekule.{KekulizeReply, CallReply, callReplyOf, out, tables, roomy, isMatchingOf, kekulizedOf}
+use Rattle.kekule.specs.Kekule.{KekulizeReply, CallReply, callReplyOf, out, tables, roomy, callOn, isMatchingOf, kekulizedOf}
 use Rattle.kekule.proofs.Kekule.{cleared, call-done, kekulize-crowded, kekulize-done}
 use Rattle.kekule.proofs.Kekulized.{kekulize-settles}
 use Rattle.kekule_answers.specs.declared.Found.{Found}
@@ -38,7 +40,7 @@ use Rattle.writer.proofs.Answer.{told-valid}
 use Rattle.writer.specs.declared.Written.{Written}
 use Rattle.writer.specs.declared.Written.the-variants as written
 use Rattle.standard.specs.Standard.{StandardOut, refusedAs, zeroed, firstRow, kekuleOf, writtenOf, ofWritten, ofMolecule, ofRead, standardOf, told}
-use Rattle.standard.specs.Standing.{Writable, Standing}
+use Rattle.standard.specs.Standing.{Writable, Standing, Settled}
 use Rattle.standard.proofs.First.{first-is}
 use Rattle.standard.specs.declared.Standardized.the-variants.{Text, Refused}
 
@@ -71,63 +73,73 @@ writable-facts {atoms} {bonds} {n} {m} u = (sound-valid atoms bonds n m (u .is-s
 
 -- ---- kekulizing
 
--- a row of zeros, and one as long, has a cell for each bond
-pub blank-fits : {atoms bonds : List ℤ} {n m : ℕ} → Valid atoms bonds n m → m ≤ length {A = ℕ} (replicate maxBonds 0)
-blank-fits v = omega (arith, v .few-bonds, length-replicate {A = ℕ} maxBonds 0)
-
-pub row-fits : {atoms bonds : List ℤ} {n m : ℕ} → Valid atoms bonds n m → (row : List ℕ) → length row ≡ length {A = ℕ} (replicate maxBonds 0) → m ≤ length row
-row-fits v row e = omega (arith, v .few-bonds, e, length-replicate {A = ℕ} maxBonds 0)
+-- no refusal is an acceptance
+no-refusal : {P : Type 0} {r : Refusal} → check.Refused r ≡ check.Fine → P
+no-refusal {r = r} e =
+    let z : codeOf r ≡ 0 = ap checkCode e in
+    let p = code-range r in
+    absurd (omega (arith, z, p .positive))
 
 module _ (atoms bonds : List ℤ) (n m : ℕ) (w : Standing atoms bonds n m) where
   pub standing-valid : Valid atoms bonds n m
   standing-valid = sound-valid atoms bonds n m (w .is-sound)
 
-  module _ (k : ℕ) (row output : List ℕ) (f : Found) (first : out f row ≡ callReplyOf (rowCall (matchingOf atoms bonds n m) m First (replicate maxBonds 0))) where
-    the-row : row ≡ rowCall (matchingOf atoms bonds n m) m First (replicate maxBonds 0) .row
-    the-row = ap (λ (o : CallReply). o .row) first
+  pub blank-fits : (blank : List ℕ) → blank ≡ replicate maxBonds 0 → m ≤ length blank
+  blank-fits blank zero = omega (arith, standing-valid .few-bonds, ap length zero, length-replicate {A = ℕ} maxBonds 0)
 
-    row-long : length row ≡ length {A = ℕ} (replicate maxBonds 0) → roomy atoms bonds (length row) ≡ true
-    row-long l = ap (λ (x : ℕ). leb maxBonds x && enough atoms bonds) (l ∙ length-replicate {A = ℕ} maxBonds 0) ∙ w .room
+  module _ (blank row : List ℕ) (f : Found) (zero : blank ≡ replicate maxBonds 0) (kept : length row ≡ length blank) (first : out f row ≡ callReplyOf (rowCall (matchingOf atoms bonds n m) m First blank)) where
+    long : (r : List ℕ) → length r ≡ length blank → roomy atoms bonds (length r) ≡ true
+    long r l = ap (λ (x : ℕ). leb maxBonds x && enough atoms bonds) (l ∙ ap length zero ∙ length-replicate {A = ℕ} maxBonds 0) ∙ w .room
 
-    blank-long : roomy atoms bonds (length {A = ℕ} (replicate maxBonds 0)) ≡ true
-    blank-long = ap (λ (x : ℕ). leb maxBonds x && enough atoms bonds) (length-replicate {A = ℕ} maxBonds 0) ∙ w .room
+    pub row-fits : m ≤ length row
+    row-fits = omega (arith, standing-valid .few-bonds, kept, ap length zero, length-replicate {A = ℕ} maxBonds 0)
 
     the-first : row ≡ firstRow atoms bonds n m
     unfolding firstRow
-    the-first = ap (λ (o : CallReply). o .row) (call-done First atoms bonds n m (replicate maxBonds 0) blank-long (w .is-sound) first)
+    the-first = ap (λ (o : CallReply). o .row) (call-done First atoms bonds n m blank (long blank refl) (w .is-sound) first) ∙ ap (λ (r : List ℕ). callOn First atoms bonds n m r .row) zero
 
     matches : isMatchingOf atoms bonds n m row ≡ true
-    matches = subst (λ (r : List ℕ). isMatchingOf atoms bonds n m r ≡ true) (sym the-row) (first-is atoms bonds n m (replicate maxBonds 0) (w .matched))
+    matches = subst (λ (r : List ℕ). isMatchingOf atoms bonds n m r ≡ true) (sym (ap (λ (o : CallReply). o .row) first)) (first-is atoms bonds n m blank (w .matched))
 
     the-tables : {t : KekulizeReply} → t ≡ kekulizedOf atoms bonds n m row → t ≡ kekuleOf atoms bonds n m
     unfolding kekuleOf
     the-tables e = e ∙ ap (kekulizedOf atoms bonds n m) the-first
 
-    -- the answer, by what kekulizing hands back
-    abbrev byTables : KekulizeReply → StandardOut
-    byTables t = pick (eqb (t .code) 0) (ofWritten n m k (write.writeOf (t .atoms) (t .bonds) n m output (replicate maxAtoms 0))) (zeroed (t .code) 0 output)
+    pub crowded : noneCrowdedBy bonds m row ≡ false → Settled atoms bonds n m (check.Refused CrowdedEnd) atoms bonds row
+    crowded d =
+        record {
+          first = the-first;
+          done = the-tables (kekulize-crowded atoms bonds n m row (long row kept) (w .is-sound) matches d);
+          writable = λ e. no-refusal e;
+        }
 
-    the-answer : {t : KekulizeReply} → t ≡ kekulizedOf atoms bonds n m row → byTables t ≡ ofMolecule atoms bonds n m k output
-    unfolding ofMolecule writtenOf
-    the-answer e = ap byTables (the-tables e)
-
-    pub crowded : length row ≡ length {A = ℕ} (replicate maxBonds 0) → noneCrowdedBy bonds m row ≡ false → zeroed 20 0 output ≡ ofMolecule atoms bonds n m k output
-    crowded l d = the-answer (kekulize-crowded atoms bonds n m row (row-long l) (w .is-sound) matches d)
-
-    module _ {a b : List ℤ} (l : length row ≡ length {A = ℕ} (replicate maxBonds 0)) (d : noneCrowdedBy bonds m row ≡ true) (done : tables check.Fine a b ≡ kekulize.kekulized atoms bonds n m row) where
-      the-done : tables check.Fine a b ≡ kekulizedOf atoms bonds n m row
-      the-done = kekulize-done atoms bonds n m row (row-long l) (w .is-sound) matches d done
-
-      pub kekulized : ofWritten n m k (write.writeOf a b n m output (replicate maxAtoms 0)) ≡ ofMolecule atoms bonds n m k output
-      kekulized = the-answer the-done
-
-      pub writable : length a ≡ length atoms → length b ≡ length bonds → Writable a b n m
-      unfolding enough
-      writable la lb =
-          record {
+    pub kekulized : {a b : List ℤ} → noneCrowdedBy bonds m row ≡ true → tables check.Fine a b ≡ kekulize.kekulized atoms bonds n m row → length a ≡ length atoms → length b ≡ length bonds → Settled atoms bonds n m check.Fine a b row
+    unfolding enough
+    kekulized {a} {b} d done la lb =
+        let e : tables check.Fine a b ≡ kekulizedOf atoms bonds n m row = kekulize-done atoms bonds n m row (long row kept) (w .is-sound) matches d done in
+        record {
+          first = the-first;
+          done = the-tables e;
+          writable = λ z. record {
             room = (λ i. leb (atomCells * maxAtoms) (la i) && leb (bondCells * maxBonds) (lb i)) ∙ w .room;
-            is-sound = subst (λ (t : KekulizeReply). sound (t .atoms) (t .bonds) n m ≡ true) (sym the-done) (kekulize-settles atoms bonds n m row (ap (λ (t : KekulizeReply). t .code) (sym the-done)) .still-sound);
-          }
+            is-sound = subst (λ (t : KekulizeReply). sound (t .atoms) (t .bonds) n m ≡ true) (sym e) (kekulize-settles atoms bonds n m row (ap (λ (t : KekulizeReply). t .code) (sym e)) .still-sound);
+          };
+        }
+
+-- the answer, by what kekulizing hands back
+module _ (atoms bonds : List ℤ) (n m k : ℕ) (row output : List ℕ) (a b : List ℤ) (c : Check) (settled : Settled atoms bonds n m c a b row) where
+  abbrev byTables : KekulizeReply → StandardOut
+  byTables t = pick (eqb (t .code) 0) (ofWritten n m k (write.writeOf (t .atoms) (t .bonds) n m output (replicate maxAtoms 0))) (zeroed (t .code) 0 output)
+
+  the-answer : {x : Check} → c ≡ x → byTables (tables x a b) ≡ ofMolecule atoms bonds n m k output
+  unfolding ofMolecule writtenOf
+  the-answer e = sym (ap (λ (x : Check). byTables (tables x a b)) e) ∙ ap byTables (settled .done)
+
+  pub is-settled : c ≡ check.Fine → ofWritten n m k (write.writeOf a b n m output (replicate maxAtoms 0)) ≡ ofMolecule atoms bonds n m k output
+  is-settled e = the-answer e
+
+  pub not-settled : {r : Refusal} → c ≡ check.Refused r → zeroed (codeOf r) 0 output ≡ ofMolecule atoms bonds n m k output
+  not-settled {r} e = sym (ap (λ t. pick t (ofWritten n m k (write.writeOf a b n m output (replicate maxAtoms 0))) (zeroed (codeOf r) 0 output)) (code-not-zero r)) ∙ the-answer e
 
 -- ---- reading
 

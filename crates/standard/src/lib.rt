@@ -3,17 +3,18 @@ ghost use mathlib.Core.Path.{_≡_};
 ghost use Prim.Native.Nat.{_≤_};
 ghost use lib.ListN.{length, replicate};
 ghost use Rattle.refusal.specs.Code.{codeOf};
-ghost use Rattle.table.specs.Limits.{maxAtoms};
+ghost use Rattle.table.specs.Limits.{maxAtoms, maxBonds};
 ghost use Rattle.ids.specs.Limits.{maxText};
 ghost use Rattle.writing.specs.Write.{writeOf};
 ghost use Rattle.standard.specs.Standard.{told, zeroed, ofWritten, ofMolecule, standardOf};
-ghost use Rattle.standard.specs.Standing.{Writable, Standing};
+ghost use Rattle.standard.specs.Standing.{Writable, Standing, Settled};
 use ids::MAX_TEXT;
 use matching::Call;
 use reader::ending::ReadAnswer;
 use refusal::Refusal;
 use table::ATOM_CELLS;
 use table::BOND_CELLS;
+use table::Check;
 use table::MAX_ATOMS;
 use table::MAX_BONDS;
 use writer::Written;
@@ -53,6 +54,20 @@ fn write_kekulized(
     }
 }
 
+// internal: kekulizes the tables of an accepted text by their first matching, which a zeroed row gets; or 20, which changes neither table.
+pub fn settle(atoms: &mut [i32], bonds: &mut [i32], n: usize, m: usize, row: &mut [u8]) -> Check
+    requires { ⌜ Standing (now atoms) (now bonds) n m ⌝ }
+    requires { ⌜ now row ≡ replicate maxBonds 0 ⌝ }
+    ensures { λ r. ⌜ Settled (now (atoms .entry)) (now (bonds .entry)) n m r (now (atoms .exit)) (now (bonds .exit)) (now (row .exit)) ⌝ }
+{
+    kekule::call_valid(Call::First, atoms, bonds, n, m, row);
+    if !table_marks::none_crowded_by(bonds, m, row) {
+        return Check::Refused(Refusal::CrowdedEnd);
+    }
+    kekule::kekulize_valid(atoms, bonds, n, m, row);
+    Check::Fine
+}
+
 // A molecule that was read: kekulized by its first matching, and its text.
 fn kekulize_first(
     atoms: &mut [i32],
@@ -67,12 +82,11 @@ fn kekulize_first(
     ensures { λ t. ⌜ told t (now (out .exit)) ≡ ofMolecule (now (atoms .entry)) (now (bonds .entry)) n m overfull (now (out .entry)) ⌝ }
 {
     let mut row = [0u8; MAX_BONDS];
-    kekule::call_valid(Call::First, atoms, bonds, n, m, &mut row);
-    if !table_marks::none_crowded_by(bonds, m, &row) {
-        return refuse(Refusal::CrowdedEnd, 0, out);
+    let c = settle(atoms, bonds, n, m, &mut row);
+    match c {
+        Check::Fine => write_kekulized(atoms, bonds, n, m, overfull, out),
+        Check::Refused(r) => refuse(r, 0, out),
     }
-    kekule::kekulize_valid(atoms, bonds, n, m, &row);
-    write_kekulized(atoms, bonds, n, m, overfull, out)
 }
 
 // Reads a text, kekulizes it by its first matching and writes it: the counts of atoms, of bonds and of over-full atoms outside brackets, and the

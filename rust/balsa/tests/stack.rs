@@ -4,7 +4,7 @@
 mod graphs;
 
 use balsa::tables::{self, Counts, ATOM_TABLE, BOND_TABLE, RENUMBERING, ROW, TEXT};
-use balsa::{Code, Molecule, PieceReader};
+use balsa::{Code, Molecule, PieceReader, Refusal};
 use graphs::{families, Graph};
 use std::thread;
 
@@ -67,7 +67,7 @@ fn standardized() {
         molecule.kekulize(&first).expect("it is kekulized");
         let written = molecule.write().map(|written| written.text);
         let told = on_little_stack(move || balsa::standardize(text.as_bytes()));
-        assert_eq!(told.map_err(|refusal| refusal.code), written);
+        assert_eq!(told, written.map_err(Refusal::from));
     }
 }
 
