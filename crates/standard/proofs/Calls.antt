@@ -44,7 +44,7 @@ use Rattle.standard.specs.Standing.{Writable, Standing, Settled}
 use Rattle.standard.proofs.First.{first-is}
 use Rattle.standard.specs.declared.Standardized.the-variants.{Text, Refused}
 
-code-not-zero : (r : Refusal) → eqb (codeOf r) 0 ≡ false
+pub code-not-zero : (r : Refusal) → eqb (codeOf r) 0 ≡ false
 code-not-zero r = ne-eqb (codeOf r) 0 (λ e. omega (arith, code-range r .positive))
 
 -- a refusal
@@ -57,7 +57,7 @@ pub numbers-long : maxAtoms ≤ length {A = ℕ} (replicate maxAtoms 0)
 numbers-long = omega (arith, length-replicate {A = ℕ} maxAtoms 0)
 
 module _ (atoms bonds : List ℤ) (n m k : ℕ) (out : List ℕ) (w : Written) (after numbers : List ℕ) (u : Writable atoms bonds n m) (long : maxText ≤ length out) (answer : writer.told w after numbers ≡ write.writeValid atoms bonds n m out (replicate maxAtoms 0)) where
-  the-writing : writer.told w after numbers ≡ write.writeOf atoms bonds n m out (replicate maxAtoms 0)
+  pub the-writing : writer.told w after numbers ≡ write.writeOf atoms bonds n m out (replicate maxAtoms 0)
   the-writing = answer ∙ told-valid atoms bonds n m out (replicate maxAtoms 0) (u .room) long numbers-long (u .is-sound)
 
   pub is-written : {size : ℕ} → w ≡ written.Text size → told (Text n m k size) after ≡ ofWritten n m k (write.writeOf atoms bonds n m out (replicate maxAtoms 0))
