@@ -9,13 +9,14 @@ import uk.ac.ebi.beam.Graph;
 /**
  * Beam's time for what `balsa_standardize` does: a text read, its double bonds placed, and the text written.
  *
- * <p>CPU microseconds per text of a file, the quickest of 40 rounds after 40 to warm up; texts that Beam
- * refuses are left out and counted.
+ * <p>CPU microseconds per text of a file, the quickest round of half a million texts after as many to warm
+ * up; texts that Beam refuses are left out and counted. It is the time of the thread that calls: what the
+ * compiler and the collector of the virtual machine do on threads of their own is not in it.
  *
  * <pre>java -cp /usr/share/java/beam-core.jar rust/bench/beam/Beam.java corpus/real.smi [LEAST MOST]</pre>
  */
 public final class Beam {
-    private static final int ROUNDS = 40;
+    private static final int TEXTS = 500_000;
 
     private static long kept;
 
@@ -35,17 +36,18 @@ public final class Beam {
                 refused++;
             }
         }
+        int rounds = TEXTS / texts.size() + 1;
         long quickest = Long.MAX_VALUE;
-        for (int round = 0; round < 2 * ROUNDS; round++) {
+        for (int round = 0; round < 2 * rounds; round++) {
             long time = round(texts);
-            if (round >= ROUNDS) {
+            if (round >= rounds) {
                 quickest = Math.min(quickest, time);
             }
         }
         double bytes = texts.stream().mapToInt(String::length).average().orElse(0);
         System.out.printf("%d texts of %.1f bytes, %d refused%n", texts.size(), bytes, refused);
         System.out.printf("%.3f microseconds%n", quickest / 1e3 / texts.size());
-        System.out.printf("(%d bytes written)%n", kept / (2 * ROUNDS));
+        System.out.printf("(%d bytes written)%n", kept / (2 * rounds));
     }
 
     /** The CPU time of this thread for all texts, in nanoseconds. */
