@@ -1,4 +1,3 @@
-use mathlib.Core.Path.{_≡_}
 use Rattle.reader.proofs.Ends.{told-long, told-refused, told-fine, text-bounded, text-valid, text-rankable}
 use borrow.Author.Needs.{needs}
 use Rattle.reader.proofs.read_zeroed.Statement.{statement}

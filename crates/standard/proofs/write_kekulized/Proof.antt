@@ -1,6 +1,3 @@
-use native.Mathlib.Omega.{arith}
-use lib.ListN.{length-replicate}
-use Rattle.table.specs.Limits.{maxAtoms}
 use Rattle.standard.proofs.Calls.{writable-facts, numbers-long, is-written, not-written}
 use borrow.Author.Needs.{needs}
 use Rattle.standard.proofs.write_kekulized.Statement.{statement}
