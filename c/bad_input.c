@@ -370,6 +370,29 @@ static void withdrawals(void) {
     expect(w.code == 7 && memcmp(reg, before, sizeof reg) == 0, "nothing is added");
 }
 
+/* From a text to the text kekulized: a short output stays, a refusal zeroes it, zeros follow the text. */
+static balsa_standard_reply standardize(const char *text, size_t out_len) {
+    memset(out, 7, sizeof out);
+    return balsa_standardize((const uint8_t *)text, strlen(text), out, out_len);
+}
+
+static void standardized(void) {
+    balsa_standard_reply r = standardize("c1ccccc1", BALSA_TEXT - 1);
+    expect(r.code == 1 && r.place == 0 && r.length == 0 && all(out, sizeof out, 7), "an output that is short");
+    r = balsa_standardize(NULL, 0, NULL, 0);
+    expect(r.code == 1, "no output");
+    r = standardize("c1ccccc1", BALSA_TEXT);
+    expect(r.code == 0 && r.atoms == 6 && r.bonds == 6 && r.overfull == 0 && r.length == 11, "benzene");
+    expect(memcmp(out, "C1=CC=CC=C1", 11) == 0 && all(out + 11, BALSA_TEXT - 11, 0), "its text, and zeros");
+    r = standardize("FC(F)(F)(F)F", BALSA_TEXT);
+    expect(r.code == 0 && r.overfull == 1, "an over-full atom");
+    r = standardize("CC11", BALSA_TEXT);
+    expect(r.code == 7 && r.place == 3 && r.atoms == 0 && r.bonds == 0 && r.length == 0, "reading's refusal");
+    expect(all(out, BALSA_TEXT, 0), "a refusal zeroes the output");
+    r = standardize("c1cccc1", BALSA_TEXT);
+    expect(r.code == 11 && r.place == 0, "no matching");
+}
+
 /* The report: as long as it says; one byte too few changes nothing; zeros follow it. */
 static void reports(void) {
     static const char input[] = "c1ccccc1\nC11\n\n";
@@ -492,6 +515,7 @@ int main(void) {
     registers();
     keys();
     withdrawals();
+    standardized();
     reports();
     pieces();
     printf("%u checks hold\n", checks);

@@ -125,6 +125,16 @@ typedef struct {
     size_t length;
 } balsa_report_reply;
 
+/* code 0 with the counts and the length of the text, or a refusal's code with its place, counts and length being 0 */
+typedef struct {
+    uint32_t code;
+    size_t place;
+    size_t atoms;
+    size_t bonds;
+    size_t overfull;
+    size_t length;
+} balsa_standard_reply;
+
 /* Reads a text. Output: atoms, bonds. Refusals 1 to 11, 20 to 23. */
 balsa_read_reply balsa_read(const uint8_t *text, size_t text_len, int32_t *atoms, size_t atoms_len,
                             int32_t *bonds, size_t bonds_len);
@@ -133,6 +143,11 @@ balsa_read_reply balsa_read(const uint8_t *text, size_t text_len, int32_t *atoms
 balsa_write_reply balsa_write(const int32_t *atoms, size_t atoms_len, const int32_t *bonds,
                               size_t bonds_len, size_t n, size_t m, uint8_t *out, size_t out_len,
                               uint16_t *ren, size_t ren_len);
+
+/* Reads a text, kekulizes it by its first matching and writes it, in one call and with no tables lent: out gets
+ * what balsa_read, balsa_first, balsa_kekulize and balsa_write in turn give, and the first refusal among them is
+ * handed back, its place 0 after reading. Output: out. Refusals 1 (out is short), 2 to 11, 14 to 16, 20 to 23. */
+balsa_standard_reply balsa_standardize(const uint8_t *text, size_t text_len, uint8_t *out, size_t out_len);
 
 /* Whether the tables are valid. Refusals 1, 13. */
 uint32_t balsa_check(const int32_t *atoms, size_t atoms_len, const int32_t *bonds, size_t bonds_len,

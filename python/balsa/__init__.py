@@ -9,6 +9,11 @@
 >>> benzene.kekulized().text
 'C1=CC=CC=C1'
 
+The same in one call, from text to text:
+
+>>> balsa.standardize("c1ccccc1")
+'C1=CC=CC=C1'
+
 Two drawings of a compound are found out, with a renumbering from one to the other:
 
 >>> benzene.same_compound(balsa.Molecule("C=1C=CC=CC1")).renumbering
@@ -38,8 +43,9 @@ from ._native import lib as _lib
 from ._refusal import Refusal
 from ._register import Register, Withdrawn
 from ._report import report
+from ._standard import standardize
 
-__all__ = ["Atom", "Bond", "EDITION", "Molecule", "Refusal", "Register", "Sameness", "Withdrawn", "Written", "report"]
+__all__ = ["Atom", "Bond", "EDITION", "Molecule", "Refusal", "Register", "Sameness", "Withdrawn", "Written", "report", "standardize"]
 __version__ = _lib.balsa_version().decode("ascii")
 
 #: The edition of the rules: it grows with each change of an answer.

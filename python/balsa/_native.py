@@ -43,6 +43,10 @@ class ReadReply(ctypes.Structure):
     ]
 
 
+class StandardReply(ctypes.Structure):
+    _fields_ = ReadReply._fields_ + [("length", ctypes.c_size_t)]
+
+
 class LengthReply(ctypes.Structure):
     """What balsa_write and balsa_report hand back."""
 
@@ -102,6 +106,7 @@ def _declare(library):
         ("same", code, None),
         ("sides", code, None),
         ("key", KeyReply, None),
+        ("standardize", StandardReply, None),
         ("report", LengthReply, [read_only, size, lent, size]),
         ("report_length", size, [read_only, size]),
         ("register_empty", code, [lent, size]),
@@ -141,16 +146,16 @@ def _lent(kind, length):
 class Buffers:
     """What the calls on one molecule are lent: the bytes of each buffer, and the arguments that lend it."""
 
-    __slots__ = ("atoms", "bonds", "row", "text", "renumbering", "tables_lent", "row_lent", "numbers_lent", "out_lent")
+    __slots__ = ("atoms", "bonds", "row", "text", "renumbering", "tables_lent", "row_lent", "numbers_lent", "text_lent", "out_lent")
 
     def __init__(self):
         self.atoms, atoms_lent = _lent(ctypes.c_int32, ATOM_TABLE)
         self.bonds, bonds_lent = _lent(ctypes.c_int32, BOND_TABLE)
         self.row, self.row_lent = _lent(ctypes.c_uint8, ROW)
-        self.text, text_lent = _lent(ctypes.c_uint8, TEXT)
+        self.text, self.text_lent = _lent(ctypes.c_uint8, TEXT)
         self.renumbering, self.numbers_lent = _lent(ctypes.c_uint16, RENUMBERING)
         self.tables_lent = atoms_lent + bonds_lent
-        self.out_lent = text_lent + self.numbers_lent
+        self.out_lent = self.text_lent + self.numbers_lent
 
 
 # Buffers that no call uses now. Taking from a list and adding to it are each one step in every

@@ -83,6 +83,18 @@ class Agreement(unittest.TestCase):
         for line, text in zip(proved.decode().split("\n")[1:], TEXTS):
             self.assertEqual(line.partition(": ")[2], self.said_of(text))
 
+    def test_standardize(self):
+        """The one call gives what an object's calls give, and is refused as they are."""
+        for text in TEXTS:
+            try:
+                expected = Molecule(text).kekulized().text
+            except Refusal as refusal:
+                again = refused(balsa.standardize, text)
+                self.assertEqual((again.code, again.place), (refusal.code, refusal.place))
+            else:
+                self.assertEqual(balsa.standardize(text), expected)
+        self.assertRaises(TypeError, balsa.standardize, 5)
+
     @staticmethod
     def said_of(text):
         try:

@@ -18,14 +18,19 @@ use Rattle.writer.specs.declared.Written.{Written}
 use Rattle.writer.specs.declared.Written.the-variants.{Text, Refused as writeRefused}
 use Rattle.writer.specs.Told.{told as writer-told}
 use Rattle.writing.specs.Write as write
+use Rattle.standard.specs.Standard.{StandardOut, told as standard-told}
+use Rattle.standard.specs.declared.Standardized.{Standardized}
+use Rattle.standard.specs.declared.Standardized.the-variants.{Text as standardText, Refused as standardRefused}
 use Rattle.same_model.specs.Same.{SameReply, sameReply}
 use Rattle.same.specs.Answer.{samenessCode, sameOut}
 use Rattle.same.specs.declared.Sameness.{Sameness}
 use Rattle.balsa.specs.declared.ReadReply.{ReadReply}
 use Rattle.balsa.specs.declared.WriteReply.{WriteReply}
 use Rattle.balsa.specs.declared.pieces_call.FedReply.{FedReply}
+use Rattle.balsa.specs.declared.standard_call.StandardReply.{StandardReply}
 use Rattle.balsa.specs.Replies.{readReplyOf, readOut, writeReplyOf, writeOut}
 use Rattle.balsa.specs.Pieces.{fedReplyOf, fedOut}
+use Rattle.balsa.specs.Standard.{standardReplyOf, standardOut}
 
 pub read-law : (a : ReadAnswer) {r : ReadReply} {atoms bonds : List ℤ} {t : ReadResult} → r ≡ readReplyOf a → told a atoms bonds ≡ t → readOut r atoms bonds ≡ t
 read-law (Molecule n m k) {atoms = atoms} {bonds} e g = ap (λ (x : ReadReply). readOut x atoms bonds) e ∙ g
@@ -55,3 +60,7 @@ same-law a {row1 = row1} {row2} {ren} e g = ap (λ (k : ℕ). sameReply k row1 r
 
 pub fed-law : (f : reader.Fed) {r : FedReply} {atoms bonds : List ℤ} {t : Fed} → r ≡ fedReplyOf f → fedIs f atoms bonds ≡ t → fedOut r atoms bonds ≡ t
 fed-law f {atoms = atoms} {bonds} e g = ap (λ (x : FedReply). fedOut x atoms bonds) e ∙ g
+
+pub standard-law : (x : Standardized) {r : StandardReply} {out : List ℕ} {t : StandardOut} → r ≡ standardReplyOf x → standard-told x out ≡ t → standardOut r out ≡ t
+standard-law (standardText n m k size) {out = out} e g = ap (λ (y : StandardReply). standardOut y out) e ∙ g
+standard-law (standardRefused c p) {out = out} e g = ap (λ (y : StandardReply). standardOut y out) e ∙ g

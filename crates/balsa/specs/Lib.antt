@@ -6,3 +6,4 @@ pub mod Reporting
 pub mod Pieces
 pub mod Withdrawals
 pub mod Releases
+pub mod Standard

@@ -22,6 +22,7 @@ mod pieces_call;
 mod register_calls;
 pub mod reporting;
 mod same_call;
+mod standard_call;
 pub mod symbol;
 mod withdrawal_calls;
 

@@ -1,5 +1,5 @@
 -- The end of a text, and what the public call tells of it. Assumes nothing.
-use Prim.Native.Nat.{ℕ, zero, suc, _+_, _≤_, _<_}
+use Prim.Native.Nat.{ℕ, zero, suc, _+_, _*_, _≤_, _<_}
 use native.Mathlib.Omega.{arith}
 use native.Mathlib.Decide.{ℕ-discrete}
 use mathlib.Core.Path.{_≡_, refl, sym, ap, _∙_, subst, subst⁻¹}
@@ -7,7 +7,7 @@ use mathlib.Core.Bool.{Bool, true, false, _&&_}
 use mathlib.Core.List.{List, [], _∷_}
 use lib.ListN.{length, getD, set, replicate, length-replicate}
 use lib.IntN.{ℤ, pos}
-use lib.Dec.{eqb}
+use lib.Dec.{eqb, leb}
 use borrow.Author.Tests.{eqb-true, eqb-false, eq-eqb, ne-eqb, le-leb, lt-leb, lt-ltb, le-ltb}
 use mir.Val.{toZ}
 use mir.Syntax.{w32}
@@ -25,7 +25,7 @@ use Rattle.reading_grammar.specs.declared.MachineState as machine
 use Rattle.reading_grammar.specs.declared.MachineState.the-variants.{Start as start}
 use Rattle.reading_grammar.specs.Machine.{next, step, resting, accepting}
 use Rattle.reading_grammar.specs.Fold.{Reading, going, halted, feed, read, Verdict, good, bad, finish, answer}
-use Rattle.table.specs.Limits.{maxAtoms, HYDROGENS}
+use Rattle.table.specs.Limits.{maxAtoms, maxBonds, atomCells, bondCells, HYDROGENS}
 use Rattle.table.specs.Cells.{atomPlace, element, selected}
 use Rattle.table.specs.Valid.{Valid, enough}
 use Rattle.table.specs.Sound.{lateCode}
@@ -55,7 +55,7 @@ use Rattle.reader.specs.declared.ending.ReadAnswer as reply
 use Rattle.reader.specs.Outcome.{Bounded, Outcome, refusedAt, PastFine, Past, Goes, Stops, Sequenced}
 use Rattle.reader.specs.Ranks.{Rankable}
 use Rattle.reader.specs.Filled.{hydrogensBy, hydrogenatedBy, placedBy}
-use Rattle.reader.specs.Ending.{told, endedOf, answerOf, TextGoes, TextRead}
+use Rattle.reader.specs.Ending.{told, endedOf, answerOf, Blank, TextGoes, TextRead}
 use Rattle.reader.proofs.Branches.{close-down}
 
 -- ---- the whole text
@@ -297,6 +297,25 @@ module _ (s : List ℕ) (a b : List ℤ) where
         pub told-fine : {z : ReadResult} → z ≡ endedOf (o .st) x y → z ≡ readOf s a b
         unfolding ended
         told-fine q = q ∙ sym (whole ∙ ap (byAnswer a b) (fine .3))
+
+-- tables that were cleared are blank
+zeros-twice : (t : List ℤ) → zeros t ≡ zeros (zeros t)
+zeros-twice t = ap (λ (k : ℕ). replicate k (pos 0)) (sym (length-replicate {A = ℤ} (length t) (pos 0)))
+
+pub cleared-blank : (a b : List ℤ) {x y : List ℤ} → enough a b ≡ true → x ≡ zeros a → y ≡ zeros b → Blank x y
+unfolding enough
+cleared-blank a b {x} {y} h ex ey =
+    record {
+      atoms-zero = ex ∙ zeros-twice a ∙ ap zeros (sym ex);
+      bonds-zero = ey ∙ zeros-twice b ∙ ap zeros (sym ey);
+      room = (λ i. leb (atomCells * maxAtoms) (lx i) && leb (bondCells * maxBonds) (ly i)) ∙ h;
+    }
+  where
+    lx : length x ≡ length a
+    lx = ap length ex ∙ length-replicate {A = ℤ} (length a) (pos 0)
+
+    ly : length y ≡ length b
+    ly = ap length ey ∙ length-replicate {A = ℤ} (length b) (pos 0)
 
 -- ---- for the functions' proofs
 pub hydrogens-put : (t : List ℤ) (a x sum : ℕ) {e s h : ℕ} {t′ : List ℤ} → x ≡ 1 → e ≡ element t a → s ≡ selected t a → h ≡ implied e s sum → t′ ≡ set t (atomPlace a HYDROGENS) (toZ w32 h) → t′ ≡ hydrogensBy x sum a t

@@ -2,14 +2,16 @@
 use Prim.Native.Nat.{ℕ}
 use mathlib.Core.Path.{_≡_}
 use mathlib.Core.List.{List}
+use mathlib.Core.Bool.{true}
 use lib.IntN.{ℤ}
 use Rattle.refusal.specs.Code.{codeOf}
+use Rattle.table.specs.Valid.{enough}
 use Rattle.reading_grammar.specs.Fold.{Verdict, good, bad, answer}
 use Rattle.reading_state.specs.State.{Steering}
 use Rattle.reading_state.specs.declared.Fields.{Fields}
 use Rattle.reading.specs.Memory.{Memory, nothing, blank}
 use Rattle.reading.specs.Act.{act}
-use Rattle.reading.specs.Read.{ReadResult, beginning, ended}
+use Rattle.reading.specs.Read.{ReadResult, zeros, beginning, ended}
 use Rattle.reading_fields.specs.Rest.{memory}
 use Rattle.reader.specs.declared.bridge.Why.{Why}
 use Rattle.reader.specs.declared.ending.ReadAnswer as reply
@@ -35,3 +37,9 @@ TextGoes s a b a′ b′ (Why.Refused r p) u = answerOf s a b ≡ bad (codeOf r)
 
 pub record TextRead (s : List ℕ) (a b a′ b′ : List ℤ) (o : Outcome) : Type 0 where
   pub is : TextGoes s a b a′ b′ (o .why) (o .st)
+
+-- tables that are zeroed, and as long as 01 asks
+pub record Blank (atoms bonds : List ℤ) : Type 0 where
+  pub atoms-zero : atoms ≡ zeros atoms
+  pub bonds-zero : bonds ≡ zeros bonds
+  pub room : enough atoms bonds ≡ true

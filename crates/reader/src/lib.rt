@@ -1,13 +1,17 @@
 // Reading a text into an atom table and a bond table.
 ghost use mathlib.Core.Path.{_≡_};
+ghost use mathlib.Core.Bool.{true};
+ghost use mathlib.Core.List.{List};
 ghost use Prim.Native.Nat.{_≤_};
 ghost use lib.ListN.{length, replicate};
+ghost use lib.IntN.{ℤ};
 ghost use Rattle.table.specs.Limits.{maxAtoms};
+ghost use Rattle.table.specs.Valid.{enough};
 ghost use Rattle.ids.specs.Limits.{maxText, bridges};
 ghost use Rattle.reading_state.specs.State.{keyCount};
-ghost use Rattle.reading.specs.Read.{readOf};
+ghost use Rattle.reading.specs.Read.{zeros, readOf};
 ghost use Rattle.reader.specs.Outcome.{outcome};
-ghost use Rattle.reader.specs.Ending.{told, TextRead};
+ghost use Rattle.reader.specs.Ending.{told, Blank, TextRead};
 use crate::bridge::PartRead;
 use crate::bridge::Why;
 use crate::bridge::refuse;
@@ -66,16 +70,11 @@ fn read_text(
     o
 }
 
-// Reads a text: the counts of atoms, of bonds and of over-full atoms outside brackets, the tables holding their rows and zeros after them; or the refusal with its offset,
-// 1 to 11 in 01's order, the late checks 20 to 23 before 11. A table that is too short (1) leaves both as they were; every other refusal leaves both zeroed.
-pub fn read(text: &[u8], atoms: &mut [i32], bonds: &mut [i32]) -> ReadAnswer
-    ensures { λ r. ⌜ told r (now (atoms .exit)) (now (bonds .exit)) ≡ readOf (now (text .entry)) (now (atoms .entry)) (now (bonds .entry)) ⌝ }
+// internal: reads a text into tables that are zeroed and long enough, for callers that know them so.
+pub fn read_zeroed(text: &[u8], atoms: &mut [i32], bonds: &mut [i32]) -> ReadAnswer
+    requires { ⌜ Blank (now atoms) (now bonds) ⌝ }
+    ensures { λ r. ⌜ ((a b : List ℤ) → now (atoms .entry) ≡ zeros a → now (bonds .entry) ≡ zeros b → enough a b ≡ true → told r (now (atoms .exit)) (now (bonds .exit)) ≡ readOf (now (text .entry)) a b) ⌝ }
 {
-    if !table_validity::enough(atoms, bonds) {
-        return ReadAnswer::Refused(Refusal::Short, 0);
-    }
-    clear(atoms);
-    clear(bonds);
     if MAX_TEXT < text.len() {
         return ReadAnswer::Refused(Refusal::LongText, MAX_TEXT);
     }
@@ -95,4 +94,17 @@ pub fn read(text: &[u8], atoms: &mut [i32], bonds: &mut [i32]) -> ReadAnswer
             ReadAnswer::Refused(r, p)
         }
     }
+}
+
+// Reads a text: the counts of atoms, of bonds and of over-full atoms outside brackets, the tables holding their rows and zeros after them; or the refusal with its offset,
+// 1 to 11 in 01's order, the late checks 20 to 23 before 11. A table that is too short (1) leaves both as they were; every other refusal leaves both zeroed.
+pub fn read(text: &[u8], atoms: &mut [i32], bonds: &mut [i32]) -> ReadAnswer
+    ensures { λ r. ⌜ told r (now (atoms .exit)) (now (bonds .exit)) ≡ readOf (now (text .entry)) (now (atoms .entry)) (now (bonds .entry)) ⌝ }
+{
+    if !table_validity::enough(atoms, bonds) {
+        return ReadAnswer::Refused(Refusal::Short, 0);
+    }
+    clear(atoms);
+    clear(bonds);
+    read_zeroed(text, atoms, bonds)
 }

@@ -34,7 +34,8 @@ use Rattle.writing.specs.Spell.{decimal, markBytes, hydrogenBytes, sizeBytes, b
 use Rattle.writing.specs.Write.{tokens, writtenRank, marksWritten, textOf, renumbering, fewBridges, writeValid, writeOf}
 use Rattle.report_lines.specs.Lines.{linesAfter}
 use Rattle.report_lines.specs.Format.{decBy, decOf, acceptedLine, refusedLine, totalsLine}
-use Rattle.report_entry.specs.Entry.{firstRow, kekuleOf, writtenOf, ofMolecule, entryOf, lineOf, acceptedOf}
+use Rattle.standard.specs.Standard.{firstRow, kekuleOf, writtenOf}
+use Rattle.report_entry.specs.Entry.{ofMolecule, entryOf, lineOf, acceptedOf}
 use Rattle.report_blocks.specs.Report.{reportFrom, reportOf}
 
 pub input : List ℕ

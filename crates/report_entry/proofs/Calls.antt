@@ -1,8 +1,7 @@
 -- From what the calls hand back to the entry. Assumes nothing.
 use Prim.Native.Nat.{ℕ, _*_, _≤_}
-use mathlib.Core.Path.{_≡_, refl, sym, ap, subst, _∙_}
+use mathlib.Core.Path.{_≡_, sym, ap, subst, _∙_}
 use mathlib.Core.List.{List}
-use mathlib.Core.Bool.{false}
 use native.Mathlib.Omega.{arith}
 use lib.ListN.{length, take, replicate, length-replicate}
 use lib.IntN.{ℤ, pos}
@@ -10,50 +9,26 @@ use lib.Dec.{eqb}
 use Rattle.loops.specs.Loop.{pick}
 use Rattle.refusal.specs.Code.{codeOf}
 use Rattle.refusal.specs.declared.Refusal.{Refusal}
-use Rattle.refusal.specs.declared.Refusal.the-variants.{Short, LongText, Grammar, ManyAtoms, ManyBonds, DeepBranch, SelfBridge, RepeatedBond, SymbolClash, OpenBridge, Unmatchable, NotMatching, Invalid, ManyBridges, DeepWriting, LongWriting, CrowdedEnd, StrayMark, LooseAtom, UnfitMark}
 use Rattle.table.specs.Limits.{maxAtoms, maxBonds, atomCells, bondCells}
 use Rattle.table.specs.declared.Check.{Check}
 use Rattle.table.specs.declared.Check.the-variants as check
 use Rattle.ids.specs.Limits.{maxText}
-use Rattle.matching.specs.declared.Call.the-variants.{First}
 use Rattle.reading.specs.Read as read
-use Rattle.reading.proofs.Accepted.{read-valid}
 use Rattle.reader.specs.Ending as reader
 use Rattle.reader.specs.declared.ending.ReadAnswer as reply
-use Rattle.kekule.specs.Kekule.{KekulizeReply, CallReply, out, tables, callOn, kekulizedOf}
-use Rattle.kekule_answers.specs.declared.Found.{Found}
+use Rattle.kekule.specs.Kekule.{KekulizeReply, tables}
+use Rattle.standard.specs.Standard.{firstRow, writtenOf}
+use Rattle.standard.specs.Standing.{Writable, Standing, Settled}
+use Rattle.standard.proofs.Calls.{code-not-zero, standing-valid, read-standing, the-writing}
 use Rattle.writing.specs.Write as write
 use Rattle.writer.specs.Told.{told}
 use Rattle.writer.specs.declared.Written.{Written}
 use Rattle.writer.specs.declared.Written.the-variants.{Text, Refused}
 use Rattle.buffer.specs.Buffer.{BufferAt}
 use Rattle.report_entry.specs.declared.Reported.{Reported}
-use Rattle.report_entry.specs.Entry.{Entry, refusedAs, acceptedAs, firstRow, kekuleOf, writtenOf, ofWritten, ofMolecule, ofRead, entryOf, lineOf, acceptedOf}
+use Rattle.report_entry.specs.Entry.{Entry, refusedAs, acceptedAs, ofWritten, ofMolecule, ofRead, entryOf, lineOf, acceptedOf}
 use Rattle.report_entry.specs.Laid.{Says, Reports}
 use Rattle.report_entry.proofs.Laws.{size-within}
-
--- a refusal's code is not 0
-code-not-zero : (r : Refusal) → eqb (codeOf r) 0 ≡ false
-code-not-zero Short = refl
-code-not-zero LongText = refl
-code-not-zero Grammar = refl
-code-not-zero ManyAtoms = refl
-code-not-zero ManyBonds = refl
-code-not-zero DeepBranch = refl
-code-not-zero SelfBridge = refl
-code-not-zero RepeatedBond = refl
-code-not-zero SymbolClash = refl
-code-not-zero OpenBridge = refl
-code-not-zero Unmatchable = refl
-code-not-zero NotMatching = refl
-code-not-zero Invalid = refl
-code-not-zero ManyBridges = refl
-code-not-zero DeepWriting = refl
-code-not-zero LongWriting = refl
-code-not-zero CrowdedEnd = refl
-code-not-zero StrayMark = refl
-code-not-zero LooseAtom = refl
-code-not-zero UnfitMark = refl
 
 abbrev readBlank : List ℕ → read.ReadResult
 readBlank s = read.readOf s (replicate (atomCells * maxAtoms) (pos 0)) (replicate (bondCells * maxBonds) (pos 0))
@@ -78,15 +53,24 @@ module _ (s : List ℕ) (a b : List ℤ) (x : reply.ReadAnswer) (told : reader.t
   unfolding entryOf
   read-molecule e = ap ofRead (sym told) ∙ ap (λ y. ofRead (reader.told y a b)) e
 
-  pub few-bonds : {n m k : ℕ} → x ≡ reply.ReadAnswer.Molecule n m k → m ≤ maxBonds
-  few-bonds {n} {m} {k} e =
-      let same : reader.told (reply.ReadAnswer.Molecule n m k) a b ≡ readBlank s = ap (λ y. reader.told y a b) (sym e) ∙ told in
-      subst (λ (t : read.ReadResult). t .bondCount ≤ maxBonds) (sym same) (read-valid s _ _ (ap (λ (t : read.ReadResult). t .code) (sym same)) .few-bonds)
+  pub read-stands : {n m k : ℕ} → x ≡ reply.ReadAnswer.Molecule n m k → Standing a b n m
+  read-stands e = read-standing s a b x told e
 
 -- ---- writing the molecule
 
 abbrev writeBlank : List ℤ → List ℤ → ℕ → ℕ → write.WriteResult
 writeBlank a b n m = write.writeOf a b n m (replicate maxText 0) (replicate maxAtoms 0)
+
+-- the buffers have room for a text, and the row for a matching
+pub text-long : maxText ≤ length {A = ℕ} (replicate maxText 0)
+text-long = omega (arith, length-replicate {A = ℕ} maxText 0)
+
+pub row-fits : {a b : List ℤ} {n m : ℕ} → Standing a b n m → (row : List ℕ) → length row ≡ length {A = ℕ} (replicate maxBonds 0) → m ≤ length row
+row-fits {a} {b} {n} {m} w row e = omega (arith, standing-valid a b n m w .few-bonds, e, length-replicate {A = ℕ} maxBonds 0)
+
+-- what writing sound tables hands back
+pub blank-written : {atoms bonds : List ℤ} {n m : ℕ} → Writable atoms bonds n m → (w : Written) (text numbers : List ℕ) → told w text numbers ≡ write.writeValid atoms bonds n m (replicate maxText 0) (replicate maxAtoms 0) → told w text numbers ≡ writeBlank atoms bonds n m
+blank-written {atoms} {bonds} {n} {m} u w text numbers e = the-writing atoms bonds n m 0 (replicate maxText 0) w text numbers u text-long e
 
 module _ (atoms bonds : List ℤ) (n m k : ℕ) (row text numbers : List ℕ) (w : Written) (write : told w text numbers ≡ writeBlank atoms bonds n m) where
   pub written-accepted : {size : ℕ} → w ≡ Text size → ofWritten n m k row (writeBlank atoms bonds n m) ≡ acceptedAs n m k (take m row) (take size text)
@@ -99,25 +83,17 @@ module _ (atoms bonds : List ℤ) (n m k : ℕ) (row text numbers : List ℕ) (w
 
 -- ---- kekulizing it
 
-module _ (atoms bonds : List ℤ) (n m k : ℕ) (row : List ℕ) (a b : List ℤ) (f : Found) (c : Check) (first : out f row ≡ callOn First atoms bonds n m (replicate maxBonds 0)) (kekule : tables c a b ≡ kekulizedOf atoms bonds n m row) where
-  the-row : row ≡ firstRow atoms bonds n m
-  unfolding firstRow
-  the-row = ap (λ (o : CallReply). o .row) first
-
-  the-tables : tables c a b ≡ kekuleOf atoms bonds n m
-  unfolding kekuleOf
-  the-tables = kekule ∙ ap (kekulizedOf atoms bonds n m) the-row
-
+module _ (atoms bonds : List ℤ) (n m k : ℕ) (row : List ℕ) (a b : List ℤ) (c : Check) (settled : Settled atoms bonds n m c a b row) where
   -- the entry, by what kekulizing hands back
   abbrev byTables : KekulizeReply → Entry
   byTables t = pick (eqb (t .code) 0) (ofWritten n m k (firstRow atoms bonds n m) (writeBlank (t .atoms) (t .bonds) n m)) (refusedAs (t .code) 0)
 
   the-entry : {x : Check} → c ≡ x → ofMolecule atoms bonds n m k ≡ byTables (tables x a b)
   unfolding ofMolecule writtenOf
-  the-entry e = ap byTables (sym the-tables) ∙ ap (λ (x : Check). byTables (tables x a b)) e
+  the-entry e = ap byTables (sym (settled .done)) ∙ ap (λ (x : Check). byTables (tables x a b)) e
 
   pub molecule-written : c ≡ check.Fine → ofMolecule atoms bonds n m k ≡ ofWritten n m k row (writeBlank a b n m)
-  molecule-written e = the-entry e ∙ ap (λ r. ofWritten n m k r (writeBlank a b n m)) (sym the-row)
+  molecule-written e = the-entry e ∙ ap (λ r. ofWritten n m k r (writeBlank a b n m)) (sym (settled .first))
 
   pub molecule-refused : {r : Refusal} → c ≡ check.Refused r → ofMolecule atoms bonds n m k ≡ refusedAs (codeOf r) 0
   molecule-refused {r} e = the-entry e ∙ ap (λ t. pick t (ofWritten n m k (firstRow atoms bonds n m) (writeBlank a b n m)) (refusedAs (codeOf r) 0)) (code-not-zero r)

@@ -20,8 +20,9 @@ use Rattle.reading.specs.Read as read
 use Rattle.reading.proofs.Accepted.{read-valid}
 use Rattle.writing.specs.Write as write
 use Rattle.report_lines.proofs.Format.{accepted-within, refused-within}
-use Rattle.report_entry.specs.Entry.{Entry, refusedAs, acceptedAs, firstRow, kekuleOf, writtenOf, ofMolecule, ofRead, entryOf, lineFor, isAccepted, lineOf, acceptedOf}
+use Rattle.report_entry.specs.Entry.{Entry, refusedAs, acceptedAs, ofMolecule, ofRead, entryOf, lineFor, isAccepted, lineOf, acceptedOf}
 use Rattle.report_entry.specs.Laid.{lineRoom}
+use Rattle.standard.specs.Standard.{firstRow, kekuleOf, writtenOf}
 
 -- ---- the first bytes
 
@@ -92,7 +93,7 @@ molecule-within : (k : ℕ) (atoms bonds : List ℤ) (n m o : ℕ) → m ≤ max
 unfolding ofMolecule writtenOf
 molecule-within k atoms bonds n m o h =
     kekulized-within k _ (kekuleOf atoms bonds n m .code) (eqb (kekuleOf atoms bonds n m .code) 0)
-    (written-within k n m o (firstRow atoms bonds n m) (writtenOf atoms bonds n m) (eqb (writtenOf atoms bonds n m .code) 0) h (size-within _ _ n m _ _))
+    (written-within k n m o (firstRow atoms bonds n m) (writtenOf atoms bonds n m (replicate maxText 0)) (eqb (writtenOf atoms bonds n m (replicate maxText 0) .code) 0) h (size-within _ _ n m _ _))
 
 read-within : (k : ℕ) (t : read.ReadResult) (b : Bool) → (b ≡ true → t .bondCount ≤ maxBonds) → length (lineFor k (pick b (ofMolecule (t .atoms) (t .bonds) (t .atomCount) (t .bondCount) (t .overfull)) (refusedAs (t .code) (t .offset)))) ≤ lineRoom
 read-within k t true h = molecule-within k (t .atoms) (t .bonds) (t .atomCount) (t .bondCount) (t .overfull) (h refl)

@@ -8,10 +8,9 @@ use lib.Dec.{eqb}
 use Rattle.loops.specs.Loop.{pick}
 use Rattle.table.specs.Limits.{maxAtoms, maxBonds, atomCells, bondCells}
 use Rattle.ids.specs.Limits.{maxText}
-use Rattle.matching.specs.declared.Call.the-variants.{First}
 use Rattle.reading.specs.Read as read
-use Rattle.kekule.specs.Kekule.{KekulizeReply, callOn, kekulizedOf}
 use Rattle.writing.specs.Write as write
+use Rattle.standard.specs.Standard.{firstRow, kekuleOf, writtenOf}
 use Rattle.report_lines.specs.Format.{acceptedLine, refusedLine}
 
 -- a refusal's code and offset; or the counts of atoms, bonds and over-full atoms, the first matching ("placement") and the kekulized ("settled") text
@@ -21,19 +20,6 @@ pub data Entry : Type 0 where
 
 -- ---- a molecule that was read: n atoms and m bonds, k atoms being over-full
 
--- the row of the first matching
-unfoldable pub firstRow : List ℤ → List ℤ → ℕ → ℕ → List ℕ
-firstRow atoms bonds n m = callOn First atoms bonds n m (replicate maxBonds 0) .row
-
--- the tables kekulized by it
-unfoldable pub kekuleOf : List ℤ → List ℤ → ℕ → ℕ → KekulizeReply
-kekuleOf atoms bonds n m = kekulizedOf atoms bonds n m (firstRow atoms bonds n m)
-
--- their text
-unfoldable pub writtenOf : List ℤ → List ℤ → ℕ → ℕ → write.WriteResult
-writtenOf atoms bonds n m =
-    write.writeOf (kekuleOf atoms bonds n m .atoms) (kekuleOf atoms bonds n m .bonds) n m (replicate maxText 0) (replicate maxAtoms 0)
-
 -- "A writing refusal is reported with place 0 and counted as refused"
 abbrev pub ofWritten : ℕ → ℕ → ℕ → List ℕ → write.WriteResult → Entry
 ofWritten n m k row w = pick (eqb (w .code) 0) (acceptedAs n m k (take m row) (take (w .size) (w .output))) (refusedAs (w .code) 0)
@@ -41,7 +27,7 @@ ofWritten n m k row w = pick (eqb (w .code) 0) (acceptedAs n m k (take m row) (t
 -- kekulizing that gives 20: "the program reports that as it does a writing refusal" (02, P5)
 unfoldable pub ofMolecule : List ℤ → List ℤ → ℕ → ℕ → ℕ → Entry
 ofMolecule atoms bonds n m k =
-    pick (eqb (kekuleOf atoms bonds n m .code) 0) (ofWritten n m k (firstRow atoms bonds n m) (writtenOf atoms bonds n m)) (refusedAs (kekuleOf atoms bonds n m .code) 0)
+    pick (eqb (kekuleOf atoms bonds n m .code) 0) (ofWritten n m k (firstRow atoms bonds n m) (writtenOf atoms bonds n m (replicate maxText 0))) (refusedAs (kekuleOf atoms bonds n m .code) 0)
 
 -- ---- a line
 

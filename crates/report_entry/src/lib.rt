@@ -1,10 +1,11 @@
-// The line of the report for a text, by the public calls.
+// The line of the report for a text, by the functions behind the call from text to text.
 ghost use Prim.Native.Nat.{_≤_};
 ghost use Rattle.refusal.specs.Code.{codeOf};
 ghost use lib.ListN.{length, replicate};
-ghost use Rattle.table.specs.Limits.{maxAtoms, maxBonds};
+ghost use Rattle.table.specs.Limits.{maxAtoms};
 ghost use Rattle.ids.specs.Limits.{maxText};
 ghost use Rattle.writing.specs.Write.{writeOf};
+ghost use Rattle.standard.specs.Standing.{Writable, Standing};
 ghost use Rattle.buffer.specs.Buffer.{bufferAt};
 ghost use Rattle.report_entry.specs.Entry.{refusedAs, ofWritten, ofMolecule};
 ghost use Rattle.report_entry.specs.Laid.{Says, Reports};
@@ -51,12 +52,12 @@ fn report_kekulized(
     out: &mut [u8],
     at: usize,
 ) -> Reported
-    requires { ⌜ m ≤ length (now row) ⌝ }
+    requires { ⌜ (m ≤ length (now row)) × Writable (now atoms) (now bonds) n m ⌝ }
     ensures { λ r. ⌜ Says k (ofWritten n m overfull (now (row .entry)) (writeOf (now (atoms .entry)) (now (bonds .entry)) n m (replicate maxText 0) (replicate maxAtoms 0))) r (bufferAt (now (out .entry)) at) (now (out .exit)) ⌝ }
 {
     let mut text = [0u8; MAX_TEXT];
     let mut numbers = [0u16; MAX_ATOMS];
-    let w = writer::write(atoms, bonds, n, m, &mut text, &mut numbers);
+    let w = writer::write_valid(atoms, bonds, n, m, &mut text, &mut numbers);
     match w {
         Written::Text(size) => {
             let at = output::accepted(out, at, k, n, m, overfull, &row[..m], &text[..size]);
@@ -77,12 +78,11 @@ fn report_molecule(
     out: &mut [u8],
     at: usize,
 ) -> Reported
-    requires { ⌜ m ≤ maxBonds ⌝ }
+    requires { ⌜ Standing (now atoms) (now bonds) n m ⌝ }
     ensures { λ r. ⌜ Says k (ofMolecule (now (atoms .entry)) (now (bonds .entry)) n m overfull) r (bufferAt (now (out .entry)) at) (now (out .exit)) ⌝ }
 {
     let mut row = [0u8; MAX_BONDS];
-    kekule::first(atoms, bonds, n, m, &mut row);
-    let c = kekule::kekulize(atoms, bonds, n, m, &row);
+    let c = standard::settle(atoms, bonds, n, m, &mut row);
     match c {
         Check::Fine => report_kekulized(k, atoms, bonds, n, m, overfull, &row, out, at),
         Check::Refused(r) => refuse(k, r, 0, out, at),
@@ -95,7 +95,7 @@ pub fn report_line(k: usize, s: &[u8], out: &mut [u8], at: usize) -> Reported
 {
     let mut atoms = [0i32; ATOM_CELLS * MAX_ATOMS];
     let mut bonds = [0i32; BOND_CELLS * MAX_BONDS];
-    let a = reader::read(s, &mut atoms, &mut bonds);
+    let a = reader::read_zeroed(s, &mut atoms, &mut bonds);
     match a {
         ReadAnswer::Refused(r, p) => refuse(k, r, p, out, at),
         ReadAnswer::Molecule(n, m, overfull) => {

@@ -25,6 +25,17 @@ pub struct WriteReply {
     pub length: usize,
 }
 
+/// What `balsa_standardize` hands back.
+#[repr(C)]
+pub struct StandardReply {
+    pub code: u32,
+    pub place: usize,
+    pub atoms: usize,
+    pub bonds: usize,
+    pub overfull: usize,
+    pub length: usize,
+}
+
 /// What `balsa_first_forced` hands back.
 #[repr(C)]
 pub struct ForcedReply {
@@ -106,8 +117,8 @@ pub struct WithdrawnReply {
 
 mod linked {
     use super::{
-        EntryReply, FedReply, ForcedReply, KeyReply, ReadReply, ReportReply, State, SymbolReply,
-        WalkReply, WithdrawReply, WithdrawnReply, WriteReply,
+        EntryReply, FedReply, ForcedReply, KeyReply, ReadReply, ReportReply, StandardReply, State,
+        SymbolReply, WalkReply, WithdrawReply, WithdrawnReply, WriteReply,
     };
 
     extern "C" {
@@ -132,6 +143,12 @@ mod linked {
             ren: *mut u16,
             ren_len: usize,
         ) -> WriteReply;
+        pub fn balsa_standardize(
+            text: *const u8,
+            text_len: usize,
+            out: *mut u8,
+            out_len: usize,
+        ) -> StandardReply;
         pub fn balsa_check(
             atoms: *const i32,
             atoms_len: usize,
@@ -608,6 +625,11 @@ pub fn end(state: &State, atoms: &mut [i32], bonds: &mut [i32]) -> FedReply {
             bonds.len(),
         )
     }
+}
+
+pub fn standardize(text: &[u8], out: &mut [u8]) -> StandardReply {
+    // SAFETY: as for `read`.
+    unsafe { linked::balsa_standardize(text.as_ptr(), text.len(), out.as_mut_ptr(), out.len()) }
 }
 
 pub fn report(input: &[u8], out: &mut [u8]) -> ReportReply {

@@ -1,5 +1,6 @@
 //! Balsa text read, kekulized, written and compared by a proved library.
 //!
+//! [`standardize()`] goes from a text to the text kekulized in one call.
 //! [`Molecule`] owns its tables; [`tables`] has the calls on buffers that the caller lends;
 //! [`PieceReader`] reads a text that comes in pieces, and [`pieces`] has its calls; [`report()`] reports
 //! the lines of an input. Every answer is defined for all inputs: nothing panics, and nothing outside
@@ -20,6 +21,7 @@ pub mod register;
 #[cfg(unix)]
 mod register_file;
 mod report;
+mod standard;
 mod symbol;
 pub mod tables;
 
@@ -31,6 +33,7 @@ pub use register::{Damage, Entries, Register, Withdrawn};
 #[cfg(unix)]
 pub use register_file::{FileError, RegisterFile};
 pub use report::{report, report_into};
+pub use standard::{standardize, standardize_into, Standard};
 pub use symbol::{symbol, Symbol};
 
 /// The edition of the rules: it grows with each change of an answer (`include/balsa.h` lists them).

@@ -33,6 +33,21 @@ fn a_refusal_zeroes_the_tables() {
 }
 
 #[test]
+fn a_short_output_stays_and_a_refusal_zeroes_it() {
+    let mut out = vec![7; TEXT + 3];
+    let refusal = balsa::standardize_into(BENZENE, &mut out[..TEXT - 1]).unwrap_err();
+    assert_eq!((refusal.code, refusal.place), (Code::Short, 0));
+    assert!(out.iter().all(|&byte| byte == 7));
+    let refusal = balsa::standardize_into(b"CC(", &mut out[..TEXT]).unwrap_err();
+    assert_eq!((refusal.code, refusal.place), (Code::Grammar, 3));
+    assert!(out[..TEXT].iter().all(|&byte| byte == 0) && out[TEXT..] == [7; 3]);
+    out.fill(7);
+    let standard = balsa::standardize_into(BENZENE, &mut out[..TEXT]).unwrap();
+    assert_eq!(&out[..standard.length], b"C1=CC=CC=C1");
+    assert!(out[standard.length..TEXT].iter().all(|&byte| byte == 0) && out[TEXT..] == [7; 3]);
+}
+
+#[test]
 fn invalid_tables_are_told() {
     let (atoms, mut bonds, counts) = benzene();
     for (cell, value) in [(0, 5), (1, 0), (1, 6), (2, 4), (0, i32::MIN), (1, i32::MAX)] {

@@ -5,7 +5,7 @@ mod graphs;
 
 use balsa::register::{MAX_BODY, REGISTER};
 use balsa::tables::{self, Counts, ATOM_TABLE, BOND_TABLE, RENUMBERING, ROW, TEXT};
-use balsa::{Code, Molecule, PieceReader, Register, Withdrawn};
+use balsa::{Code, Molecule, PieceReader, Refusal, Register, Withdrawn};
 use graphs::{families, Graph};
 use std::thread;
 
@@ -54,6 +54,22 @@ fn nested_and_long() {
     assert_eq!(read(text), Ok(counts));
     let chain = "C".repeat(13) + &"-[999CoH9-9:9999]".repeat(963);
     assert!(read(chain).is_ok());
+}
+
+/// The same texts from text to text in one call.
+#[test]
+fn standardized() {
+    let nested = format!("C{}{}", "(C".repeat(64), ")".repeat(64));
+    let ring = format!("{nested}.c1{}c1", "c".repeat(932));
+    let chain = "C".repeat(13) + &"-[999CoH9-9:9999]".repeat(963);
+    for text in [nested, ring, chain] {
+        let mut molecule = Molecule::read(text.as_bytes()).expect("it is read");
+        let first = molecule.matchings().next().expect("it has a matching");
+        molecule.kekulize(&first).expect("it is kekulized");
+        let written = molecule.write().map(|written| written.text);
+        let told = on_little_stack(move || balsa::standardize(text.as_bytes()));
+        assert_eq!(told, written.map_err(Refusal::from));
+    }
 }
 
 /// The same in pieces of 1,000 bytes.

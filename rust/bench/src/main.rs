@@ -1,5 +1,5 @@
 //! Measures the CPU time per text of reading, of finding the first matching, of kekulizing, of
-//! writing and of all four, over the corpus and over its texts of about 40 bytes; and of reading
+//! writing, of all four and of the one call that does the same, over the corpus and over its texts of about 40 bytes; and of reading
 //! texts of growing length. Each figure is that of the quickest round: what else the machine does can
 //! only add to it.
 
@@ -26,8 +26,15 @@ const LENGTHS: [usize; 4] = [100, 1000, 4000, 16_000];
 /// The readings of each length in a round.
 const READINGS: usize = 500;
 
-/// The calls that are measured, and all of them together.
-const CALLS: [&str; 5] = ["read", "first", "kekulize", "write", "all four"];
+/// The calls that are measured, the four of them together, and the one call that does what they do.
+const CALLS: [&str; 6] = [
+    "read",
+    "first",
+    "kekulize",
+    "write",
+    "all four",
+    "standardize",
+];
 
 fn main() {
     let texts: Vec<&[u8]> = CORPUS.lines().map(str::as_bytes).collect();
@@ -96,7 +103,8 @@ fn compare_on(name: &str, texts: &[&[u8]]) {
         "zeroing its buffers",
         measure_zeroing(texts.len()).map(figure),
     );
-    let ratio = |others: [f64; 5]| [0, 1, 2, 3, 4].map(|call| figure(proved[call] / others[call]));
+    let ratio =
+        |others: [f64; 6]| [0, 1, 2, 3, 4, 5].map(|call| figure(proved[call] / others[call]));
     row("ratio to reference", ratio(molecules));
     row("ratio on tables", ratio(tables));
     row(
@@ -121,30 +129,36 @@ fn mean(time: Duration, calls: usize) -> f64 {
 }
 
 /// The mean times of each call, in the quickest round of each.
-fn measure_texts<S: Subject>(subject: &S, texts: &[&[u8]]) -> [f64; 5] {
+fn measure_texts<S: Subject>(subject: &S, texts: &[&[u8]]) -> [f64; 6] {
     let mut slots = vec![subject.slot(); BATCH];
-    let mut least = [Duration::MAX; 5];
+    let mut least = [Duration::MAX; 6];
     let mut accepted = 0;
     for _ in 0..ROUNDS {
-        let mut times = [Duration::ZERO; 5];
+        let mut times = [Duration::ZERO; 6];
         accepted = texts
             .chunks(BATCH)
             .map(|batch| measure_batch(subject, batch, &mut slots, &mut times))
             .sum();
         let slot = &mut slots[0];
         times[4] = time(|| texts.iter().for_each(|text| all_four(subject, text, slot)));
+        times[5] = time(|| {
+            texts
+                .iter()
+                .for_each(|text| standardize(subject, text, slot))
+        });
         for (least, time) in least.iter_mut().zip(times) {
             *least = time.min(*least);
         }
     }
-    let calls = [texts.len(), accepted, accepted, accepted, texts.len()];
-    [0, 1, 2, 3, 4].map(|call| mean(least[call], calls[call]))
+    let all = texts.len();
+    let calls = [all, accepted, accepted, accepted, all, all];
+    [0, 1, 2, 3, 4, 5].map(|call| mean(least[call], calls[call]))
 }
 
 /// The mean times of zeroing what the rules ask each call to zero or fill: both tables, the row,
-/// nothing, the text with the renumbering; and all of them. It is a part of the times of the calls on
-/// tables.
-fn measure_zeroing(times: usize) -> [f64; 5] {
+/// nothing, the text with the renumbering; all of them; and the text alone. It is a part of the times of
+/// the calls on tables.
+fn measure_zeroing(times: usize) -> [f64; 6] {
     let mut slots = vec![OnTables(Proved).slot(); BATCH];
     let mut measure = |used: usize, zero: &dyn Fn(&mut Buffers)| {
         let mut task = || {
@@ -177,6 +191,7 @@ fn measure_zeroing(times: usize) -> [f64; 5] {
         0.0,
         measure(BATCH, &written),
         measure(1, &all),
+        measure(1, &|slot: &mut Buffers| slot.text.fill(0)),
     ]
 }
 
@@ -185,7 +200,7 @@ fn measure_batch<S: Subject>(
     subject: &S,
     batch: &[&[u8]],
     slots: &mut [S::Slot],
-    times: &mut [Duration; 5],
+    times: &mut [Duration; 6],
 ) -> usize {
     let mut accepted = 0;
     times[0] += time(|| {
@@ -206,6 +221,11 @@ fn all_four<S: Subject>(subject: &S, text: &[u8], slot: &mut S::Slot) {
         subject.kekulize(slot);
         subject.write(slot);
     }
+    black_box(slot);
+}
+
+fn standardize<S: Subject>(subject: &S, text: &[u8], slot: &mut S::Slot) {
+    subject.standardize(text, slot);
     black_box(slot);
 }
 

@@ -1,7 +1,7 @@
 //! What is measured: the four calls, each on the slot that the one before left.
 
 use balsa_reference::tables::{Counts, ATOM_TABLE, BOND_TABLE, RENUMBERING, ROW, TEXT};
-use balsa_reference::{first, kekulize, read, write, Molecule, Written};
+use balsa_reference::{first, kekulize, read, report_line, write, Molecule, Written};
 use compare::buffers::Buffers;
 use compare::implementation::Implementation;
 use std::hint::black_box;
@@ -20,6 +20,8 @@ pub trait Subject {
     fn kekulize(&self, slot: &mut Self::Slot);
     /// Writes the molecule.
     fn write(&self, slot: &mut Self::Slot);
+    /// Goes from a text to the text kekulized in one call.
+    fn standardize(&self, text: &[u8], slot: &mut Self::Slot);
 }
 
 /// The reference on its own molecules.
@@ -67,6 +69,10 @@ impl Subject for Molecules {
     fn write(&self, slot: &mut MoleculeSlot) {
         slot.written = write(&slot.molecule).ok();
     }
+
+    fn standardize(&self, text: &[u8], _: &mut MoleculeSlot) {
+        black_box(report_line(text).is_ok());
+    }
 }
 
 /// An implementation of the calls on tables.
@@ -103,5 +109,9 @@ impl<I: Implementation> Subject for OnTables<I> {
 
     fn write(&self, slot: &mut Buffers) {
         black_box(self.0.write(slot));
+    }
+
+    fn standardize(&self, text: &[u8], slot: &mut Buffers) {
+        black_box(self.0.standardize(text, slot));
     }
 }

@@ -12,8 +12,8 @@ pub struct Answer {
     /// The place of the refusal.
     pub place: usize,
     /// Atoms, bonds and over-full atoms read; 1 for the end of a list; 1 for a matching; 1 for the same
-    /// compound; the pairs forced; the length written.
-    pub numbers: [usize; 3],
+    /// compound; the pairs forced; the length written; of a text kekulized what was read, and the length.
+    pub numbers: [usize; 4],
 }
 
 impl Answer {
@@ -25,7 +25,15 @@ impl Answer {
     /// The acceptance of a text.
     pub fn of_read(atoms: usize, bonds: usize, overfull: usize) -> Self {
         Answer {
-            numbers: [atoms, bonds, overfull],
+            numbers: [atoms, bonds, overfull, 0],
+            ..Answer::default()
+        }
+    }
+
+    /// The acceptance of a text that was kekulized.
+    pub fn of_standard(atoms: usize, bonds: usize, overfull: usize, length: usize) -> Self {
+        Answer {
+            numbers: [atoms, bonds, overfull, length],
             ..Answer::default()
         }
     }
@@ -59,6 +67,8 @@ pub trait Implementation {
     fn name(&self) -> &str;
     /// Reads a text into the tables.
     fn read(&self, text: &[u8], buffers: &mut Buffers) -> Answer;
+    /// Stores the text kekulized by the first matching.
+    fn standardize(&self, text: &[u8], buffers: &mut Buffers) -> Answer;
     /// Tells whether the tables are long enough and valid.
     fn check(&self, buffers: &mut Buffers) -> Answer;
     /// Stores the first matching in the row.
@@ -109,6 +119,13 @@ impl Implementation for Reference {
         buffers.counts = read.unwrap_or_default().counts;
         answer(read, |Read { counts, overfull }| {
             Answer::of_read(counts.atoms, counts.bonds, overfull)
+        })
+    }
+
+    fn standardize(&self, text: &[u8], buffers: &mut Buffers) -> Answer {
+        let done = tables::standardize(text, &mut buffers.text);
+        answer(done, |it| {
+            Answer::of_standard(it.counts.atoms, it.counts.bonds, it.overfull, it.length)
         })
     }
 

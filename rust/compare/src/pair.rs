@@ -119,7 +119,8 @@ fn different(one: &Buffers, other: &Buffers) -> Vec<&'static str> {
     differs.map(|(name, _)| name).collect()
 }
 
-/// Compares two implementations on a text: reading it, and all calls on what was read.
+/// Compares two implementations on a text: kekulizing it in one call, reading it, and all calls on what
+/// was read.
 pub fn compare_text(
     one: &dyn Implementation,
     other: &dyn Implementation,
@@ -127,6 +128,8 @@ pub fn compare_text(
     buffers: &Buffers,
 ) -> Result<(), Difference> {
     let mut pair = Pair::new(one, other, buffers);
+    pair.call("standardize", |it, buffers| it.standardize(text, buffers))?;
+    pair = Pair::new(one, other, buffers);
     let answer = pair.call("read", |it, buffers| it.read(text, buffers))?;
     if answer.is_accepted() {
         pair.calls_on_tables()?;

@@ -49,6 +49,13 @@ impl Implementation for Proved {
         read_answer(read)
     }
 
+    fn standardize(&self, text: &[u8], buffers: &mut Buffers) -> Answer {
+        let done = balsa::standardize_into(text, &mut buffers.text);
+        answer(done, |it| {
+            Answer::of_standard(it.counts.atoms, it.counts.bonds, it.overfull, it.length)
+        })
+    }
+
     fn check(&self, buffers: &mut Buffers) -> Answer {
         let checked = tables::check(&buffers.atoms, &buffers.bonds, counts(buffers));
         answer(checked, |()| Answer::default())

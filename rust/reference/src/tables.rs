@@ -10,6 +10,7 @@ use crate::molecule::{Atom, Bond, Kind, Molecule};
 use crate::pieces::Pieces;
 use crate::read::Reading;
 use crate::refusal::{Code, Refusal};
+use crate::report::Accepted;
 use crate::tetrahedral::Mark;
 use crate::valence::is_selectable;
 use crate::{ATOM_CELLS, BOND_CELLS, MAX_ATOMS, MAX_BONDS, MAX_TEXT};
@@ -133,6 +134,38 @@ pub fn end(pieces: &mut Pieces, atoms: &mut [i32], bonds: &mut [i32]) -> Result<
         Err(refusal) if refusal.code == Code::Ended => Err(refusal),
         answer => read_out(answer, atoms, bonds),
     }
+}
+
+/// The answer to [`standardize`].
+#[derive(Clone, Copy, Debug, Default, PartialEq, Eq)]
+pub struct Standard {
+    /// The atoms and bonds of the molecule.
+    pub counts: Counts,
+    /// The number of over-full atoms outside brackets.
+    pub overfull: usize,
+    /// The bytes of the kekulized text.
+    pub length: usize,
+}
+
+/// Reads a text, kekulizes it by its first matching and stores the text.
+pub fn standardize(text: &[u8], out: &mut [u8]) -> Result<Standard, Refusal> {
+    if out.len() < TEXT {
+        return Err(Code::ShortBuffer.into());
+    }
+    let answer = crate::report_line(text);
+    store(out, answer.as_ref().map_or(&[], |accepted| &accepted.text));
+    let Accepted {
+        atoms,
+        bonds,
+        overfull,
+        text,
+        ..
+    } = answer?;
+    Ok(Standard {
+        counts: Counts { atoms, bonds },
+        overfull,
+        length: text.len(),
+    })
 }
 
 /// Whether the tables are long enough and valid.

@@ -3,7 +3,7 @@
 use super::Command;
 use crate::lines::Text;
 use crate::texts::{self, Answering};
-use balsa::{Code, Molecule, Refusal};
+use balsa::Refusal;
 use std::io::{self, Write};
 
 pub static COMMAND: Command = Command {
@@ -21,10 +21,7 @@ impl Answering for Kekulize {
     type Answer = Vec<u8>;
 
     fn answer(&self, text: &[u8]) -> Result<Vec<u8>, Refusal> {
-        let mut molecule = Molecule::read(text)?;
-        let first = molecule.matchings().next();
-        molecule.kekulize(&first.ok_or(Code::Unmatchable)?)?;
-        Ok(molecule.write()?.text)
+        balsa::standardize(text)
     }
 
     fn print(&self, text: &Text<'_>, written: Vec<u8>, out: &mut dyn Write) -> io::Result<()> {
