@@ -37,10 +37,7 @@ typedef struct {
 
 /* What each function is lent, once for each expression of a statement. */
 typedef struct {
-    Tables tables;
-    uint8_t row[BALSA_ROW];
     uint8_t out[BALSA_TEXT];
-    uint16_t ren[BALSA_RENUMBERING];
 } Writing;
 
 typedef struct {
@@ -272,33 +269,17 @@ pg_balsa_check(PG_FUNCTION_ARGS)
     PG_RETURN_DATUM(HeapTupleGetDatum(heap_form_tuple(c->row, values, nulls)));
 }
 
-/* Places double bonds by the first matching and writes: 0 with the length, or a refusal's code. */
-static balsa_write_reply
-kekulize(Writing *w, size_t n, size_t m)
-{
-    Tables *t = &w->tables;
-    uint32_t code = balsa_first(t->atoms, BALSA_ATOM_TABLE, t->bonds, BALSA_BOND_TABLE, n, m, w->row, BALSA_ROW);
-
-    if (code == 0)
-        code = balsa_kekulize(t->atoms, BALSA_ATOM_TABLE, t->bonds, BALSA_BOND_TABLE, n, m, w->row, BALSA_ROW);
-    if (code)
-        return (balsa_write_reply) {code, 0};
-    return balsa_write(t->atoms, BALSA_ATOM_TABLE, t->bonds, BALSA_BOND_TABLE, n, m, w->out, BALSA_TEXT, w->ren,
-                       BALSA_RENUMBERING);
-}
-
 PG_FUNCTION_INFO_V1(pg_balsa_kekulized);
 Datum
 pg_balsa_kekulized(PG_FUNCTION_ARGS)
 {
     Bytes t = bytes_of(PG_GETARG_TEXT_PP(0));
     Writing *w = lent(fcinfo, sizeof(Writing));
-    balsa_read_reply molecule = read_or_refuse(&w->tables, t);
-    balsa_write_reply written = kekulize(w, molecule.atoms, molecule.bonds);
+    balsa_standard_reply reply = balsa_standardize(t.bytes, t.length, w->out, BALSA_TEXT);
 
-    if (written.code)
-        refuse(t, written.code, 0);
-    PG_RETURN_TEXT_P(cstring_to_text_with_len((char *) w->out, written.length));
+    if (reply.code)
+        refuse(t, reply.code, reply.place);
+    PG_RETURN_TEXT_P(cstring_to_text_with_len((char *) w->out, reply.length));
 }
 
 PG_FUNCTION_INFO_V1(pg_balsa_key);
