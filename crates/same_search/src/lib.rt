@@ -119,7 +119,7 @@ fn search(
                 if search(o1, o2, ok, w1, w2, &told1, &told2, n, ren, next) {
                     return true;
                 }
-                same_alike::mark(o1, o2, ok, n, ren, from, d, &mut dead);
+                same_alike::mark(o1, o2, ok, w2, k2, n, ren, from, d, &mut dead);
             }
         }
         d += 1;

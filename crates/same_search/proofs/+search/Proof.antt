@@ -180,7 +180,7 @@ search-mark-requires t c κs =
     let y = c .before .before .before .before .before .before .before .before .before .before .before .if2 .taken in
     let r = c .before .before .before .search .ensures in
     let e = c .before .before .if4 .left in
-    ((prefix-after (s .pre .1 .0) (s .pre .1 .1) l (v .inv) i h y r e, omega (arith, s .pre .1 .0 .upto, l), i), marks-ask (s .pre .1 .0) (s .pre .1 .1) l (v .inv) i h y r e)
+    ((prefix-after (s .pre .1 .0) (s .pre .1 .1) l (v .inv) i h y r e, omega (arith, s .pre .1 .0 .upto, l), i, s .pre .1 .1 .keeps .long2), marks-ask (s .pre .1 .0) (s .pre .1 .1) l (v .inv) i h y r e)
 
 search-add-d : (t : ℕ) → search-lts.Need-add-d (
   tell-reads.Asked,
