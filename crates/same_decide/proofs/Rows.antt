@@ -52,9 +52,9 @@ no-prefix w = record { few = w .few; upto = omega arith; room = w .room; below =
 
 -- the search with a matrix that was drawn; none where the sums differ
 module _ (o : List ℕ) (z : ℕ) (ok : List ℕ) (y : Sketch) (s : Row) {u : ℕ} (e : u ≡ sumOf y s) where
-  pub as-ways : u ≡ z → {o2 ren : List ℕ} {r : Bool} {ren′ : List ℕ} → o2 ≡ run (withBond (y .bonds) s) 0 (y .m) (y .base) → Solved (goods o o2 ok (y .n) (take 0 ren) (y .n - 0)) (y .n) 0 ren r ren′ → Solved (ways o z ok y s) (y .n) 0 ren r ren′
+  pub as-ways : u ≡ z → {o2 ren : List ℕ} {r : Bool} {ren′ : List ℕ} → o2 ≡ run (withBond (y .bonds) s) 0 (y .m) (y .base) → Solved (goods o o2 ok (y .n) [] (y .n)) (y .n) 0 ren r ren′ → Solved (ways o z ok y s) (y .n) 0 ren r ren′
   unfolding ways drawnMatrix
-  as-ways h q w = let d : y .n - 0 ≡ y .n = omega arith in rw (eq-eqb z (sumOf y s) (sym h ∙ e)) (rw (d, q) at w)
+  as-ways h q w = rw (eq-eqb z (sumOf y s) (sym h ∙ e)) (rw q at w)
 
   pub no-ways : (u ≡ z → ⊥) → (ren : List ℕ) → Solved (ways o z ok y s) (y .n) 0 ren false ren
   unfolding ways

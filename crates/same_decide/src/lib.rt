@@ -45,7 +45,7 @@ fn place(
     }
     let mut o2 = *base2;
     same_drawing::fill_orders(bonds2, m2, row2, &mut o2);
-    same_place::solve(o1, &o2, ok, n, ren, 0)
+    same_search::solve(o1, &o2, ok, n, ren)
 }
 
 // The first row of the second molecule that goes with the first's matrix, and the smallest renumbering for it.

@@ -58,7 +58,7 @@ module _ (o1 o2 ok : List ℕ) where
       ap (λ (z : Bool). eqb (entry ok (length p) d) 1 && z)
       (each-same (beside o1 o2 p (length p) d) (beside o1 o2 (p ++ s) (length p) d) (length p) (λ b l. ap (λ (i : ℕ). not (eqb i d) && eqb (entry o1 (length p) b) (entry o2 d i)) (sym (List·getD-append p s 0 b l))))
 
-  good-index : (p s : List ℕ) → goodFrom o1 o2 ok p s ≡ each (placed (p ++ s)) (length p) (length s)
+  pub good-index : (p s : List ℕ) → goodFrom o1 o2 ok p s ≡ each (placed (p ++ s)) (length p) (length s)
   unfolding goodFrom each
   good-index p [] = refl
   good-index p (d ∷ s) =

@@ -25,7 +25,7 @@ words-all n (suc k) =
     all-flatMap (λ (d : ℕ). map (λ (t : List ℕ). d ∷ t) (words n k)) (all-upTo 0 n n (omega arith))
     (λ d h. all-map (λ (t : List ℕ). d ∷ t) (words-all n k) (λ t w. record { size = ap suc (w .size); below = more h (w .below) }))
 
-word-in : (n k : ℕ) (t : List ℕ) → length t ≡ k → All (λ d. d < n) t → In t (words n k)
+pub word-in : (n k : ℕ) (t : List ℕ) → length t ≡ k → All (λ d. d < n) t → In t (words n k)
 unfolding words
 word-in n zero [] e a = here
 word-in n zero (d ∷ t) e a = absurd (omega arith)

@@ -35,7 +35,7 @@ placeable-prefix o1 o2 ok ren a d =
 
 module _ (o1 o2 ok : List ℕ) (n : ℕ) (p : List ℕ) (k : ℕ) where
   -- the ways on with d next
-  pub branch : ℕ → List Row
+  unfoldable pub branch : ℕ → List Row
   branch d = map (λ (s : Row). d ∷ s) (passing (λ s. goodFrom o1 o2 ok p (d ∷ s)) (words n k))
 
   pub goods-suc : goods o1 o2 ok n p (suc k) ≡ flatMap branch (upTo (λ (d : ℕ). d) 0 n)
@@ -128,7 +128,7 @@ module _ (o1 o2 ok : List ℕ) {n from : ℕ} {ren₀ : List ℕ} (q : Prefix n 
           ∙ ap (λ (a : ℕ). placeable o1 o2 ok p a d) (sym prefix-length)
 
       -- one image fewer
-      skip : d < n → on d ≡ [] → fs ≡ flatMap on (upTo (λ (e : ℕ). e) (d + 1) (n - (d + 1)))
+      pub skip : d < n → on d ≡ [] → fs ≡ flatMap on (upTo (λ (e : ℕ). e) (d + 1) (n - (d + 1)))
       unfolding upTo flatMap
       skip i e = let z : n - d ≡ suc (n - (d + 1)) = omega arith in w .same ∙ rw (z, e, add-one d)
 

@@ -7,6 +7,7 @@
 pub mod buffers;
 pub mod corpus;
 pub mod drawings;
+pub mod hard;
 pub mod implementation;
 pub mod laws;
 pub mod limits;

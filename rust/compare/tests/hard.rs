@@ -1,0 +1,46 @@
+//! The pairs on which a comparison has much to search: those families that are quick are asked, each
+//! pair within a limit that leaves room for a slow machine.
+
+use compare::buffers::Buffers;
+use compare::hard::families;
+use compare::implementation::{Answer, Implementation};
+use compare::proved::Proved;
+use std::sync::mpsc;
+use std::thread;
+use std::time::Duration;
+
+/// No pair of a family that is named takes as long; the slowest takes a hundredth of it.
+const LIMIT: Duration = Duration::from_secs(5);
+
+/// The families that have no pair over the limit of 50 milliseconds (docs/PERFORMANCE.md).
+const QUICK: [&str; 12] = [
+    "isolated atoms between ring atoms",
+    "like atoms and short chains",
+    "rings of 6 against rings of 6 and 3",
+    "the same joined to one atom",
+    "rings of many sizes",
+    "cubic parts of 8 atoms",
+    "strongly regular parts",
+    "strongly regular graphs",
+    "graphs of Latin squares",
+    "projective planes and triple systems",
+    "Cai, Fürer and Immerman's graphs",
+    "tori, cubes and random regular graphs",
+];
+
+#[test]
+fn no_pair_of_a_quick_family_takes_long() {
+    let families = families();
+    for name in QUICK {
+        let family = families.iter().find(|family| family.name == name);
+        let family = family.unwrap_or_else(|| panic!("no family {name}"));
+        for (number, (one, other, is_same)) in family.pairs.iter().enumerate() {
+            let (mut first, mut second) = (Buffers::clean(one), Buffers::clean(other));
+            let (sender, receiver) = mpsc::channel();
+            thread::spawn(move || sender.send(Proved.same(&mut first, &mut second)));
+            let answer = receiver.recv_timeout(LIMIT);
+            let told = Ok(Answer::of(usize::from(*is_same)));
+            assert_eq!(answer, told, "{name}, pair {number}");
+        }
+    }
+}
