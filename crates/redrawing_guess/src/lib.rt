@@ -100,20 +100,25 @@ fn link(bonds: &[i32], n: usize, m: usize, graph: &mut [u16])
     }
 }
 
-// The half-bond from the atom a to the atom b, 0 where there is none.
+// A half-bond between the atoms a and b, seen from either, 0 where there is none: both lists are followed, as far as the shorter goes.
 fn between(graph: &[u16], n: usize, a: u16, b: u16) -> u16
     requires { ⌜ n ≤ maxAtoms ⌝ }
 {
     let mut h = first(graph, a);
+    let mut k = first(graph, b);
     let mut i = 0;
     while i < MAX_ATOMS {
-        if h == 0 {
+        if (h == 0) | (k == 0) {
             return 0;
         }
         if other(graph, n, h) == b {
             return h;
         }
+        if other(graph, n, k) == a {
+            return k;
+        }
         h = next(graph, n, h);
+        k = next(graph, n, k);
         i += 1;
     }
     0
