@@ -239,6 +239,16 @@ fn adversaries() -> Vec<Hard> {
             &dense(half, &kinds[0]),
         ));
     }
+    for leaves in [100, 300, 920] {
+        let bodies = (0..MAX_ENTRIES).map(|_| hub(leaves, [35, 35]));
+        let name = format!("a hub with {leaves} leaves and two rings");
+        all.extend(of_graphs(
+            &mut random,
+            &name,
+            bodies,
+            &hub(leaves, [33, 37]),
+        ));
+    }
     for (name, graph) in [
         ("single atoms", Plain::new(1000, [])),
         ("a star", Plain::new(1000, (1..1000).map(|leaf| (0, leaf)))),
@@ -426,6 +436,19 @@ fn dense(half: usize, lengths: &[usize]) -> Plain {
     let pairs = (0..half).flat_map(|a| (0..half).map(move |b| (a, b)));
     let joined = pairs.filter(|&(a, b)| a != b && next[a] != b);
     Plain::new(2 * half, joined.map(|(a, b)| (a, half + b)))
+}
+
+/// An atom with leaves and two rings.
+fn hub(leaves: usize, rings: [usize; 2]) -> Plain {
+    let mut ends: Vec<(usize, usize)> = Vec::new();
+    let mut atoms = 1;
+    for size in rings {
+        ends.push((0, atoms));
+        ends.extend((0..size).map(|i| (atoms + i, atoms + (i + 1) % size)));
+        atoms += size;
+    }
+    ends.extend((0..leaves).map(|leaf| (0, atoms + leaf)));
+    Plain::new(atoms + leaves, ends)
 }
 
 fn hypercube(dimensions: usize) -> Plain {
