@@ -236,8 +236,10 @@ fn keeps(
         }
         let c = other(graph1, n, h);
         let d = at(there, wide(c));
-        if (at(back, wide(d)) == c) & (between(graph2, n, b, d) == 0) {
-            return false;
+        if at(back, wide(d)) == c {
+            if between(graph2, n, b, d) == 0 {
+                return false;
+            }
         }
         h = next(graph1, n, h);
         i += 1;
