@@ -235,7 +235,7 @@ fn more(x: u32) -> u32 {
 
 // Whether another guess may pay, by how many were wrong and right so far.
 fn is_lucky(luck: &[u32; 2]) -> bool {
-    (luck[0] < 16) | (luck[0] / 8 <= luck[1])
+    (luck[0] < 64) | (luck[0] / 8 <= luck[1])
 }
 
 // Counts a guess.
