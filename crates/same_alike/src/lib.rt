@@ -225,7 +225,29 @@ fn mark_like(
     true
 }
 
-// internal: marks an atom that cannot come next, and those that are shown to be like it; after a few guesses that were wrong no more are made.
+// One more, up to a limit.
+fn more(x: u32) -> u32 {
+    if x < 1000000 {
+        return x + 1;
+    }
+    x
+}
+
+// Whether another guess may pay, by how many were wrong and right so far.
+fn is_lucky(luck: &[u32; 2]) -> bool {
+    (luck[0] < 64) | (luck[0] / 8 <= luck[1])
+}
+
+// Counts a guess.
+fn count(luck: &mut [u32; 2], right: bool) {
+    if right {
+        luck[1] = more(luck[1]);
+    } else {
+        luck[0] = more(luck[0]);
+    }
+}
+
+// internal: marks an atom that cannot come next, and those that are shown to be like it.
 pub fn mark(
     o1: &[u16; CELLS],
     o2: &[u16; CELLS],
@@ -236,6 +258,7 @@ pub fn mark(
     ren: &[u8; SIDE],
     from: usize,
     d: usize,
+    luck: &mut [u32; 2],
     dead: &mut [u8; SIDE],
 )
     requires { ⌜ Prefix n (now ren) from × (from < n) × (d < n) × (n ≤ length (now k2)) ⌝ }
@@ -244,13 +267,12 @@ pub fn mark(
     ensures { λ _. ⌜ Hopeless (now (o1 .entry)) (now (o2 .entry)) (now (ok .entry)) n (take from (now (ren .entry))) (n - (from + 1)) (now (dead .exit)) ⌝ }
 {
     dead[d] = 1;
-    let mut wrong = 0u8;
     let mut e = d + 1;
     while e < n {
-        if (wrong < 4) & (dead[e] != 1) & (k2[e] == k2[d]) {
-            if !mark_like(o1, o2, ok, w2, k2, n, ren, from, d, e, dead) {
-                wrong += 1;
-            }
+        let lucky = is_lucky(luck);
+        if lucky & (dead[e] != 1) & (k2[e] == k2[d]) {
+            let right = mark_like(o1, o2, ok, w2, k2, n, ren, from, d, e, dead);
+            count(luck, right);
         }
         e += 1;
     }

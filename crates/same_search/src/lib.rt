@@ -98,6 +98,7 @@ fn search(
     n: usize,
     ren: &mut [u8; SIDE],
     from: usize,
+    luck: &mut [u32; 2],
 ) -> bool
     requires { ⌜ Prefix n (now ren) from ⌝ }
     requires { ⌜ Level (now o1) (now o2) (now ok) (now w1) (now w2) (now k1) (now k2) n (now ren) from ⌝ }
@@ -116,10 +117,10 @@ fn search(
             let mut told2 = *k2;
             if same_finer::tell(w2, n, d, &mut told2) == sum1 {
                 ren[from] = d as u8;
-                if search(o1, o2, ok, w1, w2, &told1, &told2, n, ren, next) {
+                if search(o1, o2, ok, w1, w2, &told1, &told2, n, ren, next, luck) {
                     return true;
                 }
-                same_alike::mark(o1, o2, ok, w2, k2, n, ren, from, d, &mut dead);
+                same_alike::mark(o1, o2, ok, w2, k2, n, ren, from, d, luck, &mut dead);
             }
         }
         d += 1;
@@ -222,7 +223,8 @@ fn search_finely(
     }
     same_finer::make_finer(&w1, n, 4, &mut k1);
     same_finer::make_finer(&w2, n, 4, &mut k2);
-    search(o1, o2, ok, &w1, &w2, &k1, &k2, n, ren, 0)
+    let mut luck = [0u32; 2];
+    search(o1, o2, ok, &w1, &w2, &k1, &k2, n, ren, 0, &mut luck)
 }
 
 // internal: the smallest renumbering, written to the list: first as it comes, and where that takes long with keys made finer.
@@ -236,7 +238,7 @@ pub fn solve(
     requires { ⌜ Prefix n (now ren) 0 ⌝ }
     ensures { λ r. ⌜ Solved (goods (now (o1 .entry)) (now (o2 .entry)) (now (ok .entry)) n [] n) n 0 (now (ren .entry)) r (now (ren .exit)) ⌝ }
 {
-    let tried = search_briefly(o1, o2, ok, n, ren, 0, 300);
+    let tried = search_briefly(o1, o2, ok, n, ren, 0, 3000);
     if tried.found {
         return true;
     }

@@ -21,10 +21,10 @@ const QUICK: [&str; 12] = [
     "rings of many sizes",
     "cubic parts of 8 atoms",
     "strongly regular parts",
+    "squares of labelled atoms, part drawn",
     "strongly regular graphs",
     "graphs of Latin squares",
     "projective planes and triple systems",
-    "Cai, Fürer and Immerman's graphs",
     "tori, cubes and random regular graphs",
 ];
 

@@ -16,20 +16,20 @@ use Rattle.same_search.proofs.is_hopeful.Reads as is-hopeful-reads
 use Rattle.same_search.proofs.+search.{statement}
 use Rattle.same_search.proofs.+search.Tie.{close}
 
-abbrev μ-search : Measures 8 search-kinds.ps ℕ
+abbrev μ-search : Measures 9 search-kinds.ps ℕ
 μ-search κs a = a .1 .1 .1 .1 .1 .1 .1 .0 - a .1 .1 .1 .1 .1 .1 .1 .1 .1 .0
 
-abbrev search-at : ℕ → In 8 search-kinds.ps
-search-at t = and 8 search-kinds.ps (is 8 search-kinds.ps μ-search t) search′.Pre
+abbrev search-at : ℕ → In 9 search-kinds.ps
+search-at t = and 9 search-kinds.ps (is 9 search-kinds.ps μ-search t) search′.Pre
 
-abbrev search-below : ℕ → In 8 search-kinds.ps
-search-below t = and 8 search-kinds.ps (falls 8 search-kinds.ps _<_ μ-search t) search′.Pre
+abbrev search-below : ℕ → In 9 search-kinds.ps
+search-below t = and 9 search-kinds.ps (falls 9 search-kinds.ps _<_ μ-search t) search′.Pre
 
 abbrev search-Inv-loop : search-lts.InvT-loop
-search-Inv-loop o1 o2 ok w1 w2 k1 k2 n ren₀ from next told1 sum1 dead₀ d₀ ren dead d = Searching o1 o2 ok n from ren₀ ren dead d
+search-Inv-loop o1 o2 ok w1 w2 k1 k2 n ren₀ from luck₀ next told1 sum1 dead₀ d₀ ren luck dead d = Searching o1 o2 ok n from ren₀ ren dead d
 
 abbrev search-μ-loop : search-lts.MeasureT-loop
-search-μ-loop o1 o2 ok w1 w2 k1 k2 n ren₀ from next told1 sum1 dead₀ d₀ ren dead d = n - d
+search-μ-loop o1 o2 ok w1 w2 k1 k2 n ren₀ from luck₀ next told1 sum1 dead₀ d₀ ren luck dead d = n - d
 
 search-returns : (t : ℕ) → search-lts.Need-returns (
   tell-reads.Asked,
@@ -141,11 +141,11 @@ search-search-requires : (t : ℕ) → search-lts.Need-search-requires (
   mark-reads.Learnt,
 ) (search-at t) search′.Post search-Inv-loop search-μ-loop
 search-search-requires t c κs =
-    let s = c .before .before .before .before .before .before .before .before .before .before .before .before .before .before .before .before .before in
-    let l = c .before .before .before .before .before .before .before .before .before .before .before .before .before .before .before .before .if1 .left in
-    let v = c .before .before .before .before .before .before .before .before .before .before .before .before .loop in
-    let i = c .before .before .before .before .before .before .before .before .before .before .before .loop-test .taken in
-    (omega (arith, s .pre .0, s .pre .1 .0 .upto, l), (prefix-next _ _ _ (s .pre .1 .0) l (v .d) (v .inv .trying) i, level-next (s .pre .1 .0) (s .pre .1 .1) l (v .inv) i (c .before .before .before .before .before .before .before .before .is-hopeful .ensures) (c .before .before .before .before .before .before .before .if2 .taken) (c .before .before .before .before .before .before .before .before .before .before .before .before .before .tell .ensures .0) (c .before .before .before .before .tell2 .ensures .0)))
+    let s = c .before .before .before .before .before .before .before .before .before .before .before .before .before .before .before .before .before .before in
+    let l = c .before .before .before .before .before .before .before .before .before .before .before .before .before .before .before .before .before .if1 .left in
+    let v = c .before .before .before .before .before .before .before .before .before .before .before .before .before .loop in
+    let i = c .before .before .before .before .before .before .before .before .before .before .before .before .loop-test .taken in
+    (omega (arith, s .pre .0, s .pre .1 .0 .upto, l), (prefix-next _ _ _ (s .pre .1 .0) l (v .d) (v .inv .trying) i, level-next (s .pre .1 .0) (s .pre .1 .1) l (v .inv) i (c .before .before .before .before .before .before .before .before .before .is-hopeful .ensures) (c .before .before .before .before .before .before .before .before .if2 .taken) (c .before .before .before .before .before .before .before .before .before .before .before .before .before .before .tell .ensures .0) (c .before .before .before .before .before .tell2 .ensures .0)))
 
 search-returns-2 : (t : ℕ) → search-lts.Need-returns-2 (
   tell-reads.Asked,
@@ -158,8 +158,8 @@ search-returns-2 : (t : ℕ) → search-lts.Need-returns-2 (
   mark-reads.Learnt,
 ) (search-at t) search′.Post search-Inv-loop search-μ-loop
 search-returns-2 t c =
-    let s = c .before .before .before .before .before .before .before .before .before .before .before .before .before .before .before .before .before .before .before in
-    search-found (s .pre .1 .0) (s .pre .1 .1) (c .before .before .before .before .before .before .before .before .before .before .before .before .before .before .before .before .before .before .if1 .left) (c .before .before .before .before .before .before .before .before .before .before .before .before .before .before .loop .inv) (c .before .before .before .before .before .before .before .before .before .before .before .before .before .loop-test .taken) (c .before .before .before .before .before .before .before .before .before .before .is-hopeful .ensures) (c .before .before .before .before .before .before .before .before .before .if2 .taken) (c .before .search .ensures) (c .if4 .taken)
+    let s = c .before .before .before .before .before .before .before .before .before .before .before .before .before .before .before .before .before .before .before .before in
+    search-found (s .pre .1 .0) (s .pre .1 .1) (c .before .before .before .before .before .before .before .before .before .before .before .before .before .before .before .before .before .before .before .if1 .left) (c .before .before .before .before .before .before .before .before .before .before .before .before .before .before .before .loop .inv) (c .before .before .before .before .before .before .before .before .before .before .before .before .before .before .loop-test .taken) (c .before .before .before .before .before .before .before .before .before .before .before .is-hopeful .ensures) (c .before .before .before .before .before .before .before .before .before .before .if2 .taken) (c .before .search .ensures) (c .if4 .taken)
 
 search-mark-requires : (t : ℕ) → search-lts.Need-mark-requires (
   tell-reads.Asked,
@@ -172,14 +172,14 @@ search-mark-requires : (t : ℕ) → search-lts.Need-mark-requires (
   mark-reads.Learnt,
 ) (search-at t) search′.Post search-Inv-loop search-μ-loop
 search-mark-requires t c κs =
-    let s = c .before .before .before .before .before .before .before .before .before .before .before .before .before .before .before .before .before .before .before .before .before in
-    let l = c .before .before .before .before .before .before .before .before .before .before .before .before .before .before .before .before .before .before .before .before .if1 .left in
-    let v = c .before .before .before .before .before .before .before .before .before .before .before .before .before .before .before .before .loop in
-    let i = c .before .before .before .before .before .before .before .before .before .before .before .before .before .before .before .loop-test .taken in
-    let h = c .before .before .before .before .before .before .before .before .before .before .before .before .is-hopeful .ensures in
-    let y = c .before .before .before .before .before .before .before .before .before .before .before .if2 .taken in
-    let r = c .before .before .before .search .ensures in
-    let e = c .before .before .if4 .left in
+    let s = c .before .before .before .before .before .before .before .before .before .before .before .before .before .before .before .before .before .before .before .before .before .before .before in
+    let l = c .before .before .before .before .before .before .before .before .before .before .before .before .before .before .before .before .before .before .before .before .before .before .if1 .left in
+    let v = c .before .before .before .before .before .before .before .before .before .before .before .before .before .before .before .before .before .before .loop in
+    let i = c .before .before .before .before .before .before .before .before .before .before .before .before .before .before .before .before .before .loop-test .taken in
+    let h = c .before .before .before .before .before .before .before .before .before .before .before .before .before .before .is-hopeful .ensures in
+    let y = c .before .before .before .before .before .before .before .before .before .before .before .before .before .if2 .taken in
+    let r = c .before .before .before .before .search .ensures in
+    let e = c .before .before .before .if4 .left in
     ((prefix-after (s .pre .1 .0) (s .pre .1 .1) l (v .inv) i h y r e, omega (arith, s .pre .1 .0 .upto, l), i, s .pre .1 .1 .keeps .long2), marks-ask (s .pre .1 .0) (s .pre .1 .1) l (v .inv) i h y r e)
 
 search-add-d : (t : ℕ) → search-lts.Need-add-d (
@@ -222,8 +222,8 @@ search-loop-again t c =
     let v = c .before .before .before .before .before .loop .inv in
     let i = c .before .before .before .before .loop-test .taken in
     let h = c .before .is-hopeful .ensures in
-    ⊎-elim (λ w. search-next (s .pre .1 .0) (s .pre .1 .1) l v i h (w .0 .taken) (w .8 .ensures) (w .9 .left) (w .12 .ensures) (w .13) (w .14))
-    (⊎-elim (λ w. search-sums (s .pre .1 .0) (s .pre .1 .1) l v i (c .before .before .before .before .before .before .tell .ensures .1) (w .3 .ensures .1) (w .4 .left) (w .5) (w .6)) (λ w. search-not (s .pre .1 .0) (s .pre .1 .1) l v i h (w .0 .left) (w .1) (w .2))) (c .if2 .came)
+    ⊎-elim (λ w. search-next (s .pre .1 .0) (s .pre .1 .1) l v i h (w .0 .taken) (w .9 .ensures) (w .10 .left) (w .14 .ensures) (w .15) (w .17))
+    (⊎-elim (λ w. search-sums (s .pre .1 .0) (s .pre .1 .1) l v i (c .before .before .before .before .before .before .tell .ensures .1) (w .3 .ensures .1) (w .4 .left) (w .5) (w .7)) (λ w. search-not (s .pre .1 .0) (s .pre .1 .1) l v i h (w .0 .left) (w .1) (w .3))) (c .if2 .came)
 
 search-returns-3 : (t : ℕ) → search-lts.Need-returns-3 (
   tell-reads.Asked,
