@@ -2,12 +2,7 @@ use borrow.Author.Needs.{needs}
 use Rattle.withdrawal.proofs.Calls.{short-register, unread-text, added-text}
 use Rattle.withdrawal.proofs.withdraw.Statement.{statement}
 use Rattle.withdrawal.proofs.withdraw.Tie as tie
-use Rattle.withdrawal.proofs.withdraw.Reads as reads
-use Rattle.withdrawal.proofs.withdraw.Lts as lts
-use Rattle.reader.proofs.read.Reads as read-reads
 use Rattle.refusal.proofs.code.Reads as code-reads
-use Rattle.register.proofs.add.Reads as add-reads
-use Rattle.register.proofs.code.Reads as code-reads′
 
 returns : tie.Need-returns
 returns c = short-register _ _ _ (c .if1 .taken)

@@ -5,70 +5,49 @@ use Rattle.withdrawal.proofs.Verdicts.{text-complete}
 use borrow.Author.Needs.{needs}
 use Rattle.withdrawal.proofs.withdrawn.Statement.{statement}
 use Rattle.withdrawal.proofs.withdrawn.Tie as tie
-use Rattle.withdrawal.proofs.withdrawn.Reads as reads
-use Rattle.withdrawal.proofs.withdrawn.Lts as lts
-use Rattle.reader.proofs.read.Reads as read-reads
-use Rattle.refusal.proofs.code.Reads as code-reads
-use Rattle.register.proofs.contents.valid.Reads as valid-reads
-use Rattle.withdrawal.proofs.walk.ask.Reads as ask-reads
 
--- src/lib.rt:57:9
 returns : tie.Need-returns
 returns c = short-answered _ _ (c .if1 .taken)
 
--- src/lib.rt:59:9
 valid-requires : tie.Need-valid-requires
 valid-requires c κs = search needs
 
--- src/lib.rt:60:9
 returns-2 : tie.Need-returns-2
 returns-2 c = invalid-answered _ _ (c .before .before .if1 .left) (sym (c .before .valid .ensures) ∙ not-true _ (c .if2 .taken))
 
--- src/lib.rt:64:32
 slice-aggregate-read : tie.Need-slice-aggregate-read
 slice-aggregate-read c = search needs
 
--- src/lib.rt:64:44
 slice-aggregate-read-2 : tie.Need-slice-aggregate-read-2
 slice-aggregate-read-2 c = search needs
 
--- src/lib.rt:64:9
 read-requires : tie.Need-read-requires
 read-requires c κs = search needs
 
--- src/lib.rt:66:29
 enum-known-a : tie.Need-enum-known-a
 enum-known-a c = search needs
 
--- src/lib.rt:67:17
 code-requires : tie.Need-code-requires
 code-requires c κs = search needs
 
--- src/lib.rt:68:32
 cast-t19 : tie.Need-cast-t19
 cast-t19 c = search needs
 
--- src/lib.rt:70:30
 enum-known-a-2 : tie.Need-enum-known-a-2
 enum-known-a-2 c = search needs
 
--- src/lib.rt:70:58
 slice-aggregate-ask : tie.Need-slice-aggregate-ask
 slice-aggregate-ask c = search needs
 
--- src/lib.rt:70:70
 slice-aggregate-ask-2 : tie.Need-slice-aggregate-ask-2
 slice-aggregate-ask-2 c = search needs
 
--- src/lib.rt:70:42
 ask-requires : tie.Need-ask-requires
 ask-requires c κs = ((c .before .before .before .before .before .before .before .before .before .before .before .before .if1 .left, sym (c .before .before .before .before .before .before .before .before .before .before .before .valid .ensures) ∙ not-false _ (c .before .before .before .before .before .before .before .before .before .before .if2 .left)), text-complete _ _ _ _ (c .before .before .before .before .before .before .before .read .ensures) (c .before .before .before .a2 .given .1))
 
--- src/lib.rt:53:1
 returns-3 : tie.Need-returns-3
 returns-3 c = unread-answered _ _ (c .before .before .before .before .before .before .before .before .before .before .before .if1 .left) (sym (c .before .before .before .before .before .before .before .before .before .before .valid .ensures) ∙ not-false _ (c .before .before .before .before .before .before .before .before .before .if2 .left)) _ _ _ (c .before .before .before .before .before .before .read .ensures) (c .before .before .a .given .1) (c .code .ensures)
 
--- src/lib.rt:53:1
 returns-4 : tie.Need-returns-4
 returns-4 c = asked-answered _ _ (c .before .before .before .before .before .before .before .before .before .before .before .before .before .before .before .if1 .left) (sym (c .before .before .before .before .before .before .before .before .before .before .before .before .before .before .valid .ensures) ∙ not-false _ (c .before .before .before .before .before .before .before .before .before .before .before .before .before .if2 .left)) _ _ _ (c .before .before .before .before .before .before .before .before .before .before .read .ensures) (c .before .before .before .before .before .before .a2 .given .1) (c .before .before .ask .ensures)
 

@@ -4,20 +4,13 @@ use denote.Ref.{now}
 use borrow.Author.Needs.{needs}
 use Rattle.balsa.proofs.withdrawal_calls.balsa_withdrawn.Statement.{statement}
 use Rattle.balsa.proofs.withdrawal_calls.balsa_withdrawn.Tie as tie
-use Rattle.balsa.proofs.withdrawal_calls.balsa_withdrawn.Reads as reads
-use Rattle.balsa.proofs.withdrawal_calls.balsa_withdrawn.Lts as lts
-use Rattle.balsa.proofs.withdrawal_calls.withdrawn_reply.Reads as withdrawn-reply-reads
-use Rattle.withdrawal.proofs.withdrawn.Reads as withdrawn-reads
 
--- src/withdrawal_calls.rt:78:21
 withdrawn-requires : tie.Need-withdrawn-requires
 withdrawn-requires c κs = search needs
 
--- src/withdrawal_calls.rt:78:5
 withdrawn-reply-requires : tie.Need-withdrawn-reply-requires
 withdrawn-reply-requires c κs = search needs
 
--- src/withdrawal_calls.rt:74:1
 returns : tie.Need-returns
 returns c = let a = c .before .before .before .before .args in subst (λ (o : WithdrawnOut). Answered (now (a .reg)) (now (a .text)) o) (sym (c .withdrawn-reply .ensures)) (c .before .withdrawn .ensures)
 

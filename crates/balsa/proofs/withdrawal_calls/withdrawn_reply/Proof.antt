@@ -3,38 +3,28 @@ use mathlib.Core.Path.{ap, sym}
 use borrow.Author.Needs.{needs}
 use Rattle.balsa.proofs.withdrawal_calls.withdrawn_reply.Statement.{statement}
 use Rattle.balsa.proofs.withdrawal_calls.withdrawn_reply.Tie as tie
-use Rattle.balsa.proofs.withdrawal_calls.withdrawn_reply.Reads as reads
-use Rattle.balsa.proofs.withdrawal_calls.withdrawn_reply.Lts as lts
 
--- src/withdrawal_calls.rt:42:28
 enum-known-w : tie.Need-enum-known-w
 enum-known-w c = search needs
 
--- src/withdrawal_calls.rt:49:29
 enum-told : tie.Need-enum-told
 enum-told c = search needs
 
--- src/withdrawal_calls.rt:56:27
 enum-known-w-2 : tie.Need-enum-known-w-2
 enum-known-w-2 c = search needs
 
--- src/withdrawal_calls.rt:63:30
 enum-known-w-3 : tie.Need-enum-known-w-3
 enum-known-w-3 c = search needs
 
--- src/withdrawal_calls.rt:38:1
 returns : tie.Need-returns
 returns c = ap outOf (sym (c .before .w .given .1))
 
--- src/withdrawal_calls.rt:38:1
 returns-2 : tie.Need-returns-2
 returns-2 c = ap outOf (sym (c .enum-told .given .1))
 
--- src/withdrawal_calls.rt:38:1
 returns-3 : tie.Need-returns-3
 returns-3 c = ap outOf (sym (c .before .w2 .given .1))
 
--- src/withdrawal_calls.rt:38:1
 returns-4 : tie.Need-returns-4
 returns-4 c = ap outOf (sym (c .before .w3 .given .1))
 

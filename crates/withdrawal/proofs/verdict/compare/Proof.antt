@@ -2,10 +2,6 @@ use Rattle.withdrawal.proofs.Verdicts.{fold-valid, fold-tells}
 use borrow.Author.Needs.{needs}
 use Rattle.withdrawal.proofs.verdict.compare.Statement.{statement}
 use Rattle.withdrawal.proofs.verdict.compare.Tie as tie
-use Rattle.withdrawal.proofs.verdict.compare.Reads as reads
-use Rattle.withdrawal.proofs.verdict.compare.Lts as lts
-use Rattle.folding.proofs.fold.Reads as fold-reads
-use Rattle.withdrawal.proofs.verdict.decide.Reads as decide-reads
 
 fold-requires : tie.Need-fold-requires
 fold-requires c κs = search needs

@@ -3,11 +3,6 @@ use Rattle.drawing_key.proofs.Claims.{redrawing-key}
 use borrow.Author.Needs.{needs}
 use Rattle.withdrawal.proofs.verdict.decide.Statement.{statement}
 use Rattle.withdrawal.proofs.verdict.decide.Tie as tie
-use Rattle.withdrawal.proofs.verdict.decide.Reads as reads
-use Rattle.withdrawal.proofs.verdict.decide.Lts as lts
-use Rattle.drawing_key.proofs.fill_atom_keys.Reads as fill-atom-keys-reads
-use Rattle.drawing_key.proofs.key.Reads as key-reads
-use Rattle.redrawing_guess.proofs.shows_redrawing.Reads as shows-redrawing-reads
 
 returns : tie.Need-returns
 returns c = search needs

@@ -4,32 +4,22 @@ use mathlib.Core.Path.{_∙_}
 use borrow.Author.Needs.{needs}
 use Rattle.withdrawal.proofs.verdict.judge.Statement.{statement}
 use Rattle.withdrawal.proofs.verdict.judge.Tie as tie
-use Rattle.withdrawal.proofs.verdict.judge.Reads as reads
-use Rattle.withdrawal.proofs.verdict.judge.Lts as lts
-use Rattle.reader.proofs.read.Reads as read-reads
-use Rattle.withdrawal.proofs.verdict.compare.Reads as compare-reads
 
--- src/verdict.rt:117:9
 read-requires : tie.Need-read-requires
 read-requires c κs = search needs
 
--- src/verdict.rt:119:38
 enum-told : tie.Need-enum-told
 enum-told c = search needs
 
--- src/verdict.rt:120:30
 enum-known-a : tie.Need-enum-known-a
 enum-known-a c = search needs
 
--- src/verdict.rt:120:44
 compare-requires : tie.Need-compare-requires
 compare-requires c κs = (text-complete _ _ _ _ (c .before .before .before .before .before .read .ensures ∙ read-alike _ _ _ (c .before .before .before .before .before .before .before .read-arg .given .0 .1) (c .before .before .before .before .before .before .read-arg2 .given .0 .1)) (c .before .before .before .a .given .1), c .before .before .before .before .before .before .before .before .before .before .pre)
 
--- src/verdict.rt:102:1
 returns : tie.Need-returns
 returns c = search needs
 
--- src/verdict.rt:102:1
 returns-2 : tie.Need-returns-2
 returns-2 c = text-says _ _ _ _ (c .before .before .before .before .before .before .read .ensures ∙ read-alike _ _ _ (c .before .before .before .before .before .before .before .before .read-arg .given .0 .1) (c .before .before .before .before .before .before .before .read-arg2 .given .0 .1)) (c .before .before .before .before .a .given .1) _ (c .compare .result) (c .compare .ensures)
 

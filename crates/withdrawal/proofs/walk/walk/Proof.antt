@@ -12,14 +12,6 @@ use Prim.Native.Nat.{_-_, _<_}
 use denote.Ref.{now}
 use Rattle.withdrawal.proofs.walk.walk.Statement.{statement}
 use Rattle.withdrawal.proofs.walk.walk.Tie as tie
-use Rattle.withdrawal.proofs.walk.walk.Reads as reads
-use Rattle.withdrawal.proofs.walk.walk.Lts as lts
-use Rattle.register.proofs.contents.body.Reads as body-reads
-use Rattle.register.proofs.contents.count.Reads as count-reads
-use Rattle.register.proofs.contents.tag.Reads as tag-reads
-use Rattle.withdrawal.proofs.verdict.judge.Reads as judge-reads
-use Rattle.withdrawal.proofs.walk.conclude.Reads as conclude-reads
-use Rattle.withdrawal.proofs.walk.noted.Reads as noted-reads
 
 abbrev Inv-loop : tie.InvT-loop
 Inv-loop held atoms bonds n m key keys atoms1₀ bonds1₀ count unsure₀ p₀ atoms1 bonds1 unsure p = Seen held (molecule atoms bonds n m) unsure p
@@ -27,54 +19,42 @@ Inv-loop held atoms bonds n m key keys atoms1₀ bonds1₀ count unsure₀ p₀ 
 abbrev μ-loop : tie.MeasureT-loop
 μ-loop held atoms bonds n m key keys atoms1₀ bonds1₀ count unsure₀ p₀ atoms1 bonds1 unsure p = count - p
 
--- src/walk.rt:71:9
 count-requires : tie.Need-count-requires Inv-loop μ-loop
 count-requires c κs = search needs
 
--- src/walk.rt:74:5
 loop-holds : tie.Need-loop-holds Inv-loop μ-loop
 loop-holds c = seen-start _ _
 
--- src/walk.rt:75:13
 body-requires : tie.Need-body-requires Inv-loop μ-loop
 body-requires c κs = search needs
 
--- src/walk.rt:76:13
 judge-requires : tie.Need-judge-requires Inv-loop μ-loop
 judge-requires c κs = search needs
 
--- src/walk.rt:88:57
 enum-told : tie.Need-enum-told Inv-loop μ-loop
 enum-told c = search needs
 
--- src/walk.rt:88:57
 tag-requires : tie.Need-tag-requires Inv-loop μ-loop
 tag-requires c κs = let p = c .before .before .before .before .before .before .before .before .before .before .before .pre .0 in (omega (arith, few-entries _ (p .1), c .before .before .before .before .before .before .loop-test .taken, c .before .before .before .before .before .before .before .before .count .ensures), p .0)
 
--- src/walk.rt:88:32
 returns : tie.Need-returns Inv-loop μ-loop
 returns c = walked-listed _ _ (c .before .before .before .before .before .before .before .before .loop .inv) (omega (arith, c .before .before .before .before .before .before .before .loop-test .taken, c .before .before .before .before .before .before .before .before .before .count .ensures)) (c .tag .ensures) (said _ (c .before .before .before .before .before .before .body .ensures) (c .before .enum-told .given .1) (c .before .before .before .judge .ensures))
 
 enum-told-2 : tie.Need-enum-told-2 Inv-loop μ-loop
 enum-told-2 c = search needs
 
--- src/walk.rt:90:32
 enum-told-3 : tie.Need-enum-told-3 Inv-loop μ-loop
 enum-told-3 c = search needs
 
--- src/walk.rt:90:32
 noted-requires : tie.Need-noted-requires Inv-loop μ-loop
 noted-requires c κs = search needs
 
--- src/walk.rt:92:9
 add-p : tie.Need-add-p Inv-loop μ-loop
 add-p c = search needs
 
--- src/walk.rt:74:5
 loop-less : tie.Need-loop-less Inv-loop μ-loop
 loop-less c = search needs
 
--- src/walk.rt:74:5
 loop-again : tie.Need-loop-again Inv-loop μ-loop
 loop-again c =
     let a = c .before .before .before .before .before .before .before .before .before .before .args in
@@ -84,11 +64,9 @@ loop-again c =
     (λ h. seen-same (now (a .held)) (molecule (now (a .atoms)) (now (a .bonds)) (a .n) (a .m)) (h .2) (seen-other _ _ (c .before .before .before .before .before .before .loop .inv) l (said _ (c .before .before .before .before .body .ensures) (h .1 .given .1) (c .before .judge .ensures))))
     (λ h. seen-unsure _ _ (c .before .before .before .before .before .before .loop .inv) l k (h .3 ∙ h .2 .ensures)) (c .match .came)
 
--- src/walk.rt:94:5
 conclude-requires : tie.Need-conclude-requires Inv-loop μ-loop
 conclude-requires c κs = search needs
 
--- src/walk.rt:55:1
 returns-2 : tie.Need-returns-2 Inv-loop μ-loop
 returns-2 c = walked-end _ _ (c .before .before .loop .inv) (omega (arith, c .before .loop-test .left, c .before .before .before .count .ensures)) (c .conclude .ensures)
 
