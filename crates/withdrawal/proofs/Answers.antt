@@ -20,22 +20,22 @@ use Rattle.redrawing.specs.Redrawn.{Redrawn}
 use Rattle.withdrawal.specs.declared.verdict.Verdict.{Verdict}
 use Rattle.withdrawal.specs.declared.walk.Withdrawn.{Withdrawn}
 use Rattle.withdrawal.specs.Withdrawal.{readText, accepted, drawn, Drawings, WithdrawnOut, refusedWith, True, Answered}
-use Rattle.withdrawal.specs.Verdict.{Says}
+use Rattle.withdrawal.specs.Verdict.{Holds}
 use Rattle.withdrawal.specs.Answer.{outOf}
 use Rattle.withdrawal.specs.Walk.{Walked}
-use Rattle.withdrawal.proofs.Calls.{code-not-zero, readBlank}
-use Rattle.withdrawal.proofs.Verdicts.{text-accepted, text-drawn}
+use Rattle.withdrawal.proofs.Calls.{readBlank}
+use Rattle.withdrawal.proofs.Verdicts.{text-refused, text-accepted, text-drawn}
 
 -- two Bools that one thing cannot both be
 apart : {A : Type 0} {b : Bool} → b ≡ true → b ≡ false → A
 apart e d = never (sym d ∙ e)
 
 -- verdicts that say what they say of the bodies are true
-listed-drawings : (b s : List ℕ) (v : Verdict) → accepted s ≡ true → v ≡ Verdict.Listed → Says b (folded (drawn s)) v → Drawings b s
-listed-drawings b s v a e w = let z = subst (Says b (folded (drawn s))) e w in record { first = z .0; second = a; redrawn = record { drawing = z .1 } }
+listed-drawings : (b s : List ℕ) (v : Verdict) → accepted s ≡ true → v ≡ Verdict.Listed → Holds b (folded (drawn s)) v → Drawings b s
+listed-drawings b s v a e w = let z = subst (Holds b (folded (drawn s))) e w in record { first = z .0; second = a; redrawn = record { drawing = z .1 } }
 
-other-none : (b s : List ℕ) (v : Verdict) → v ≡ Verdict.Other → Says b (folded (drawn s)) v → (accepted b ≡ true) × (Redrawn (drawn b) (drawn s) → ⊥)
-other-none b s v e w = let z = subst (Says b (folded (drawn s))) e w in (z .0, λ d. z .1 (d .drawing))
+other-none : (b s : List ℕ) (v : Verdict) → v ≡ Verdict.Other → Holds b (folded (drawn s)) v → (accepted b ≡ true) × (Redrawn (drawn b) (drawn s) → ⊥)
+other-none b s v e w = let z = subst (Holds b (folded (drawn s))) e w in (z .0, λ d. z .1 (d .drawing))
 
 module _ (r s : List ℕ) where
   pub short-answered : length r < size → Answered r s (refusedWith 1 0)
@@ -55,7 +55,7 @@ module _ (r s : List ℕ) where
       unfolding readText
       unread-answered {c} {p} {z} e d =
           let t : told (reply.ReadAnswer.Refused c p) a b ≡ readBlank s = sym (ap (λ (y : reply.ReadAnswer). told y a b) e) ∙ read in
-          let n : accepted s ≡ false = sym (ap (λ (q : ReadResult). eqb (q .code) 0) t) ∙ code-not-zero c in
+          let n = text-refused s a b x read e in
           record {
             short = λ e. apart e full;
             invalid = λ e u. apart v u;
@@ -80,5 +80,6 @@ module _ (r s : List ℕ) where
                         no = λ p l f. other-none (bodyOf r p) s (q .verdict p) f (q .says p l);
                       };
                   is = q .is;
+                  undecided = q .undecided;
                 };
           }

@@ -10,7 +10,7 @@ use Rattle.table.proofs.Keys.{never}
 use Rattle.register.specs.Layout.{size, valid, count, bodyOf}
 use Rattle.redrawing.proofs.Claims.{redrawn-sym, redrawn-trans}
 use Rattle.withdrawal.specs.declared.verdict.Verdict.{Verdict}
-use Rattle.withdrawal.specs.Withdrawal.{accepted, Drawings, isListed, isUnsure, Place, nowhere, at, firstOf, WithdrawnOut, ofListed, judgedBy, Answered}
+use Rattle.withdrawal.specs.Withdrawal.{accepted, Drawings, isListed, isUnsure, Place, nowhere, at, firstOf, WithdrawnOut, ofListed, judgedBy, Open, Answered}
 use Rattle.withdrawal.proofs.First.{Found, found}
 
 -- which verdict a test tells
@@ -58,6 +58,10 @@ module _ (r : List ℕ) (full : ltb (length r) size ≡ false) (right : valid r 
       let j = w .judged full right a in
       let m = withdrawn-means (j .verdict) r (sym (ap (λ (o : WithdrawnOut). o .answer) (j .is)) ∙ e) in
       (m .0, m .1, j .true-verdicts .yes (m .0) (m .1) (m .2))
+
+  -- undecided only by an entry whose body is not read, or whose compound has the key of the text's
+  pub undecided-by : (q : List ℕ) (out : WithdrawnOut) → Answered r q out → accepted q ≡ true → out .answer ≡ 2 → (out .entry < count r) × Open (bodyOf r (out .entry)) q
+  undecided-by q out w a e = w .judged full right a .undecided e
 
   -- a drawing does not matter: where one drawing of a compound is clear, no other is withdrawn
   pub drawing-no-matter : (q s : List ℕ) (out1 out2 : WithdrawnOut) → Answered r q out1 → Answered r s out2 → Drawings q s → out1 .answer ≡ 0 → out2 .answer ≡ 1 → ⊥

@@ -18,7 +18,7 @@ use Rattle.folding.specs.Folding.{folded}
 use Rattle.withdrawal.specs.declared.verdict.Verdict.{Verdict}
 use Rattle.withdrawal.specs.declared.walk.Withdrawn.{Withdrawn}
 use Rattle.withdrawal.specs.Withdrawal.{isListed, isUnsure, Place, nowhere, at, orElse, firstOf, answers, ofUnsure, ofListed, judgedBy}
-use Rattle.withdrawal.specs.Verdict.{Says}
+use Rattle.withdrawal.specs.Verdict.{Says, Holds}
 use Rattle.withdrawal.specs.Answer.{outOf}
 use Rattle.withdrawal.specs.Walk.{placeOf, Seen, Walked}
 
@@ -61,17 +61,17 @@ more-after v p w rest q l = rw (ne-eqb q p (λ e. omega arith), le-ltb q p (omeg
 module _ (r : List ℕ) (y : Molecule) where
   pub seen-start : Seen r y maxEntries 0
   unfolding firstOf
-  seen-start = record { verdict = λ q. Verdict.Unsure; within = omega arith; says = λ q l. absurd (omega arith); none-listed = refl; first-unsure = refl }
+  seen-start = record { verdict = λ q. Verdict.Unsure; within = omega arith; says = λ q l. absurd (omega arith); none-listed = refl; first-unsure = refl; reason = λ e. never (sym e) }
 
   pub seen-same : {u v p : ℕ} → v ≡ u → Seen r y u p → Seen r y v p
   seen-same {u} {v} {p} e s = subst (λ (z : ℕ). Seen r y z p) (sym e) s
 
   module _ {u p : ℕ} (s : Seen r y u p) where
     -- what is said of the entries up to this one
-    up-to : (w rest : Verdict) → Says (bodyOf r p) y w → (q : ℕ) → q < p + 1 → Says (bodyOf r q) y (more (s .verdict) p w rest q)
+    up-to : (w rest : Verdict) → Holds (bodyOf r p) y w → (q : ℕ) → q < p + 1 → Holds (bodyOf r q) y (more (s .verdict) p w rest q)
     up-to w rest z q l = go (ℕ-discrete q p)
       where
-        go : Dec (q ≡ p) → Says (bodyOf r q) y (more (s .verdict) p w rest q)
+        go : Dec (q ≡ p) → Holds (bodyOf r q) y (more (s .verdict) p w rest q)
         go (yes e) = rw e (rw (more-at (s .verdict) p w rest) z)
         go (no e) = rw (more-before (s .verdict) p w rest q (omega arith)) (s .says q (omega arith))
 
@@ -82,25 +82,34 @@ module _ (r : List ℕ) (y : Molecule) where
         ∙ ap (λ (z : Place). orElse z (pick (t (more (s .verdict) p w rest p)) (at p) nowhere)) (first-same (λ q. t (more (s .verdict) p w rest q)) (λ q. t (s .verdict q)) p (λ q l. ap t (more-before (s .verdict) p w rest q l)))
         ∙ ap (λ (z : Verdict). orElse (firstOf (λ q. t (s .verdict q)) p) (pick (t z) (at p) nowhere)) (more-at (s .verdict) p w rest)
 
-    seen-more : (w : Verdict) → isListed w ≡ false → p < count r → Says (bodyOf r p) y w → (u′ : ℕ) → orElse (placeOf u) (pick (isUnsure w) (at p) nowhere) ≡ placeOf u′ → Seen r y u′ (p + 1)
-    seen-more w h l z u′ e =
+    seen-more : (w : Verdict) → isListed w ≡ false → p < count r → Holds (bodyOf r p) y w → (u′ : ℕ) → orElse (placeOf u) (pick (isUnsure w) (at p) nowhere) ≡ placeOf u′
+        → (eqb u′ maxEntries ≡ false → (u′ < p + 1) × Says (bodyOf r u′) y Verdict.Unsure) → Seen r y u′ (p + 1)
+    seen-more w h l z u′ e g =
         record {
           verdict = more (s .verdict) p w Verdict.Unsure;
           within = omega arith;
           says = up-to w Verdict.Unsure z;
           none-listed = one-more isListed w Verdict.Unsure ∙ ap (λ (k : Place). orElse k (pick (isListed w) (at p) nowhere)) (s .none-listed) ∙ ap (λ (k : Bool). pick k (at p) nowhere) h;
           first-unsure = one-more isUnsure w Verdict.Unsure ∙ ap (λ (k : Place). orElse k (pick (isUnsure w) (at p) nowhere)) (s .first-unsure) ∙ e;
+          reason = g;
         }
 
-    pub seen-other : p < count r → Says (bodyOf r p) y Verdict.Other → Seen r y u (p + 1)
-    seen-other l z = seen-more Verdict.Other refl l z u (or-nowhere (placeOf u))
+    earlier : eqb u maxEntries ≡ false → (u < p + 1) × Says (bodyOf r u) y Verdict.Unsure
+    earlier f = (omega (arith, s .reason f .0), s .reason f .1)
 
-    pub seen-unsure : p < count r → p < maxEntries → {u′ : ℕ} → u′ ≡ pick (eqb u maxEntries) p u → Seen r y u′ (p + 1)
-    seen-unsure l k {u′} e = seen-more Verdict.Unsure refl l tt u′ (go (eqb u maxEntries) refl ∙ ap placeOf (sym e))
+    pub seen-other : p < count r → Says (bodyOf r p) y Verdict.Other → Seen r y u (p + 1)
+    seen-other l z = seen-more Verdict.Other refl l z u (or-nowhere (placeOf u)) earlier
+
+    pub seen-unsure : p < count r → p < maxEntries → Says (bodyOf r p) y Verdict.Unsure → {u′ : ℕ} → u′ ≡ pick (eqb u maxEntries) p u → Seen r y u′ (p + 1)
+    seen-unsure l k z {u′} e = seen-more Verdict.Unsure refl l tt u′ (go (eqb u maxEntries) refl ∙ ap placeOf (sym e)) (why (eqb u maxEntries) refl)
       where
         go : (b : Bool) → eqb u maxEntries ≡ b → orElse (placeOf u) (at p) ≡ placeOf (pick (eqb u maxEntries) p u)
         go true d = rw d (sym (ap (λ (z : Bool). pick z nowhere (at p)) (ne-eqb p maxEntries (λ x. omega arith))))
         go false d = rw d (sym (ap (λ (z : Bool). pick z nowhere (at u)) d))
+
+        why : (b : Bool) → eqb u maxEntries ≡ b → eqb u′ maxEntries ≡ false → (u′ < p + 1) × Says (bodyOf r u′) y Verdict.Unsure
+        why true d f = let x : u′ ≡ p = e ∙ ap (λ (c : Bool). pick c p u) d in subst (λ (n : ℕ). (n < p + 1) × Says (bodyOf r n) y Verdict.Unsure) (sym x) (omega arith, z)
+        why false d f = let x : u′ ≡ u = e ∙ ap (λ (c : Bool). pick c p u) d in subst (λ (n : ℕ). (n < p + 1) × Says (bodyOf r n) y Verdict.Unsure) (sym x) (earlier d)
 
     -- the end of the register
     pub walked-end : count r ≤ p → {x : Withdrawn} → x ≡ pick (eqb u maxEntries) Withdrawn.Clear (Withdrawn.Undecided u) → Walked r y x
@@ -114,8 +123,15 @@ module _ (r : List ℕ) (y : Molecule) where
               ap outOf e ∙ go (eqb u maxEntries)
               ∙ sym (ap (λ (k : Place). ofListed r k (placeOf u)) (s .none-listed)) ∙ ap (λ (k : Place). ofListed r (firstOf (λ q. isListed (s .verdict q)) p) k) (sym (s .first-unsure))
               ∙ ap (λ (z : ℕ). ofListed r (firstOf (λ q. isListed (s .verdict q)) z) (firstOf (λ q. isUnsure (s .verdict q)) z)) d;
+          undecided = subst (λ (x : Withdrawn). outOf x .answer ≡ 2 → (outOf x .entry < count r) × Says (bodyOf r (outOf x .entry)) y Verdict.Unsure) (sym e) (why (eqb u maxEntries) refl);
         }
       where
+        why : (b : Bool) → eqb u maxEntries ≡ b
+            → outOf (pick b Withdrawn.Clear (Withdrawn.Undecided u)) .answer ≡ 2
+            → (outOf (pick b Withdrawn.Clear (Withdrawn.Undecided u)) .entry < count r) × Says (bodyOf r (outOf (pick b Withdrawn.Clear (Withdrawn.Undecided u)) .entry)) y Verdict.Unsure
+        why true d f = absurd (omega (arith, f))
+        why false d f = (omega (arith, s .reason d .0, s .within), s .reason d .1)
+
         go : (b : Bool) → outOf (pick b Withdrawn.Clear (Withdrawn.Undecided u)) ≡ ofUnsure (pick b nowhere (at u))
         go true = refl
         go false = refl
@@ -132,9 +148,10 @@ module _ (r : List ℕ) (y : Molecule) where
           is =
               ap (λ (z : ℕ). answers 1 z p) e
               ∙ ap (λ (k : Place). ofListed r k (firstOf (λ q. isUnsure (v q)) (count r))) (sym (all f));
+          undecided = λ h. absurd (omega (arith, h));
         }
       where
-        after : (q : ℕ) → q < count r → Dec (p < q) → Says (bodyOf r q) y (more (s .verdict) p Verdict.Listed Verdict.Unsure q)
+        after : (q : ℕ) → q < count r → Dec (p < q) → Holds (bodyOf r q) y (more (s .verdict) p Verdict.Listed Verdict.Unsure q)
         after q k (yes m) = rw (more-after (s .verdict) p Verdict.Listed Verdict.Unsure q m) tt
         after q k (no m) = up-to Verdict.Listed Verdict.Unsure z q (omega arith)
 

@@ -2,6 +2,7 @@
 use Prim.Native.Nat.{ℕ, zero, suc, _*_, _<_}
 use mathlib.Core.Path.{_≡_}
 use mathlib.Core.Bool.{Bool, true, false, not}
+use mathlib.Core.Logic.{_⊎_}
 use mathlib.Core.List.{List}
 use lib.ListN.{length, replicate}
 use lib.IntN.{pos}
@@ -12,7 +13,9 @@ use Rattle.reading.specs.Read.{ReadResult, readOf}
 use Rattle.register.specs.Layout.{size, valid, count, tagOf, bodyOf}
 use Rattle.register.specs.Answers.{addedOf}
 use Rattle.same_model.specs.Same.{Molecule, molecule}
+use Rattle.folding.specs.Folding.{folded}
 use Rattle.redrawing.specs.Redrawn.{Redrawn}
+use Rattle.drawing_key.specs.Key.{keyOf}
 use Rattle.withdrawal.specs.declared.verdict.Verdict.{Verdict}
 
 -- ---- texts
@@ -107,11 +110,16 @@ pub record True (r s : List ℕ) (v : ℕ → Verdict) : Type 0 where
   pub yes : (p : ℕ) → p < count r → v p ≡ Verdict.Listed → Drawings (bodyOf r p) s
   pub no : (p : ℕ) → p < count r → v p ≡ Verdict.Other → (accepted (bodyOf r p) ≡ true) × (Redrawn (drawn (bodyOf r p)) (drawn s) → ⊥)
 
+-- "could not be decided (its body is not read, or the search spent its steps)": a search there is only where the compounds have one key
+abbrev pub Open : List ℕ → List ℕ → Type 0
+Open b s = (accepted b ≡ false) ⊎ (keyOf (folded (drawn b)) ≡ keyOf (folded (drawn s)))
+
 -- what is asked of a register of full length and right layout by an accepted text
 pub record Judged (r s : List ℕ) (out : WithdrawnOut) : Type 0 where
   pub verdict : ℕ → Verdict
   pub true-verdicts : True r s verdict
   pub is : out ≡ judgedBy verdict r
+  pub undecided : out .answer ≡ 2 → (out .entry < count r) × Open (bodyOf r (out .entry)) s
 
 -- "1 and 17, then a text that cannot be read is refused with its code and place"
 pub record Answered (r s : List ℕ) (out : WithdrawnOut) : Type 0 where

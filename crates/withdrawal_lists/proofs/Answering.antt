@@ -10,7 +10,7 @@ use Rattle.table.proofs.Keys.{never}
 use Rattle.register.specs.Layout.{size, count, valid, listedOf}
 use Rattle.redrawing.specs.Redrawn.{Redrawn}
 use Rattle.withdrawal.specs.declared.verdict.Verdict.{Verdict}
-use Rattle.withdrawal.specs.Withdrawal.{accepted, drawn, Drawings, isListed, isUnsure, Place, nowhere, at, firstOf, WithdrawnOut, answers, ofListed, judgedBy, True, Answered}
+use Rattle.withdrawal.specs.Withdrawal.{accepted, drawn, Drawings, isListed, isUnsure, Place, nowhere, at, firstOf, WithdrawnOut, answers, ofListed, judgedBy, True, Open, Answered}
 use Rattle.withdrawal.proofs.First.{Found, found}
 use Rattle.withdrawal_lists.specs.Lists.{SameAnswers}
 use Rattle.withdrawal_lists.proofs.Listing.{valid-alike, count-alike, tag-alike, body-alike}
@@ -53,6 +53,8 @@ module _ (r z : List ℕ) (same : listedOf r ≡ listedOf z) (full : size ≤ le
               verdict = j .verdict;
               true-verdicts = true-alike r z same (valid-too e) q (j .verdict) (j .true-verdicts);
               is = j .is ∙ judged-alike r z same (valid-too e) (j .verdict);
+              undecided = λ f. let u = j .undecided f in
+                  (omega (arith, u .0, count-alike r z same (valid-too e)), subst (λ (b : List ℕ). Open b q) (body-alike r z same (valid-too e) (out .entry) (u .0)) (u .1));
             };
       }
 

@@ -16,9 +16,10 @@ use Rattle.register.specs.declared.RegisterAnswer.the-variants.{Done, Full}
 use Rattle.register.specs.Answers.{codeOf, emptiedOf, addedOf}
 use Rattle.register.specs.Calls.{roomFor, addTo, addTold}
 use Rattle.register.proofs.Plain.{empty-is, empty-length, told-is}
-use Rattle.withdrawal.specs.declared.verdict.Verdict.{Verdict}
-use Rattle.withdrawal.specs.Withdrawal.{accepted, Drawings, withdrawOf, isListed, isUnsure, Place, nowhere, at, firstOf, WithdrawnOut, ofListed, judgedBy, Answered}
-use Rattle.withdrawal.proofs.First.{Found, found}
+use Rattle.table.proofs.Keys.{never}
+use Rattle.folding.specs.Folding.{folded}
+use Rattle.drawing_key.specs.Key.{keyOf}
+use Rattle.withdrawal.specs.Withdrawal.{accepted, Drawings, withdrawOf, WithdrawnOut, Answered, drawn, Open}
 use Rattle.withdrawal.proofs.Claims.{never-clear}
 use Rattle.withdrawal_lists.specs.Lists.{Call, withdrawing, cutting, TagsFit, cutOf, leavesAll, madeBy, withdrawTo, EveryRead, HasEntry, SameAnswers, Settled, none, whole, made, lost}
 use Rattle.withdrawal_lists.proofs.Listing.{noEntry, right-listed, entries-length, entries-at, entries-listed}
@@ -105,25 +106,17 @@ settled-answers cs r full h =
     (i .0, i .1, listed-answers (madeBy cs r) (madeBy (i .0) r) (i .2) (omega (arith, full, made-length cs r full)) (omega (arith, full, made-length (i .0) r full)))
 
 -- ---- undecided
-undecided-by : (r : List ℕ) (v : ℕ → Verdict) (y o : Place) → Found (λ p. isUnsure (v p)) (count r) o → ofListed r y o .answer ≡ 2 → ofListed r y o .entry < count r
-undecided-by r v (at p) o w e = absurd (omega (arith, e))
-undecided-by r v nowhere nowhere w e = absurd (omega (arith, e))
-undecided-by r v nowhere (at p) w e = w .0
-
-undecided-at : (r : List ℕ) (v : ℕ → Verdict) → judgedBy v r .answer ≡ 2 → judgedBy v r .entry < count r
-unfolding judgedBy
-undecided-at r v e = undecided-by r v (firstOf (λ p. isListed (v p)) (count r)) (firstOf (λ p. isUnsure (v p)) (count r)) (found (λ p. isUnsure (v p)) (count r)) e
-
-undecided-entry : (r : List ℕ) → EveryRead r → (q : List ℕ) (out : WithdrawnOut) → Answered r q out → out .answer ≡ 2 → (b : Bool) → accepted q ≡ b → out .entry < count r
+undecided-entry : (r : List ℕ) → EveryRead r → (q : List ℕ) (out : WithdrawnOut) → Answered r q out → out .answer ≡ 2 → (b : Bool) → accepted q ≡ b → (out .entry < count r) × Open (bodyOf r (out .entry)) q
 undecided-entry r w q out a e false f = absurd (omega (arith, e, ap (λ (o : WithdrawnOut). o .answer) (a .unread (le-ltb (length r) size (w .full)) (w .right) f)))
-undecided-entry r w q out a e true f =
-    let j = a .judged (le-ltb (length r) size (w .full)) (w .right) f in
-    let i : judgedBy (j .verdict) r .answer ≡ 2 = sym (ap (λ (o : WithdrawnOut). o .answer) (j .is)) ∙ e in
-    omega (arith, undecided-at r (j .verdict) i, ap (λ (o : WithdrawnOut). o .entry) (j .is))
+undecided-entry r w q out a e true f = a .judged (le-ltb (length r) size (w .full)) (w .right) f .undecided e
 
--- WHERE EVERY BODY IS READ, undecided names an entry whose body is read: none is undecided for want of reading
-pub undecided-read : (r : List ℕ) → EveryRead r → (q : List ℕ) (out : WithdrawnOut) → Answered r q out → out .answer ≡ 2 → (out .entry < count r) × (accepted (bodyOf r (out .entry)) ≡ true)
-undecided-read r w q out a e = let l = undecided-entry r w q out a e (accepted q) refl in (l, w .bodies (out .entry) l)
+-- WHERE EVERY BODY IS READ, undecided names an entry that is read and has the key of the text: none is undecided for want of reading
+pub undecided-read : (r : List ℕ) → EveryRead r → (q : List ℕ) (out : WithdrawnOut) → Answered r q out → out .answer ≡ 2
+    → (out .entry < count r) × (accepted (bodyOf r (out .entry)) ≡ true) × (keyOf (folded (drawn (bodyOf r (out .entry)))) ≡ keyOf (folded (drawn q)))
+undecided-read r w q out a e =
+    let u = undecided-entry r w q out a e (accepted q) refl in
+    let h = w .bodies (out .entry) (u .0) in
+    (u .0, h, ⊎-elim (λ n. never (sym n ∙ h)) (λ k. k) (u .1))
 
 -- ---- a withdrawal holds
 done-has-by : (t : ℕ) (s : List ℕ) (l : Listed) → codeOf (addTold l (length s)) ≡ 0 → (p : ℕ) × Has p (newEntry t s) (addTo t s l)

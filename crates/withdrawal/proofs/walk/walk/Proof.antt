@@ -62,7 +62,7 @@ loop-again c =
     let k : c .before .before .before .before .before .before .loop .p < 64 = omega (arith, few-entries _ (c .before .before .before .before .before .before .before .before .before .before .pre .0 .1), l) in
     ⊎-elim
     (λ h. seen-same (now (a .held)) (molecule (now (a .atoms)) (now (a .bonds)) (a .n) (a .m)) (h .2) (seen-other _ _ (c .before .before .before .before .before .before .loop .inv) l (said _ (c .before .before .before .before .body .ensures) (h .1 .given .1) (c .before .judge .ensures))))
-    (λ h. seen-unsure _ _ (c .before .before .before .before .before .before .loop .inv) l k (h .3 ∙ h .2 .ensures)) (c .match .came)
+    (λ h. seen-unsure _ _ (c .before .before .before .before .before .before .loop .inv) l k (said _ (c .before .before .before .before .body .ensures) (h .1 .given .1) (c .before .judge .ensures)) (h .3 ∙ h .2 .ensures)) (c .match .came)
 
 conclude-requires : tie.Need-conclude-requires Inv-loop μ-loop
 conclude-requires c κs = search needs
