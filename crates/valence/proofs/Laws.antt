@@ -1,12 +1,12 @@
 -- Laws of valence: bounds for callers, and the room that a row of targets leaves. Assumes nothing.
 use mathlib.Core.Path.{_≡_, refl, sym, ap, _∙_}
-use mathlib.Core.Bool.{Bool, true, false, _&&_}
+use mathlib.Core.Bool.{Bool, true, false, _&&_, _||_, true≢false}
 use mathlib.Core.List.{List, [], _∷_}
 use Prim.Native.Nat.{ℕ, _+_, _-_, _≤_, _<_}
 use native.Mathlib.Omega.{arith}
 use lib.Dec.{eqb, leb, ltb}
 use lib.ListN.{length, take, getD}
-use borrow.Author.Tests.{eq-eqb, ne-eqb, le-leb, lt-leb, leb-true, ltb-true, ltb-false}
+use borrow.Author.Tests.{eq-eqb, ne-eqb, le-leb, lt-leb, leb-true, leb-false, lt-ltb, ltb-true, ltb-false, eqb-true, eqb-false}
 use Rattle.loops.specs.Loop.{pick}
 use Rattle.loops.proofs.Loops.{and-left, and-right}
 use Rattle.valence.specs.Valence.{targets, targetRow, headOr0, firstTarget, targetsFor, firstFitting, reachedIn, valuesOf, hydrogensOf, implied}
@@ -162,28 +162,134 @@ module _ (e selected s : ℕ) {f : ℕ} (i : f ≡ firstTarget e) where
 pub room-by : {r x : Reached} (s n : ℕ) → r ≡ x → n ≡ valuesOf x .target - s → n ≡ valuesOf r .target - s
 room-by s n e h = h ∙ ap (λ y. valuesOf y .target - s) (sym e)
 
--- one law for each return of `implied`
+-- one law for each return of `up_to_first` and of `implied`
 abbrev start : Bool → ℕ
 start t = pick t 1 0
 
-less-start : (t : Bool) (v s n : ℕ) → n ≡ v - s → (t && ltb 0 n) ≡ true → n - 1 ≡ v - (s + start t)
-less-start true v s n h g = omega arith
-less-start false v s n h g = absurd (let q : _≡_ {A = ℕ} 0 1 = cc in omega arith)
+one-less : (t : Bool) (f s : ℕ) → (t && ltb 0 (f - s)) ≡ true → f - s - 1 ≡ f - (s + start t)
+one-less true f s g = omega arith
+one-less false f s g = absurd (true≢false (sym g))
 
-no-start : (t : Bool) (v s n : ℕ) → n ≡ v - s → (t && ltb 0 n) ≡ false → n ≡ v - (s + start t)
-no-start true v s n h g = omega (arith, ltb-false 0 n g)
-no-start false v s n h g = omega arith
+no-less : (t : Bool) (f s : ℕ) → (t && ltb 0 (f - s)) ≡ false → f - s ≡ f - (s + start t)
+no-less true f s g = omega (arith, ltb-false 0 (f - s) g)
+no-less false f s g = omega arith
 
-pub counted : (selected n : ℕ) → (eqb selected 1 && ltb 0 n) ≡ true → 1 ≤ n
-counted selected n g = omega (arith, ltb-true 0 n (and-right (eqb selected 1) (ltb 0 n) g))
+module _ (f selected s : ℕ) where
+  pub left-some : (eqb selected 1 && ltb 0 (f - s)) ≡ true → 1 ≤ f - s
+  left-some g = omega (arith, ltb-true 0 (f - s) (and-right (eqb selected 1) (ltb 0 (f - s)) g))
 
-module _ (e selected s : ℕ) {r : Reached} {n : ℕ} (i : r ≡ reachedIn (targetsFor e selected) s) (h : n ≡ valuesOf r .target - s) where
+  pub first-less : (eqb selected 1 && ltb 0 (f - s)) ≡ true → f - s - 1 ≡ f - (s + start (eqb selected 1))
+  first-less g = one-less (eqb selected 1) f s g
+
+  pub first-whole : (eqb selected 1 && ltb 0 (f - s)) ≡ false → f - s ≡ f - (s + start (eqb selected 1))
+  first-whole g = no-less (eqb selected 1) f s g
+
+-- a selected atom whose sum is not below its first target has no hydrogens
+selected-full : (l : List ℕ) (s : ℕ) → headOr0 l ≤ s → valuesOf (reachedIn (take 1 l) s) .target ≤ s
+unfolding reachedIn firstFitting
+selected-full [] s h = omega arith
+selected-full (t ∷ ts) s h = go (leb s t)
+  where
+    go : (b : Bool) → valuesOf (pick b (Target t) AboveAll) .target ≤ s
+    go true = h
+    go false = omega arith
+
+full-count : (t : Bool) (l : List ℕ) (s : ℕ) → headOr0 l ≤ s → valuesOf (reachedIn (taken t l) s) .target - s ≡ valuesOf (reachedIn (taken t l) s) .target - (s + start t)
+full-count true l s h = omega (arith, selected-full l s h)
+full-count false l s h = omega arith
+
+pub not-above : (f s : ℕ) → (ltb 0 f && leb s f) ≡ true → s ≤ f
+not-above f s h = leb-true s f (and-right (ltb 0 f) (leb s f) h)
+
+none-below : (f s : ℕ) → (ltb 0 f && leb s f) ≡ false → f ≤ s
+none-below f s h = go (ltb 0 f) refl (leb s f) refl h
+  where
+    go : (t : Bool) → ltb 0 f ≡ t → (u : Bool) → leb s f ≡ u → (t && u) ≡ false → f ≤ s
+    go true p true q g = absurd (true≢false g)
+    go true p false q g = omega (arith, leb-false s f q)
+    go false p u q g = omega (arith, ltb-false 0 f p)
+
+module _ (e selected s : ℕ) {r : Reached} (i : r ≡ reachedIn (targetsFor e selected) s) where
   answered : {k : ℕ} → k ≡ valuesOf r .target - (s + start (eqb selected 1)) → _≡_ {A = Hydrogens} (record { count = k; reached = r }) (hydrogensOf e selected s)
   unfolding hydrogensOf
   answered p = (λ j. record { count = p j; reached = r }) ∙ ap (λ (y : Reached). record { count = valuesOf y .target - (s + start (eqb selected 1)); reached = y }) i
 
-  pub implied-less : (eqb selected 1 && ltb 0 n) ≡ true → _≡_ {A = Hydrogens} (record { count = n - 1; reached = r }) (hydrogensOf e selected s)
-  implied-less g = answered (less-start (eqb selected 1) (valuesOf r .target) s n h g)
+  pub implied-full : {f n : ℕ} → f ≡ firstTarget e → (ltb 0 f && leb s f) ≡ false → n ≡ valuesOf r .target - s → _≡_ {A = Hydrogens} (record { count = n; reached = r }) (hydrogensOf e selected s)
+  unfolding firstTarget
+  implied-full {f} g h p =
+      answered (p ∙ ap (λ y. valuesOf y .target - s) i ∙ full-count (eqb selected 1) (targets e) s (omega (arith, none-below f s h)) ∙ ap (λ y. valuesOf y .target - (s + start (eqb selected 1))) (sym i))
 
-  pub implied-whole : (eqb selected 1 && ltb 0 n) ≡ false → _≡_ {A = Hydrogens} (record { count = n; reached = r }) (hydrogensOf e selected s)
-  implied-whole g = answered (no-start (eqb selected 1) (valuesOf r .target) s n h g)
+pub implied-first : (e selected s : ℕ) {f k : ℕ} → f ≡ firstTarget e → (ltb 0 f && leb s f) ≡ true → k ≡ f - (s + start (eqb selected 1)) → _≡_ {A = Hydrogens} (record { count = k; reached = Target f }) (hydrogensOf e selected s)
+implied-first e selected s {f} i h p =
+    let l = ltb-true 0 f (and-left (ltb 0 f) (leb s f) h) in
+    answered e selected s (reach-first e selected s i (omega arith) (not-above f s h)) p
+
+-- ---- the table by tests
+-- the first target of carbon, nitrogen, oxygen and fluorine
+pub first-light : (e : ℕ) → (ltb 5 e && ltb e 10) ≡ true → 10 - e ≡ firstTarget e
+unfolding firstTarget targets
+first-light e h =
+    let l = ltb-true 5 e (and-left (ltb 5 e) (ltb e 10) h) in
+    let m = ltb-true e 10 (and-right (ltb 5 e) (ltb e 10) h) in
+    go (eqb e 6) refl (eqb e 7) refl (eqb e 8) refl l m
+  where
+    go : (t : Bool) → eqb e 6 ≡ t → (u : Bool) → eqb e 7 ≡ u → (v : Bool) → eqb e 8 ≡ v → 5 < e → e < 10 → 10 - e ≡ firstTarget e
+    go true p u q v r l m = rw (eqb-true e 6 p)
+    go false p true q v r l m = rw (eqb-true e 7 q)
+    go false p false q true r l m = rw (eqb-true e 8 r)
+    go false p false q false r l m =
+        let x = eqb-false e 6 p in
+        let y = eqb-false e 7 q in
+        let w = eqb-false e 8 r in
+        let z : e ≡ 9 = omega arith in
+        rw z
+
+pub light-low : (e : ℕ) → (ltb 5 e && ltb e 10) ≡ true → e < 10
+light-low e h = ltb-true e 10 (and-right (ltb 5 e) (ltb e 10) h)
+
+pub not-light : (e k : ℕ) → (ltb 5 e && ltb e 10) ≡ false → 5 < k → k < 10 → e ≡ k → ⊥
+not-light e k h l m p = true≢false (simp (lt-ltb 5 e (omega arith), lt-ltb e 10 (omega arith)) at h)
+
+-- the elements with a second target, and the others
+or-false : (a b : Bool) → (a || b) ≡ false → (a ≡ false) × (b ≡ false)
+or-false true b h = absurd (true≢false h)
+or-false false b h = (refl, h)
+
+abbrev lone : List ℕ → Bool
+lone l = eqb (getD l 1 0) 0 && eqb (getD l 2 0) 0
+
+lone-targets : (e : ℕ) → eqb e 7 ≡ false → eqb e 15 ≡ false → eqb e 16 ≡ false → lone (targets e) ≡ true
+unfolding targets
+lone-targets e p q r =
+    rw (p, q, r)
+    (test-pick lone (eqb e 5) (3 ∷ []) _ refl
+    (test-pick lone (eqb e 6) (4 ∷ []) _ refl
+    (test-pick lone (eqb e 8) (2 ∷ []) _ refl
+    (test-pick lone (eqb e 9) (1 ∷ []) _ refl
+    (test-pick lone (eqb e 17) (1 ∷ []) _ refl
+    (test-pick lone (eqb e 35) (1 ∷ []) _ refl
+    (test-pick lone (eqb e 53) (1 ∷ []) _ refl
+    (test-pick lone (eqb e 85) (1 ∷ []) _ refl
+    (test-pick lone (eqb e 117) (1 ∷ []) [] refl refl)))))))))
+
+pub row-sulfur : (e : ℕ) → e ≡ 16 → _≡_ {A = Targets} (record { 0 = 2; 1 = 4; 2 = 6 }) (targetRow e)
+unfolding targets
+row-sulfur e p = rw p
+
+pub row-two : (e : ℕ) → (eqb e 7 || eqb e 15) ≡ true → _≡_ {A = Targets} (record { 0 = 3; 1 = 5; 2 = 0 }) (targetRow e)
+unfolding targets
+row-two e h = go (eqb e 7) refl (eqb e 15) refl h
+  where
+    go : (t : Bool) → eqb e 7 ≡ t → (u : Bool) → eqb e 15 ≡ u → (t || u) ≡ true → _≡_ {A = Targets} (record { 0 = 3; 1 = 5; 2 = 0 }) (targetRow e)
+    go true p u q g = rw (eqb-true e 7 p)
+    go false p true q g = rw (eqb-true e 15 q)
+    go false p false q g = absurd (true≢false (sym g))
+
+pub row-lone : (e f : ℕ) → f ≡ firstTarget e → (e ≡ 16 → ⊥) → (eqb e 7 || eqb e 15) ≡ false → _≡_ {A = Targets} (record { 0 = f; 1 = 0; 2 = 0 }) (targetRow e)
+row-lone e f i n h =
+    let o = or-false (eqb e 7) (eqb e 15) h in
+    let l = lone-targets e (o .0) (o .1) (ne-eqb e 16 n) in
+    let x : f ≡ getD (targets e) 0 0 = i ∙ first-is e in
+    let y : 0 ≡ getD (targets e) 1 0 = sym (eqb-true (getD (targets e) 1 0) 0 (and-left (eqb (getD (targets e) 1 0) 0) (eqb (getD (targets e) 2 0) 0) l)) in
+    let z : 0 ≡ getD (targets e) 2 0 = sym (eqb-true (getD (targets e) 2 0) 0 (and-right (eqb (getD (targets e) 1 0) 0) (eqb (getD (targets e) 2 0) 0) l)) in
+    λ j. record { 0 = x j; 1 = y j; 2 = z j }

@@ -1,9 +1,11 @@
 // Valence: target valences, implied hydrogens, and the delocalization rule.
 ghost use mathlib.Core.Path.{_≡_};
-ghost use Prim.Native.Nat.{_-_, _<_};
+ghost use Prim.Native.Nat.{_+_, _-_, _<_, _≤_};
+ghost use lib.Dec.{eqb};
 ghost use lib.IntN.{pos, natAbs};
 ghost use mir.Syntax.{w64};
 ghost use mir.Val.{SFits};
+ghost use Rattle.loops.specs.Loop.{pick};
 ghost use Rattle.valence.specs.Valence.{targets, targetRow, firstTarget, targetsFor, firstFitting, reachedIn, valuesOf, hydrogensOf, shiftedTarget, delocalized};
 
 // The target valences of an element in their order; 0 for each that it lacks.
@@ -26,21 +28,13 @@ pub struct Hydrogens {
 fn target_row(e: usize) -> Targets
     ensures { λ r. ⌜ r ≡ targetRow e ⌝ }
 {
-    match e {
-        5 => Targets(3, 0, 0),
-        6 => Targets(4, 0, 0),
-        7 => Targets(3, 5, 0),
-        8 => Targets(2, 0, 0),
-        9 => Targets(1, 0, 0),
-        15 => Targets(3, 5, 0),
-        16 => Targets(2, 4, 6),
-        17 => Targets(1, 0, 0),
-        35 => Targets(1, 0, 0),
-        53 => Targets(1, 0, 0),
-        85 => Targets(1, 0, 0),
-        117 => Targets(1, 0, 0),
-        _ => Targets(0, 0, 0),
+    if e == 16 {
+        return Targets(2, 4, 6);
     }
+    if (e == 7) | (e == 15) {
+        return Targets(3, 5, 0);
+    }
+    Targets(first_target(e), 0, 0)
 }
 
 // The first target valence of an element above chlorine; 0 where it has none.
@@ -58,14 +52,16 @@ fn heavy_target(e: usize) -> usize
 pub fn first_target(e: usize) -> usize
     ensures { λ r. ⌜ r ≡ firstTarget e ⌝ }
 {
+    if (5 < e) & (e < 10) {
+        return 10 - e;
+    }
     if 17 < e {
         return heavy_target(e);
     }
     match e {
-        5 | 7 | 15 => 3,
-        6 => 4,
-        8 | 16 => 2,
-        9 | 17 => 1,
+        5 | 15 => 3,
+        16 => 2,
+        17 => 1,
         _ => 0,
     }
 }
@@ -85,11 +81,11 @@ fn reach_further(e: usize, sum: usize) -> Reached
     Reached::AboveAll
 }
 
-// The target that the bond sum of an atom outside brackets reaches.
-fn reach(e: usize, selected: usize, sum: usize) -> Reached
+// The target that the bond sum of an atom outside brackets reaches, from its element's first.
+fn reach(e: usize, selected: usize, sum: usize, first: usize) -> Reached
+    requires { ⌜ first ≡ firstTarget e ⌝ }
     ensures { λ r. ⌜ r ≡ reachedIn (targetsFor e selected) sum ⌝ }
 {
-    let first = first_target(e);
     if first == 0 {
         return Reached::NoTarget;
     }
@@ -118,18 +114,30 @@ fn room(reached: Reached, sum: usize) -> usize
     }
 }
 
+// The hydrogens of an atom whose bond sum is not above its first target.
+fn up_to_first(first: usize, selected: usize, sum: usize) -> usize
+    requires { ⌜ sum ≤ first ⌝ }
+    ensures { λ r. ⌜ r ≡ first - (sum + pick (eqb selected 1) 1 0) ⌝ }
+{
+    let left = first - sum;
+    if (selected == 1) & (0 < left) {
+        return left - 1;
+    }
+    left
+}
+
 // The hydrogens of an atom outside brackets with the target they reach, from its element, its selected cell and its bond sum.
 pub fn implied(e: usize, selected: usize, sum: usize) -> Hydrogens
     ensures { λ r. ⌜ r ≡ hydrogensOf e selected sum ⌝ }
 {
-    let reached = reach(e, selected, sum);
-    let count = room(reached, sum);
-    if (selected == 1) & (0 < count) {
-        return Hydrogens {
-            count: count - 1,
-            reached,
-        };
+    let first = first_target(e);
+    if (0 < first) & (sum <= first) {
+        let count = up_to_first(first, selected, sum);
+        let reached = Reached::Target(first);
+        return Hydrogens { count, reached };
     }
+    let reached = reach(e, selected, sum, first);
+    let count = room(reached, sum);
     Hydrogens { count, reached }
 }
 

@@ -127,3 +127,31 @@ module _ {up : List ℕ} {more : ℕ → Bool} {n x depth e : ℕ} (s : Nests up
 pub nests-end : {up : List ℕ} {more : ℕ → Bool} {n x depth : ℕ} → Nests up more n x depth → n ≤ x → true ≡ nestFrom up more 0 n 0
 unfolding nestFrom
 nests-end {n = n} {x = x} s h = let d : n - x ≡ 0 = omega arith in sym (s .same ∙ rw d)
+
+-- ---- as many atoms as the limit cannot nest deeper
+left-low : (d u x : ℕ) → depthLeft d u x ≤ d
+unfolding depthLeft
+left-low d u x = go (eqb u 0) (eqb u x)
+  where
+    go : (s t : Bool) → pick s d (pick t d (d - 1)) ≤ d
+    go true t = omega arith
+    go false true = omega arith
+    go false false = omega arith
+
+after-low : (d u x : ℕ) (m : Bool) → d < maxDepth → depthAfter d u m x ≤ d + 1
+unfolding depthAfter
+after-low d u x m h =
+    let l = left-low d u x in
+    rw (lt-leb maxDepth (depthLeft d u x) (omega arith)) (go (eqb u 0) m)
+  where
+    go : (s t : Bool) → pick s d (pick t (depthLeft d u x + 1) (depthLeft d u x)) ≤ d + 1
+    go true t = omega arith
+    go false true = omega (arith, left-low d u x)
+    go false false = omega (arith, left-low d u x)
+
+pub few-nest : (up : List ℕ) (more : ℕ → Bool) (x k d : ℕ) → d + k ≤ maxDepth → true ≡ nestFrom up more x k d
+unfolding nestFrom
+few-nest up more x zero d h = refl
+few-nest up more x (suc k) d h =
+    let l = after-low d (getD up x 0) x (more x) (omega arith) in
+    rw (le-leb (depthAfter d (getD up x 0) (more x) x) maxDepth (omega arith)) (few-nest up more (suc x) k (depthAfter d (getD up x 0) (more x) x) (omega arith))

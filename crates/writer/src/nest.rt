@@ -62,6 +62,9 @@ pub fn is_shallow(up: &[u16], last: &[u16], n: usize) -> bool
     requires { ⌜ ((x : ℕ) → x < n → getD (now up) x 0 < length (now last)) ⌝ }
     ensures { λ r. ⌜ r ≡ nestFrom (now (up .entry)) (moreAt (now (up .entry)) (now (last .entry))) 0 n 0 ⌝ }
 {
+    if n <= MAX_DEPTH {
+        return true;
+    }
     let mut depth = 0;
     let mut x = 0;
     while x < n {

@@ -1,12 +1,13 @@
 // The fields of an atom, in brackets and outside.
 ghost use mathlib.Core.Path.{_≡_};
 ghost use mathlib.Core.Bool.{true};
-ghost use Prim.Native.Nat.{_<_};
+ghost use mathlib.Core.List.{[], _∷_};
+ghost use Prim.Native.Nat.{_<_, _≤_};
 ghost use lib.IntN.{pos, negsuc};
 ghost use Rattle.table.specs.Limits.{maxAtoms};
 ghost use Rattle.table.specs.Cells.{inRange};
 ghost use Rattle.buffer.specs.Buffer.{bufferAt, Wrote};
-ghost use Rattle.writing_atoms.specs.Fields.{letters, AtomFits};
+ghost use Rattle.writing_atoms.specs.Fields.{letters, AtomFits, Plain, Common, capital};
 ghost use Rattle.writing.specs.Spell.{isotopeBytes, symbolBytes, markBytes, hydrogenBytes, sizeBytes, chargeBytes, extensionBytes, bracketBytes, withoutBrackets, spelledAtom};
 use crate::decimal;
 use element::Spelling;
@@ -147,8 +148,8 @@ fn is_outside(atoms: &[i32], a: AtomId, k: u8, sum: usize) -> bool
         & (implied.count == table::cell::atom_number(atoms, a, HYDROGENS))
 }
 
-// internal: an atom with its mark as it is written and its bond sum.
-pub fn atom(atoms: &[i32], a: AtomId, k: u8, sum: usize, out: &mut [u8], at: usize) -> usize
+// Any atom with its mark as it is written and its bond sum.
+fn any_atom(atoms: &[i32], a: AtomId, k: u8, sum: usize, out: &mut [u8], at: usize) -> usize
     requires { ⌜ a .0 < maxAtoms ⌝ }
     requires { ⌜ AtomFits (now atoms) (a .0) ⌝ }
     ensures { λ r. ⌜ Wrote (spelledAtom (now (atoms .entry)) (a .0) k sum) (bufferAt (now (out .entry)) at) (bufferAt (now (out .exit)) r) ⌝ }
@@ -158,4 +159,77 @@ pub fn atom(atoms: &[i32], a: AtomId, k: u8, sum: usize, out: &mut [u8], at: usi
         return symbol(out, at, e, table::cell::atom_number(atoms, a, SELECTED));
     }
     bracket(atoms, a, k, out, at)
+}
+
+// Whether an atom with this mark has neither charge nor isotope nor extension nor mark; never where the table ends before its row does.
+fn is_plain(atoms: &[i32], a: AtomId, k: u8) -> bool
+    requires { ⌜ a .0 < maxAtoms ⌝ }
+    ensures { λ r. ⌜ (r ≡ true → Plain (now (atoms .entry)) (a .0) k) ⌝ }
+{
+    if k != 0 {
+        return false;
+    }
+    if atoms.len() <= table::cell::atom_place(a, EXTENSION) {
+        return false;
+    }
+    table::cell::atom_within(atoms, a, CHARGE, 0, 0)
+        & table::cell::atom_within(atoms, a, ISOTOPE, 0, 0)
+        & table::cell::atom_within(atoms, a, EXTENSION, 0, 0)
+}
+
+// Whether an atom is a carbon, nitrogen or oxygen whose bonds and hydrogens make up its first target.
+fn is_common(atoms: &[i32], a: AtomId, sum: usize) -> bool
+    requires { ⌜ a .0 < maxAtoms ⌝ }
+    ensures { λ r. ⌜ (r ≡ true → Common (now (atoms .entry)) (a .0) sum) ⌝ }
+{
+    if !table::cell::atom_within(atoms, a, ELEMENT, 6, 8) {
+        return false;
+    }
+    if !table::cell::atom_within(atoms, a, SELECTED, 0, 1) {
+        return false;
+    }
+    let e = table::cell::atom_number(atoms, a, ELEMENT);
+    let s = table::cell::atom_number(atoms, a, SELECTED);
+    let target = 10 - e - s;
+    if target < sum {
+        return false;
+    }
+    target - sum == table::cell::atom_number(atoms, a, HYDROGENS)
+}
+
+// The letter of carbon, nitrogen or oxygen.
+fn capital(e: usize) -> u8
+    ensures { λ r. ⌜ r ≡ capital e ⌝ }
+{
+    match e {
+        6 => b'C',
+        7 => b'N',
+        _ => b'O',
+    }
+}
+
+// The letter of carbon, nitrogen or oxygen, or its selected letter.
+fn common_letter(e: usize, selected: usize) -> u8
+    requires { ⌜ (6 ≤ e) × (e ≤ 8) ⌝ }
+    requires { ⌜ selected ≤ 1 ⌝ }
+    ensures { λ r. ⌜ symbolBytes e selected ≡ r ∷ [] ⌝ }
+{
+    capital(e) + 32 * selected as u8
+}
+
+// internal: an atom with its mark as it is written and its bond sum.
+pub fn atom(atoms: &[i32], a: AtomId, k: u8, sum: usize, out: &mut [u8], at: usize) -> usize
+    requires { ⌜ a .0 < maxAtoms ⌝ }
+    requires { ⌜ AtomFits (now atoms) (a .0) ⌝ }
+    ensures { λ r. ⌜ Wrote (spelledAtom (now (atoms .entry)) (a .0) k sum) (bufferAt (now (out .entry)) at) (bufferAt (now (out .exit)) r) ⌝ }
+{
+    if !is_plain(atoms, a, k) {
+        return any_atom(atoms, a, k, sum, out, at);
+    }
+    if !is_common(atoms, a, sum) {
+        return any_atom(atoms, a, k, sum, out, at);
+    }
+    let e = table::cell::atom_number(atoms, a, ELEMENT);
+    let s = table::cell::atom_number(atoms, a, SELECTED);
+    buffer::put(out, at, common_letter(e, s))
 }

@@ -14,12 +14,10 @@ use Rattle.writing_walk.specs.Token.{Bond, eqBond}
 use Rattle.writing_walk.specs.Emit.{Slot, free, held, find, release, lowest, insert}
 use Rattle.writing_walk.proofs.Count.{bit, count, and-left, and-right, bond-eq, bond-same, never}
 use Rattle.writing_walk.proofs.Read.{openOf}
-use Rattle.writing_bridges.specs.Slots.{indexOf, Slots, end, rest, gap, full, Bridged}
+use Rattle.writing_bridges.specs.Slots.{indexOf, Looked, Slots, end, rest, gap, full, Bridged}
 
--- a search in the slots stands at i
-pub record Looked (x : ℕ) (l : List ℕ) (i : ℕ) : Type 0 where
-  pub within : i ≤ length l
-  pub same : indexOf x l ≡ i + indexOf x (drop i l)
+pub looked-start : {x : ℕ} {l : List ℕ} → Looked x l 0
+looked-start = record { within = omega arith; same = omega arith }
 
 module _ {x : ℕ} {l : List ℕ} {i : ℕ} (s : Looked x l i) where
   pub looked-hit : i < length l → getD l i 0 ≡ x → i ≡ indexOf x l
@@ -33,6 +31,21 @@ module _ {x : ℕ} {l : List ℕ} {i : ℕ} (s : Looked x l i) where
   pub looked-end : length l ≤ i → i ≡ indexOf x l
   unfolding indexOf
   looked-end h = sym (s .same ∙ rw (drop-of-length-le l h) (omega arith))
+
+-- the first two slots
+module _ (x : ℕ) (l : List ℕ) (h : 2 ≤ length l) where
+  pub looked-first : getD l 0 0 ≡ x → 0 ≡ indexOf x l
+  looked-first e = looked-hit looked-start (omega arith) e
+
+  module _ (e : getD l 0 0 ≡ x → ⊥) where
+    one : Looked x l 1
+    one = looked-pass looked-start (omega arith) e
+
+    pub looked-second : getD l 1 0 ≡ x → 1 ≡ indexOf x l
+    looked-second f = looked-hit one (omega arith) f
+
+    pub looked-two : (getD l 1 0 ≡ x → ⊥) → Looked x l 2
+    looked-two f = looked-pass one (omega arith) f
 
 -- equal bonds have equal numbers
 pub same-number : {f : ℕ → Bond} {n k : ℕ} {los his : List ℕ} → Bridged f n k los his → (i j : ℕ) → i < k → j < k → eqBond (f i) (f j) ≡ eqb i j

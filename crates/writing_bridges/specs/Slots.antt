@@ -1,10 +1,10 @@
 -- auxiliary: the bridges that are open, in an array: a slot holds 0, or the number of a bridge bond plus 1 (01, Writing)
-use Prim.Native.Nat.{ℕ, suc, _-_, _<_, _≤_}
+use Prim.Native.Nat.{ℕ, suc, _+_, _-_, _<_, _≤_}
 use mathlib.Core.Path.{_≡_}
 use mathlib.Core.Bool.{Bool, true, _&&_}
 use mathlib.Core.List.{List, [], _∷_, _++_}
 use lib.Dec.{eqb, ltb}
-use lib.ListN.{length, getD}
+use lib.ListN.{length, getD, drop}
 use Rattle.loops.specs.Loop.{pick, upTo}
 use Rattle.ids.specs.Limits.{bridges}
 use Rattle.writing_walk.specs.Token.{Bond, eqBond}
@@ -22,6 +22,11 @@ slotCount = bridges - 1
 unfoldable pub indexOf : ℕ → List ℕ → ℕ
 indexOf x [] = 0
 indexOf x (y ∷ l) = pick (eqb y x) 0 (suc (indexOf x l))
+
+-- a search for x in an array has passed the places before i
+pub record Looked (x : ℕ) (l : List ℕ) (i : ℕ) : Type 0 where
+  pub within : i ≤ length l
+  pub same : indexOf x l ≡ i + indexOf x (drop i l)
 
 -- of k numbers that have the end x, the one with the least key from a bound on; k where there is none. j: how many were looked at
 pub record Near (ends keys : List ℕ) (x from k j r : ℕ) : Type 0 where

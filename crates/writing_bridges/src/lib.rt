@@ -7,7 +7,7 @@ ghost use Rattle.table.specs.Limits.{maxBonds};
 ghost use Rattle.ids.specs.Limits.{bridges};
 ghost use Rattle.buffer.specs.Buffer.{bufferAt, Wrote};
 ghost use Rattle.writing.specs.Spell.{kindBytes, bridgeBytes};
-ghost use Rattle.writing_bridges.specs.Slots.{indexOf, Near, Released, Inserted, Closed, Opened, Ended};
+ghost use Rattle.writing_bridges.specs.Slots.{indexOf, Looked, Near, Released, Inserted, Closed, Opened, Ended};
 ghost use Rattle.writing_bridges.specs.Unused.{Marked};
 use ids::BRIDGES;
 use unused::MANY;
@@ -25,11 +25,12 @@ pub struct Spot {
     pub at: usize,
 }
 
-// The first slot with a content; the number of slots where there is none.
-fn slot_of(slots: &[u16], x: usize) -> usize
+// The first slot with a content from a slot on; the number of slots where there is none.
+fn slot_from(slots: &[u16], x: usize, from: usize) -> usize
+    requires { ⌜ Looked x (now slots) from ⌝ }
     ensures { λ r. ⌜ r ≡ indexOf x (now (slots .entry)) ⌝ }
 {
-    let mut i = 0;
+    let mut i = from;
     while i < slots.len() {
         if slots[i] as usize == x {
             return i;
@@ -37,6 +38,22 @@ fn slot_of(slots: &[u16], x: usize) -> usize
         i += 1;
     }
     i
+}
+
+// The first slot with a content; the number of slots where there is none. It is mostly one of the first two.
+fn slot_of(slots: &[u16], x: usize) -> usize
+    ensures { λ r. ⌜ r ≡ indexOf x (now (slots .entry)) ⌝ }
+{
+    if slots.len() < 2 {
+        return slot_from(slots, x, 0);
+    }
+    if slots[0] as usize == x {
+        return 0;
+    }
+    if slots[1] as usize == x {
+        return 1;
+    }
+    slot_from(slots, x, 2)
 }
 
 // The nearer of the best bond so far and the bond i.

@@ -1,55 +1,50 @@
-use Rattle.writing_bridges.proofs.Slots.{Looked, looked-hit, looked-pass, looked-end}
-use lib.ListN.{length}
-use Prim.Native.Nat.{_-_}
+use Rattle.writing_bridges.proofs.Slots.{looked-first, looked-second, looked-two}
 use native.Mathlib.Omega.{arith}
+use borrow.Author.Needs.{needs}
 use Rattle.writing_bridges.proofs.slot_of.Statement.{statement}
 use Rattle.writing_bridges.proofs.slot_of.Tie as tie
 
-abbrev Inv-loop : tie.InvT-loop
-Inv-loop slots x i₀ i = Looked x slots i
+slot-from-requires : tie.Need-slot-from-requires
+slot-from-requires c κs = search needs
 
-abbrev μ-loop : tie.MeasureT-loop
-μ-loop slots x i₀ i = length slots - i
+returns : tie.Need-returns
+returns c = search needs
 
-loop-holds : tie.Need-loop-holds Inv-loop μ-loop
-loop-holds c = record { within = omega arith; same = omega arith }
+shared-slice-read-if2 : tie.Need-shared-slice-read-if2
+shared-slice-read-if2 c = search needs
 
-mul-if1 : tie.Need-mul-if1 Inv-loop μ-loop
-mul-if1 c = omega (arith, c .before .before .good .0 .1)
+cast-if2 : tie.Need-cast-if2
+cast-if2 c = omega (arith, c .shared-slice-known2 .given 0)
 
-shared-slice-read-if1 : tie.Need-shared-slice-read-if1 Inv-loop μ-loop
-shared-slice-read-if1 c = omega arith
+returns-2 : tie.Need-returns-2
+returns-2 c = looked-first _ _ (c .before .before .if1 .left) (c .if2 .taken)
 
-cast-if1 : tie.Need-cast-if1 Inv-loop μ-loop
-cast-if1 c = omega (arith, c .shared-slice-known .given (c .before .before .loop .i))
+shared-slice-read-if3 : tie.Need-shared-slice-read-if3
+shared-slice-read-if3 c = search needs
 
-returns : tie.Need-returns Inv-loop μ-loop
-returns c = looked-hit (c .before .before .before .loop .inv) (c .before .before .loop-test .taken) (c .if1 .taken)
+cast-if3 : tie.Need-cast-if3
+cast-if3 c = omega (arith, c .shared-slice-known3 .given 1)
 
-add-i : tie.Need-add-i Inv-loop μ-loop
-add-i c = omega arith
+returns-3 : tie.Need-returns-3
+returns-3 c = looked-second _ _ (c .before .before .before .before .if1 .left) (c .before .before .if2 .left) (c .if3 .taken)
 
-loop-less : tie.Need-loop-less Inv-loop μ-loop
-loop-less c = omega arith
+slot-from-requires-2 : tie.Need-slot-from-requires-2
+slot-from-requires-2 c κs = looked-two _ _ (c .before .before .before .before .if1 .left) (c .before .before .if2 .left) (c .if3 .left)
 
-loop-again : tie.Need-loop-again Inv-loop μ-loop
-loop-again c = looked-pass (c .before .before .before .loop .inv) (c .before .before .loop-test .taken) (c .if1 .left)
-
-returns-2 : tie.Need-returns-2 Inv-loop μ-loop
-returns-2 c = looked-end (c .before .loop .inv) (c .loop-test .left)
+returns-4 : tie.Need-returns-4
+returns-4 c = search needs
 
 pub slot-of-spec : {M : Type 1} → statement M
 slot-of-spec =
     tie.close
     (tie.spec
-    Inv-loop
-    μ-loop
-    loop-holds
-    mul-if1
-    shared-slice-read-if1
-    cast-if1
+    slot-from-requires
     returns
-    add-i
-    loop-less
-    loop-again
-    returns-2)
+    shared-slice-read-if2
+    cast-if2
+    returns-2
+    shared-slice-read-if3
+    cast-if3
+    returns-3
+    slot-from-requires-2
+    returns-4)
