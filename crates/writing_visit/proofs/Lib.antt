@@ -1,3 +1,5 @@
+pub mod Passed
+pub mod Straight
 pub mod Ways
 pub mod Lists
 pub mod Wires

@@ -1,4 +1,4 @@
--- The bonds in arrays, noted one by one from the last bond on. Assumes nothing.
+-- The bonds in arrays, noted and linked one by one from the last bond on. Assumes nothing.
 use Prim.Native.Nat.{ℕ, zero, suc, _+_, _*_, _-_, _<_, _≤_}
 use native.Mathlib.Omega.{arith}
 use mathlib.Core.Path.{_≡_, refl, sym, ap, _∙_, subst}
@@ -21,7 +21,7 @@ use Rattle.kinds.specs.Kind.{maxKind, order}
 use Rattle.writing_walk.specs.Token.{Bond, bond}
 use Rattle.writing.specs.Write.{walkBond, bondList}
 use Rattle.writing_visit.specs.Visit.{touching, firstFrom, BondsFit, Linked, Walked}
-use Rattle.writing_visit.specs.Wires.{wires, Wired, sumFrom, LinkRoom, Places}
+use Rattle.writing_visit.specs.Wires.{wires, Wired, sumFrom, NoteRoom, LinkRoom, Places}
 use Rattle.writing_visit.proofs.Lists.{linked-start, linked-cast, linked-step}
 
 -- bonds that agree below m
@@ -137,50 +137,53 @@ module _ (bonds : List ℤ) (m : ℕ) where
   unfolding sumFrom bondSum
   sums-whole len e = let z : m - 0 ≡ m = omega arith in e ∙ upTo-ext (sumFrom bonds m 0) (bondSum bonds m) 0 len (λ a h. simp z)
 
--- the bonds from b on are noted and linked
-pub record Noted (bonds : List ℤ) (m b : ℕ) (head after behind ea eb ks sums : List ℕ) : Type 0 where
+-- the bonds from b on are noted
+pub record Noted (bonds : List ℤ) (m b : ℕ) (ea eb ks sums : List ℕ) : Type 0 where
   pub within : b ≤ m
-  pub linked : Linked (walkBond bonds) m b head after behind
   pub wired : Wired bonds m b ea eb ks
   pub summed : sums ≡ upTo (sumFrom bonds m b) 0 (length sums)
-  pub room : LinkRoom bonds m head after behind ea eb ks sums
+  pub room : NoteRoom bonds m ea eb ks sums
 
--- seven arrays are as long as they were
-pub record SameLengths (h a b e f k s h2 a2 b2 e2 f2 k2 s2 : List ℕ) : Type 0 where
-  pub head : length h2 ≡ length h
-  pub after : length a2 ≡ length a
-  pub behind : length b2 ≡ length b
+-- four arrays are as long as they were
+pub record NotedLengths (e f k s e2 f2 k2 s2 : List ℕ) : Type 0 where
   pub firsts : length e2 ≡ length e
   pub seconds : length f2 ≡ length f
   pub kinds : length k2 ≡ length k
   pub sums : length s2 ≡ length s
 
+-- the bonds from b on are linked
+pub record Joined (bonds : List ℤ) (m b : ℕ) (head after behind : List ℕ) : Type 0 where
+  pub within : b ≤ m
+  pub linked : Linked (walkBond bonds) m b head after behind
+  pub room : LinkRoom bonds m head after behind
+
+-- three arrays are as long as they were
+pub record LinkedLengths (h a b h2 a2 b2 : List ℕ) : Type 0 where
+  pub head : length h2 ≡ length h
+  pub after : length a2 ≡ length a
+  pub behind : length b2 ≡ length b
+
 module _ {bonds : List ℤ} {m : ℕ} where
-  pub noted-start : {head after behind ea eb ks sums : List ℕ} → head ≡ replicate (length head) m → sums ≡ replicate (length sums) 0 → LinkRoom bonds m head after behind ea eb ks sums → Noted bonds m m head after behind ea eb ks sums
-  noted-start {head} {after} {behind} {ea} {eb} {ks} e z p =
+  pub noted-start : {ea eb ks sums : List ℕ} → sums ≡ replicate (length sums) 0 → NoteRoom bonds m ea eb ks sums → Noted bonds m m ea eb ks sums
+  noted-start {ea} {eb} {ks} z p =
       record {
         within = omega arith;
-        linked = linked-start head after behind e;
         wired = wired-start ea eb ks;
         summed = sums-start bonds m z;
         room = p;
       }
 
-  module _ (fit : BondsFit (walkBond bonds) maxAtoms m) {b : ℕ} {head after behind ea eb ks sums : List ℕ} (n : Noted bonds m b head after behind ea eb ks sums) (some : 0 < b) where
+  module _ (fit : BondsFit (walkBond bonds) maxAtoms m) {b : ℕ} {ea eb ks sums : List ℕ} (n : Noted bonds m b ea eb ks sums) (some : 0 < b) where
     pub noted-step : (e f q : ℕ) → e ≡ end1 bonds (b - 1) → f ≡ end2 bonds (b - 1) → q ≡ kind bonds (b - 1)
-        → (head2 after2 behind2 ea2 eb2 ks2 sums2 : List ℕ)
-        → head2 ≡ set (set head e (b - 1)) f (b - 1) → after2 ≡ set after (b - 1) (getD head e 0) → behind2 ≡ set behind (b - 1) (getD head f 0)
+        → (ea2 eb2 ks2 sums2 : List ℕ)
         → ea2 ≡ set ea (b - 1) e → eb2 ≡ set eb (b - 1) f → ks2 ≡ set ks (b - 1) q → sums2 ≡ bump (bump sums e (order q)) f (order q)
-        → Noted bonds m (b - 1) head2 after2 behind2 ea2 eb2 ks2 sums2 × SameLengths head after behind ea eb ks sums head2 after2 behind2 ea2 eb2 ks2 sums2
-    noted-step e f q ee ef eq head2 after2 behind2 ea2 eb2 ks2 sums2 ph pa pb p1 p2 pk ps =
+        → Noted bonds m (b - 1) ea2 eb2 ks2 sums2 × NotedLengths ea eb ks sums ea2 eb2 ks2 sums2
+    noted-step e f q ee ef eq ea2 eb2 ks2 sums2 p1 p2 pk ps =
         let d : b ≡ suc (b - 1) = omega arith in
         let h : b - 1 < m = omega (arith, n .within) in
         let w = fit .ends (b - 1) h in
         let r = n .room in
         let ne : e ≡ f → ⊥ = λ i. omega (arith, w .0) in
-        let lh : length head2 ≡ length head = ap length ph ∙ simp length-set in
-        let la : length after2 ≡ length after = ap length pa ∙ simp length-set in
-        let lb : length behind2 ≡ length behind = ap length pb ∙ simp length-set in
         let l1 : length ea2 ≡ length ea = ap length p1 ∙ simp length-set in
         let l2 : length eb2 ≡ length eb = ap length p2 ∙ simp length-set in
         let lk : length ks2 ≡ length ks = ap length pk ∙ simp length-set in
@@ -188,56 +191,71 @@ module _ {bonds : List ℤ} {m : ℕ} where
         let sm = sums-before bonds m (b - 1) (length sums) h (n .summed ∙ ap (λ (j : ℕ). upTo (sumFrom bonds m j) 0 (length sums)) d) (two-ends bonds (b - 1) sums ee ef eq refl ne refl ps) in (
           record {
             within = omega arith;
-            linked = linked-step fit (b - 1) h head after behind (linked-cast b (suc (b - 1)) head after behind d (n .linked)) (r .heads (b - 1) h) (r .afters) (r .behinds) head2 after2 behind2 (rw (← ee, ← ef) ph) (rw (← ee) pa) (rw (← ef) pb);
             wired = wired-step (b - 1) ea eb ks (wired-cast b (suc (b - 1)) ea eb ks d (n .wired)) (omega (arith, r .firsts)) (omega (arith, r .seconds)) (omega (arith, r .kinds)) e f q ee ef eq ea2 eb2 ks2 p1 p2 pk;
             summed = sm ∙ ap (upTo (sumFrom bonds m (b - 1)) 0) (sym ls);
             room = record {
-              heads = λ c i. omega (arith, r .heads c i);
-              afters = omega (arith, r .afters);
-              behinds = omega (arith, r .behinds);
               firsts = omega (arith, r .firsts);
               seconds = omega (arith, r .seconds);
               kinds = omega (arith, r .kinds);
               summed = λ c i. omega (arith, r .summed c i);
             };
           },
-          record { head = lh; after = la; behind = lb; firsts = l1; seconds = l2; kinds = lk; sums = ls },
+          record { firsts = l1; seconds = l2; kinds = lk; sums = ls },
         )
 
-  pub noted-end : {b : ℕ} {head after behind ea eb ks sums : List ℕ} → Noted bonds m b head after behind ea eb ks sums → b ≤ 0
-      → Linked (wires ea eb ks) m 0 head after behind × Wired bonds m 0 ea eb ks × (sums ≡ upTo (bondSum bonds m) 0 (length sums))
-  noted-end {b} {head} {after} {behind} {ea} {eb} {ks} {sums} n z =
+  pub noted-end : {b : ℕ} {ea eb ks sums : List ℕ} → Noted bonds m b ea eb ks sums → b ≤ 0 → Wired bonds m 0 ea eb ks × (sums ≡ upTo (bondSum bonds m) 0 (length sums))
+  noted-end {b} {ea} {eb} {ks} {sums} n z =
       let d : b ≡ 0 = omega arith in
-      let w = wired-cast b 0 ea eb ks d (n .wired) in
-      (linked-same (wired-at w) (linked-cast b 0 head after behind d (n .linked)), w, sums-whole bonds m (length sums) (n .summed ∙ ap (λ (j : ℕ). upTo (sumFrom bonds m j) 0 (length sums)) d))
+      (wired-cast b 0 ea eb ks d (n .wired), sums-whole bonds m (length sums) (n .summed ∙ ap (λ (j : ℕ). upTo (sumFrom bonds m j) 0 (length sums)) d))
 
-pub same-lengths : {h a b e f k s : List ℕ} → SameLengths h a b e f k s h a b e f k s
-same-lengths = record { head = refl; after = refl; behind = refl; firsts = refl; seconds = refl; kinds = refl; sums = refl }
+  pub joined-start : {head after behind : List ℕ} → head ≡ replicate (length head) m → LinkRoom bonds m head after behind → Joined bonds m m head after behind
+  joined-start {head} {after} {behind} e p = record { within = omega arith; linked = linked-start head after behind e; room = p }
 
-pub lengths-then : {h a b e f k s h2 a2 b2 e2 f2 k2 s2 h3 a3 b3 e3 f3 k3 s3 : List ℕ} → SameLengths h a b e f k s h2 a2 b2 e2 f2 k2 s2 → SameLengths h2 a2 b2 e2 f2 k2 s2 h3 a3 b3 e3 f3 k3 s3 → SameLengths h a b e f k s h3 a3 b3 e3 f3 k3 s3
-lengths-then x y =
-    record {
-      head = y .head ∙ x .head;
-      after = y .after ∙ x .after;
-      behind = y .behind ∙ x .behind;
-      firsts = y .firsts ∙ x .firsts;
-      seconds = y .seconds ∙ x .seconds;
-      kinds = y .kinds ∙ x .kinds;
-      sums = y .sums ∙ x .sums;
-    }
+  module _ (fit : BondsFit (walkBond bonds) maxAtoms m) {b : ℕ} {head after behind : List ℕ} (n : Joined bonds m b head after behind) (some : 0 < b) where
+    pub joined-step : (e f : ℕ) → e ≡ end1 bonds (b - 1) → f ≡ end2 bonds (b - 1)
+        → (head2 after2 behind2 : List ℕ)
+        → head2 ≡ set (set head e (b - 1)) f (b - 1) → after2 ≡ set after (b - 1) (getD head e 0) → behind2 ≡ set behind (b - 1) (getD head f 0)
+        → Joined bonds m (b - 1) head2 after2 behind2 × LinkedLengths head after behind head2 after2 behind2
+    joined-step e f ee ef head2 after2 behind2 ph pa pb =
+        let d : b ≡ suc (b - 1) = omega arith in
+        let h : b - 1 < m = omega (arith, n .within) in
+        let r = n .room in
+        let lh : length head2 ≡ length head = ap length ph ∙ simp length-set in
+        let la : length after2 ≡ length after = ap length pa ∙ simp length-set in
+        let lb : length behind2 ≡ length behind = ap length pb ∙ simp length-set in (
+          record {
+            within = omega arith;
+            linked = linked-step fit (b - 1) h head after behind (linked-cast b (suc (b - 1)) head after behind d (n .linked)) (r .heads (b - 1) h) (r .afters) (r .behinds) head2 after2 behind2 (rw (← ee, ← ef) ph) (rw (← ee) pa) (rw (← ef) pb);
+            room = record {
+              heads = λ c i. omega (arith, r .heads c i);
+              afters = omega (arith, r .afters);
+              behinds = omega (arith, r .behinds);
+            };
+          },
+          record { head = lh; after = la; behind = lb },
+        )
 
--- the arrays of n atoms and m bonds have room for what is linked
-pub link-room : {bonds : List ℤ} {n m : ℕ} {head after behind ea eb ks sums : List ℕ} → BondsFit (walkBond bonds) n m → Places n m head after behind ea eb ks → n ≤ length sums → LinkRoom bonds m head after behind ea eb ks sums
-link-room fit p s =
-    record {
-      heads = λ b h. omega (arith, fit .ends b h .1, p .heads);
-      afters = p .afters;
-      behinds = p .behinds;
-      firsts = p .firsts;
-      seconds = p .seconds;
-      kinds = p .kinds;
-      summed = λ b h. omega (arith, fit .ends b h .1, s);
-    }
+  pub joined-end : {b : ℕ} {head after behind : List ℕ} → Joined bonds m b head after behind → b ≤ 0 → Linked (walkBond bonds) m 0 head after behind
+  joined-end {b} {head} {after} {behind} n z = let d : b ≡ 0 = omega arith in linked-cast b 0 head after behind d (n .linked)
+
+pub noted-lengths : {e f k s : List ℕ} → NotedLengths e f k s e f k s
+noted-lengths = record { firsts = refl; seconds = refl; kinds = refl; sums = refl }
+
+pub noted-then : {e f k s e2 f2 k2 s2 e3 f3 k3 s3 : List ℕ} → NotedLengths e f k s e2 f2 k2 s2 → NotedLengths e2 f2 k2 s2 e3 f3 k3 s3 → NotedLengths e f k s e3 f3 k3 s3
+noted-then x y = record { firsts = y .firsts ∙ x .firsts; seconds = y .seconds ∙ x .seconds; kinds = y .kinds ∙ x .kinds; sums = y .sums ∙ x .sums }
+
+pub linked-lengths : {h a b : List ℕ} → LinkedLengths h a b h a b
+linked-lengths = record { head = refl; after = refl; behind = refl }
+
+pub linked-then : {h a b h2 a2 b2 h3 a3 b3 : List ℕ} → LinkedLengths h a b h2 a2 b2 → LinkedLengths h2 a2 b2 h3 a3 b3 → LinkedLengths h a b h3 a3 b3
+linked-then x y = record { head = y .head ∙ x .head; after = y .after ∙ x .after; behind = y .behind ∙ x .behind }
+
+-- the arrays of n atoms and m bonds have room for what is noted and linked
+pub note-room : {bonds : List ℤ} {n m : ℕ} {head after behind ea eb ks sums : List ℕ} → BondsFit (walkBond bonds) n m → Places n m head after behind ea eb ks → n ≤ length sums → NoteRoom bonds m ea eb ks sums
+note-room fit p s = record { firsts = p .firsts; seconds = p .seconds; kinds = p .kinds; summed = λ b h. omega (arith, fit .ends b h .1, s) }
+
+pub link-room : {bonds : List ℤ} {n m : ℕ} {head after behind ea eb ks : List ℕ} → BondsFit (walkBond bonds) n m → Places n m head after behind ea eb ks → LinkRoom bonds m head after behind
+link-room fit p = record { heads = λ b h. omega (arith, fit .ends b h .1, p .heads); afters = p .afters; behinds = p .behinds }
 
 pub places-kept : {n m : ℕ} {h a b e f k h2 a2 b2 e2 f2 k2 : List ℕ} → Places n m h a b e f k → length h2 ≡ length h → length a2 ≡ length a → length b2 ≡ length b → length e2 ≡ length e → length f2 ≡ length f → length k2 ≡ length k → Places n m h2 a2 b2 e2 f2 k2
 places-kept p h a b e f k =

@@ -23,15 +23,18 @@ pub record Wired (bonds : List ℤ) (m b : ℕ) (ea eb ks : List ℕ) : Type 0 w
 unfoldable pub sumFrom : List ℤ → ℕ → ℕ → ℕ → ℕ
 sumFrom bonds m b a = run (addShare bonds a) b (m - b) 0
 
--- the arrays have a place for each of m bonds and a head and a sum for each of their ends
-pub record LinkRoom (bonds : List ℤ) (m : ℕ) (head after behind ea eb ks sums : List ℕ) : Type 0 where
-  pub heads : (b : ℕ) → b < m → end2 bonds b < length head
-  pub afters : m ≤ length after
-  pub behinds : m ≤ length behind
+-- the arrays have a place for each of m bonds and a sum for each of their ends
+pub record NoteRoom (bonds : List ℤ) (m : ℕ) (ea eb ks sums : List ℕ) : Type 0 where
   pub firsts : m ≤ length ea
   pub seconds : m ≤ length eb
   pub kinds : m ≤ length ks
   pub summed : (b : ℕ) → b < m → end2 bonds b < length sums
+
+-- the arrays have a place for each of m bonds and a head for each of their ends
+pub record LinkRoom (bonds : List ℤ) (m : ℕ) (head after behind : List ℕ) : Type 0 where
+  pub heads : (b : ℕ) → b < m → end2 bonds b < length head
+  pub afters : m ≤ length after
+  pub behinds : m ≤ length behind
 
 -- the arrays have a place for each of n atoms and m bonds
 pub record Places (n m : ℕ) (head after behind ea eb ks : List ℕ) : Type 0 where

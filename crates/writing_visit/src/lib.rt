@@ -12,7 +12,8 @@ ghost use Rattle.table_graph.specs.Graph.{bondSum};
 ghost use Rattle.table_graph.specs.Built.{bump};
 ghost use Rattle.writing.specs.Write.{walkBond, bondList};
 ghost use Rattle.writing_visit.specs.Visit.{touching, grow, rootForest, BondsFit, Linked, Room, Kept, walkArrays, Grown, Walked};
-ghost use Rattle.writing_visit.specs.Wires.{wires, Wired, LinkRoom, Places};
+ghost use Rattle.writing_visit.specs.Wires.{wires, Wired, LinkRoom, Places, NoteRoom};
+ghost use Rattle.writing_visit.specs.Straight.{Held, Nested, Passed, Cleared, InTurn};
 use ids::AtomId;
 use ids::BondId;
 
@@ -63,6 +64,22 @@ fn note_bond(b: BondId, x: Wire, ea: &mut [u16], eb: &mut [u16], ks: &mut [u8], 
     sums[f] += order;
 }
 
+// The bonds in arrays, with the bond sums.
+fn note(bonds: &[i32], m: usize, ea: &mut [u16], eb: &mut [u16], ks: &mut [u8], sums: &mut [u16])
+    requires { ⌜ BondsFit (walkBond (now bonds)) maxAtoms m ⌝ }
+    requires { ⌜ now sums ≡ replicate (length (now sums)) 0 ⌝ }
+    requires { ⌜ NoteRoom (now bonds) m (now ea) (now eb) (now ks) (now sums) ⌝ }
+    ensures { λ _. ⌜ Wired (now (bonds .entry)) m 0 (now (ea .exit)) (now (eb .exit)) (now (ks .exit)) ⌝ }
+    ensures { λ _. ⌜ now (sums .exit) ≡ upTo (bondSum (now (bonds .entry)) m) 0 (length (now (sums .entry))) ⌝ }
+{
+    let mut b = m;
+    while 0 < b {
+        b -= 1;
+        let x = read_bond(bonds, BondId(b));
+        note_bond(BondId(b), x, ea, eb, ks, sums);
+    }
+}
+
 // Puts a bond in front of the lists of its two ends.
 fn link_bond(b: BondId, x: Wire, head: &mut [u16], after: &mut [u16], behind: &mut [u16])
     requires { ⌜ b .0 < maxBonds ⌝ }
@@ -81,30 +98,17 @@ fn link_bond(b: BondId, x: Wire, head: &mut [u16], after: &mut [u16], behind: &m
     head[f] = i as u16;
 }
 
-// The bonds in arrays, with the bond sums, and those at each atom as lists, from heads that are all m.
-fn link(
-    bonds: &[i32],
-    m: usize,
-    head: &mut [u16],
-    after: &mut [u16],
-    behind: &mut [u16],
-    ea: &mut [u16],
-    eb: &mut [u16],
-    ks: &mut [u8],
-    sums: &mut [u16],
-)
+// The bonds at each atom as lists, from heads that are all m.
+fn link(bonds: &[i32], m: usize, head: &mut [u16], after: &mut [u16], behind: &mut [u16])
     requires { ⌜ BondsFit (walkBond (now bonds)) maxAtoms m ⌝ }
-    requires { ⌜ (now head ≡ replicate (length (now head)) m) × (now sums ≡ replicate (length (now sums)) 0) ⌝ }
-    requires { ⌜ LinkRoom (now bonds) m (now head) (now after) (now behind) (now ea) (now eb) (now ks) (now sums) ⌝ }
-    ensures { λ _. ⌜ Linked (wires (now (ea .exit)) (now (eb .exit)) (now (ks .exit))) m 0 (now (head .exit)) (now (after .exit)) (now (behind .exit)) ⌝ }
-    ensures { λ _. ⌜ Wired (now (bonds .entry)) m 0 (now (ea .exit)) (now (eb .exit)) (now (ks .exit)) ⌝ }
-    ensures { λ _. ⌜ now (sums .exit) ≡ upTo (bondSum (now (bonds .entry)) m) 0 (length (now (sums .entry))) ⌝ }
+    requires { ⌜ now head ≡ replicate (length (now head)) m ⌝ }
+    requires { ⌜ LinkRoom (now bonds) m (now head) (now after) (now behind) ⌝ }
+    ensures { λ _. ⌜ Linked (walkBond (now (bonds .entry))) m 0 (now (head .exit)) (now (after .exit)) (now (behind .exit)) ⌝ }
 {
     let mut b = m;
     while 0 < b {
         b -= 1;
         let x = read_bond(bonds, BondId(b));
-        note_bond(BondId(b), x, ea, eb, ks, sums);
         link_bond(BondId(b), x, head, after, behind);
     }
 }
@@ -320,6 +324,174 @@ fn root(
     )
 }
 
+// Clears the cells of two arrays from one place on and before another.
+fn clear(up: &mut [u16], kind: &mut [u8], from: usize, to: usize)
+    requires { ⌜ (to ≤ length (now up)) × (to ≤ length (now kind)) ⌝ }
+    ensures { λ _. ⌜ Cleared from to (now (up .entry)) (now (up .exit)) ⌝ }
+    ensures { λ _. ⌜ Cleared from to (now (kind .entry)) (now (kind .exit)) ⌝ }
+{
+    let mut a = from;
+    while a < to {
+        up[a] = 0;
+        kind[a] = 0;
+        a += 1;
+    }
+}
+
+// The most steps up from an atom in search of another: rings that are longer are left to the walk by lists.
+const REACH: usize = 64;
+
+// Whether an atom is found on the way up from another; both are given by their numbers plus 1.
+fn is_above(up: &[u16], from: usize, to: usize) -> bool
+    requires { ⌜ from ≤ length (now up) ⌝ }
+    requires { ⌜ Nested (now up) from ⌝ }
+    ensures { λ r. ⌜ (r ≡ true → Held (now (up .entry)) to from) ⌝ }
+{
+    let mut a = from;
+    let mut left = REACH;
+    while to < a {
+        if left == 0 {
+            return false;
+        }
+        left -= 1;
+        a = up[a - 1] as usize;
+    }
+    a == to
+}
+
+// One more bond of a straight walk, with the number of atoms that have their parents: that number then, 0 where the walk is not seen to be straight. A new atom is entered, those skipped are roots; a further bond of the last atom comes from above it.
+fn pass(
+    ea: &[u16],
+    eb: &[u16],
+    ks: &[u8],
+    b: BondId,
+    next: usize,
+    up: &mut [u16],
+    kind: &mut [u8],
+) -> usize
+    requires { ⌜ (b .0 < length (now ea)) × (b .0 < length (now eb)) ⌝ }
+    requires { ⌜ b .0 < length (now ks) ⌝ }
+    requires { ⌜ getD (now ea) (b .0) 0 < getD (now eb) (b .0) 0 ⌝ }
+    requires { ⌜ (getD (now eb) (b .0) 0 < length (now up)) × (getD (now eb) (b .0) 0 < length (now kind)) ⌝ }
+    requires { ⌜ (getD (now eb) (b .0) 0 < maxAtoms) × (next ≤ length (now up)) ⌝ }
+    requires { ⌜ Nested (now up) next ⌝ }
+    requires { ⌜ Passed (wires (now ea) (now eb) (now ks)) (b .0) next (now up) (now kind) ⌝ }
+    ensures { λ r. ⌜ (0 < r → Passed (wires (now (ea .entry)) (now (eb .entry)) (now (ks .entry))) (suc (b .0)) r (now (up .exit)) (now (kind .exit))) ⌝ }
+    ensures { λ r. ⌜ ((n : ℕ) → next ≤ n → getD (now (eb .entry)) (b .0) 0 < n → r ≤ n) ⌝ }
+{
+    let i = b.0;
+    let parent = ea[i] as usize + 1;
+    let a = eb[i] as usize;
+    if next <= a {
+        clear(up, kind, next, a);
+        if is_above(up, a, parent) {
+            up[a] = parent as u16;
+            kind[a] = ks[i];
+            return a + 1;
+        }
+        return 0;
+    }
+    if a + 1 < next {
+        return 0;
+    }
+    if is_above(up, next, parent) {
+        return next;
+    }
+    0
+}
+
+// Whether the walk is seen to be straight, with each atom's parent plus 1 and the kind of the bond to it.
+fn is_straight(
+    ea: &[u16],
+    eb: &[u16],
+    ks: &[u8],
+    n: usize,
+    m: usize,
+    up: &mut [u16],
+    kind: &mut [u8],
+) -> bool
+    requires { ⌜ BondsFit (wires (now ea) (now eb) (now ks)) n m ⌝ }
+    requires { ⌜ (m ≤ length (now ea)) × (m ≤ length (now eb)) ⌝ }
+    requires { ⌜ m ≤ length (now ks) ⌝ }
+    requires { ⌜ (n ≤ length (now up)) × (n ≤ length (now kind)) ⌝ }
+    ensures { λ r. ⌜ (r ≡ true → Passed (wires (now (ea .entry)) (now (eb .entry)) (now (ks .entry))) m n (now (up .exit)) (now (kind .exit))) ⌝ }
+{
+    let mut next = 0;
+    let mut b = 0;
+    while b < m {
+        next = pass(ea, eb, ks, BondId(b), next, up, kind);
+        if next == 0 {
+            return false;
+        }
+        b += 1;
+    }
+    clear(up, kind, next, n);
+    true
+}
+
+// The atoms by ascending number, with their walk numbers plus 1.
+fn number_in_turn(order: &mut [u16], number: &mut [u16], n: usize)
+    requires { ⌜ (n ≤ length (now order)) × (n ≤ length (now number)) ⌝ }
+    requires { ⌜ n ≤ maxAtoms ⌝ }
+    ensures { λ _. ⌜ InTurn n (now (order .exit)) (now (number .exit)) ⌝ }
+{
+    let mut a = 0;
+    while a < n {
+        order[a] = a as u16;
+        number[a] = (a + 1) as u16;
+        a += 1;
+    }
+}
+
+// The walk by lists of the bonds at each atom, from heads that are all m.
+fn walk_lists(
+    bonds: &[i32],
+    n: usize,
+    m: usize,
+    order: &mut [u16],
+    number: &mut [u16],
+    up: &mut [u16],
+    kind: &mut [u8],
+    ea: &[u16],
+    eb: &[u16],
+    ks: &[u8],
+    head: &mut [u16],
+    after: &mut [u16],
+    behind: &mut [u16],
+)
+    requires { ⌜ BondsFit (walkBond (now bonds)) n m ⌝ }
+    requires { ⌜ Wired (now bonds) m 0 (now ea) (now eb) (now ks) ⌝ }
+    requires { ⌜ Room n (now order) (now number) (now up) (now kind) ⌝ }
+    requires { ⌜ now number ≡ replicate (length (now number)) 0 ⌝ }
+    requires { ⌜ now head ≡ replicate (length (now head)) m ⌝ }
+    requires { ⌜ Places n m (now head) (now after) (now behind) (now ea) (now eb) (now ks) ⌝ }
+    ensures { λ _. ⌜ Walked (bondList (now (bonds .entry)) m) n (now (order .exit)) (now (number .exit)) (now (up .exit)) (now (kind .exit)) ⌝ }
+    ensures { λ _. ⌜ Kept (now (order .entry)) (now (number .entry)) (now (up .entry)) (now (kind .entry)) (now (order .exit)) (now (number .exit)) (now (up .exit)) (now (kind .exit)) ⌝ }
+{
+    link(bonds, m, head, after, behind);
+    let mut count = 0;
+    let mut a = 0;
+    while a < n {
+        count = root(
+            ea,
+            eb,
+            ks,
+            n,
+            m,
+            head,
+            after,
+            behind,
+            order,
+            number,
+            up,
+            kind,
+            AtomId(a),
+            count,
+        );
+        a += 1;
+    }
+}
+
 // internal: the walk of a molecule, by walk number: the atom, its parent's walk number plus 1 (0 for a root) and the kind of the bond to it; and each atom's walk number plus 1. Also the bonds: their ends, their kinds and the bond sums. Three buffers, the first of them all m, are for the bonds at each atom.
 pub fn walk(
     bonds: &[i32],
@@ -348,26 +520,24 @@ pub fn walk(
     ensures { λ _. ⌜ Wired (now (bonds .entry)) m 0 (now (ea .exit)) (now (eb .exit)) (now (ks .exit)) ⌝ }
     ensures { λ _. ⌜ now (sums .exit) ≡ upTo (bondSum (now (bonds .entry)) m) 0 (length (now (sums .entry))) ⌝ }
 {
-    link(bonds, m, head, after, behind, ea, eb, ks, sums);
-    let mut count = 0;
-    let mut a = 0;
-    while a < n {
-        count = root(
-            ea,
-            eb,
-            ks,
-            n,
-            m,
-            head,
-            after,
-            behind,
-            order,
-            number,
-            up,
-            kind,
-            AtomId(a),
-            count,
-        );
-        a += 1;
+    note(bonds, m, ea, eb, ks, sums);
+    if is_straight(ea, eb, ks, n, m, up, kind) {
+        number_in_turn(order, number, n);
+        return;
     }
+    walk_lists(
+        bonds,
+        n,
+        m,
+        order,
+        number,
+        up,
+        kind,
+        ea,
+        eb,
+        ks,
+        head,
+        after,
+        behind,
+    );
 }

@@ -1,119 +1,114 @@
 use Rattle.writing_visit.proofs.Lists.{fit-wide}
-use Rattle.writing_visit.proofs.Wires.{fit-same, wired-at, walked-table, link-room, places-kept}
-use Rattle.writing_visit.proofs.Laws.{kept-same, kept-then, room-kept}
-use Rattle.writing_visit.proofs.Roots.{Sofar, sofar-start, sofar-step, sofar-end}
-use Rattle.writing_visit.specs.Visit.{Kept, walkArrays}
-use Rattle.writing_visit.specs.Wires.{wires}
-use Prim.Native.Nat.{_-_}
+use Rattle.writing_visit.proofs.Wires.{fit-same, wired-at, walked-table, note-room, places-kept}
+use Rattle.writing_visit.proofs.Laws.{kept-then}
+use Rattle.writing_visit.proofs.Straight.{straight-walk}
+use mathlib.Core.Path.{refl}
 use native.Mathlib.Omega.{arith}
+use borrow.Author.Needs.{needs}
 use Rattle.writing_visit.proofs.walk.Statement.{statement}
 use Rattle.writing_visit.proofs.walk.Tie as tie
 
-abbrev Inv-loop : tie.InvT-loop
-Inv-loop bonds n m order₀ number₀ up₀ kind₀ ea eb ks sums head after behind count₀ a₀ order number up kind count a =
-    Sofar (wires ea eb ks) n m (walkArrays order₀ number₀ up₀ kind₀ 0) a (walkArrays order number up kind count) × Kept order₀ number₀ up₀ kind₀ order number up kind
+note-requires : tie.Need-note-requires
+note-requires c κs = let p = c .before .before .before .before .before .before .before .before .before .before .before .before .before .before .before .pre in (fit-wide (p .0), (p .1 .1 .1 .0 .1, note-room (p .0) (p .1 .1 .1 .1 .0) (p .1 .1 .1 .1 .1)))
 
-abbrev μ-loop : tie.MeasureT-loop
-μ-loop bonds n m order₀ number₀ up₀ kind₀ ea eb ks sums head after behind count₀ a₀ order number up kind count a = n - a
+is-straight-requires : tie.Need-is-straight-requires
+is-straight-requires c κs =
+    let p = c .before .before .before .before .before .before .before .before .before .before .before .before .before .before .before .before .before .before .before .before .before .before .before .before .before .before .before .before .before .pre in
+    let k = c .before .before .before .before .before .before .before .before .before .before .before .before .before .note .kept in
+    let places = p .1 .1 .1 .1 .0 in
+    (fit-same (wired-at (c .before .before .before .before .before .before .before .before .before .before .before .before .before .note .ensures .0)) (p .0), ((omega (arith, k .1 .1 .0, places .firsts), omega (arith, k .1 .1 .1 .0, places .seconds)), (omega (arith, k .1 .1 .1 .1 .0, places .kinds), (p .1 .0 .up, p .1 .0 .kind))))
 
-link-requires : tie.Need-link-requires Inv-loop μ-loop
-link-requires c κs =
-    let s = c .before .before .before .before .before .before .before .before .before .before .before .before .before .before .before .before .before .before in
-    let p = s .pre in
-    (fit-wide (p .0), (p .1 .1 .1 .0, link-room (p .0) (p .1 .1 .1 .1 .0) (p .1 .1 .1 .1 .1)))
+number-in-turn-requires : tie.Need-number-in-turn-requires
+number-in-turn-requires c κs = let p = c .before .before .before .before .before .before .before .before .before .before .before .before .before .before .before .before .before .before .before .before .before .before .before .before .before .before .before .before .before .before .before .before .before .before .before .before .before .pre in ((p .1 .0 .order, p .1 .0 .number), p .0 .few-atoms)
 
-loop-holds : tie.Need-loop-holds Inv-loop μ-loop
-loop-holds c =
-    let s = c .before .before .before .before .before .before .before .before .before .before .before .before .before .before .before .before .before .before .before .before .before .before .before .before .before .before .before .before .before .before .before .before .before in
-    (sofar-start (fit-same (wired-at (c .before .before .before .before .before .before .before .before .before .before .before .before .before .before .link .ensures .1 .0)) (s .pre .0)) _ _ _ _ (s .pre .1 .1 .0), kept-same)
+same-length : tie.Need-same-length
+same-length c = search needs
 
-root-requires : tie.Need-root-requires Inv-loop μ-loop
-root-requires c κs =
-    let s = c .before .before .before .before .before .before .before .before .before .before .before .before .before .before .before .before .before .before .before .before .before .before .before .before .before .before .before .before .before .before .before .before .before .before .before .before .before .before .before .before .before .before .before .before .before in
-    let l = c .before .before .before .before .before .before .before .before .before .before .before .before .before .before .before .before .before .before .before .before .before .before .before .before .before .before .link .ensures in
-    let k = c .before .before .before .before .before .before .before .before .before .before .before .before .before .before .before .before .before .before .before .before .before .before .before .before .before .before .link .kept in
-    (fit-same (wired-at (l .1 .0)) (s .pre .0), (places-kept (s .pre .1 .1 .1 .1 .0) (k .1 .1 .0) (k .1 .1 .1 .0) (k .1 .1 .1 .1 .0) (k .1 .1 .1 .1 .1 .0) (k .1 .1 .1 .1 .1 .1 .0) (k .1 .1 .1 .1 .1 .1 .1 .0), (l .0, (room-kept (s .pre .1 .0) (c .before .before .before .before .before .before .before .before .before .before .before .loop .inv .1), c .before .before .before .before .before .before .before .before .before .before .loop-test .taken))))
+same-length-2 : tie.Need-same-length-2
+same-length-2 c = search needs
 
-add-a : tie.Need-add-a Inv-loop μ-loop
-add-a c =
-    let fit = c .before .before .before .before .before .before .before .before .before .before .before .before .before .before .before .before .before .before .before .before .before .before .before .before .before .before .before .before .before .before .before .before .before .before .before .before .before .before .before .before .before .before .before .before .before .before .before .before .before .before .before .before .before .before .pre .0 in
-    omega (arith, fit .few-atoms, c .before .before .before .before .before .before .before .before .before .before .before .before .before .before .before .before .before .before .before .loop-test .taken)
+same-length-3 : tie.Need-same-length-3
+same-length-3 c = search needs
 
-loop-less : tie.Need-loop-less Inv-loop μ-loop
-loop-less c = omega (arith, c .before .before .before .before .before .before .before .before .before .before .before .before .before .before .before .before .before .before .before .loop-test .taken)
+same-length-4 : tie.Need-same-length-4
+same-length-4 c = search needs
 
-loop-again : tie.Need-loop-again Inv-loop μ-loop
-loop-again c =
-    let s = c .before .before .before .before .before .before .before .before .before .before .before .before .before .before .before .before .before .before .before .before .before .before .before .before .before .before .before .before .before .before .before .before .before .before .before .before .before .before .before .before .before .before .before .before .before .before .before .before .before .before .before .before .before .before in
-    let l = c .before .before .before .before .before .before .before .before .before .before .before .before .before .before .before .before .before .before .before .before .before .before .before .before .before .before .before .before .before .before .before .before .before .before .before .link .ensures in
-    let i = c .before .before .before .before .before .before .before .before .before .before .before .before .before .before .before .before .before .before .before .before .loop .inv in
-    let r = c .before .before .before .before .before .before .before .before .root .ensures in
-    (sofar-step (fit-same (wired-at (l .1 .0)) (s .pre .0)) _ _ _ _ (c .before .before .before .before .before .before .before .before .before .before .before .before .before .before .before .before .before .before .before .loop-test .taken) (i .0) (r .0), kept-then (i .1) (r .1))
+same-length-5 : tie.Need-same-length-5
+same-length-5 c = search needs
 
-same-length : tie.Need-same-length Inv-loop μ-loop
-same-length c =
-    c .before .loop .inv .1 .order
+same-length-6 : tie.Need-same-length-6
+same-length-6 c = search needs
 
-same-length-2 : tie.Need-same-length-2 Inv-loop μ-loop
-same-length-2 c =
-    c .before .loop .inv .1 .number
+same-length-7 : tie.Need-same-length-7
+same-length-7 c = search needs
 
-same-length-3 : tie.Need-same-length-3 Inv-loop μ-loop
-same-length-3 c =
-    c .before .loop .inv .1 .up
+same-length-8 : tie.Need-same-length-8
+same-length-8 c = search needs
 
-same-length-4 : tie.Need-same-length-4 Inv-loop μ-loop
-same-length-4 c =
-    c .before .loop .inv .1 .kind
-
-same-length-5 : tie.Need-same-length-5 Inv-loop μ-loop
-same-length-5 c =
-    c .before .before .before .before .before .before .before .before .before .before .before .before .before .before .before .before .link .kept .1 .1 .1 .1 .1 .0
-
-same-length-6 : tie.Need-same-length-6 Inv-loop μ-loop
-same-length-6 c =
-    c .before .before .before .before .before .before .before .before .before .before .before .before .before .before .before .before .link .kept .1 .1 .1 .1 .1 .1 .0
-
-same-length-7 : tie.Need-same-length-7 Inv-loop μ-loop
-same-length-7 c =
-    c .before .before .before .before .before .before .before .before .before .before .before .before .before .before .before .before .link .kept .1 .1 .1 .1 .1 .1 .1 .0
-
-same-length-8 : tie.Need-same-length-8 Inv-loop μ-loop
-same-length-8 c =
-    c .before .before .before .before .before .before .before .before .before .before .before .before .before .before .before .before .link .kept .1 .1 .1 .1 .1 .1 .1 .1 .0
-
-same-length-9 : tie.Need-same-length-9 Inv-loop μ-loop
-same-length-9 c =
-    c .before .before .before .before .before .before .before .before .before .before .before .before .before .before .before .before .link .kept .1 .1 .0
-
-same-length-10 : tie.Need-same-length-10 Inv-loop μ-loop
-same-length-10 c =
-    c .before .before .before .before .before .before .before .before .before .before .before .before .before .before .before .before .link .kept .1 .1 .1 .0
-
-same-length-11 : tie.Need-same-length-11 Inv-loop μ-loop
-same-length-11 c =
-    c .before .before .before .before .before .before .before .before .before .before .before .before .before .before .before .before .link .kept .1 .1 .1 .1 .0
-
-returns : tie.Need-returns Inv-loop μ-loop
+returns : tie.Need-returns
 returns c =
-    let s = c .before .before .before .before .before .before .before .before .before .before .before .before .before .before .before .before .before .before .before .before .before .before .before .before .before .before .before .before .before .before .before .before .before .before .before in
-    let l = c .before .before .before .before .before .before .before .before .before .before .before .before .before .before .before .before .link .ensures in
-    let i = c .before .loop .inv in
-    let w = sofar-end (fit-same (wired-at (l .1 .0)) (s .pre .0)) _ _ _ _ _ _ (c .loop-test .left) (s .pre .1 .0) (i .0) in
-    (walked-table (l .1 .0) w, (i .1, (l .1 .0, l .1 .1)))
+    let p = c .before .before .before .before .before .before .before .before .before .before .before .before .before .before .before .before .before .before .before .before .before .before .before .before .before .before .before .before .before .before .before .before .before .before .before .before .before .before .before .before .before .before .pre in
+    let e = c .before .before .before .before .before .before .before .before .before .before .before .before .before .before .before .before .before .before .before .before .before .before .before .before .before .before .note .ensures in
+    let passed = c .before .before .before .before .before .before .before .before .before .before .before .before .is-straight .ensures (c .before .before .before .before .before .before .before .if1 .taken) in
+    let k = c .before .before .before .before .before .before .before .before .before .before .before .before .is-straight .kept in
+    let t = c .before .before .before .before .number-in-turn in
+    (walked-table (e .0) (straight-walk (fit-same (wired-at (e .0)) (p .0)) passed (t .ensures)), (record { order = t .kept .0; number = t .kept .1 .0; up = k .1 .1 .1 .1 .1 .0; kind = k .1 .1 .1 .1 .1 .1 .0 }, (e .0, e .1)))
+
+walk-lists-requires : tie.Need-walk-lists-requires
+walk-lists-requires c κs =
+    let p = c .before .before .before .before .before .before .before .before .before .before .before .before .before .before .before .before .before .before .before .before .before .before .before .before .before .before .before .before .before .before .before .before .before .before .before .before .before .before .before .before .before .before .before .before .before .pre in
+    let n = c .before .before .before .before .before .before .before .before .before .before .before .before .before .before .before .before .before .before .before .before .before .before .before .before .before .before .before .before .before .note in
+    let k = c .before .before .before .before .before .before .before .before .before .before .before .before .before .before .before .is-straight .kept in
+    let room = p .1 .0 in
+    (p .0, (n .ensures .0, (record { order = room .order; number = room .number; up = omega (arith, room .up, k .1 .1 .1 .1 .1 .0); kind = omega (arith, room .kind, k .1 .1 .1 .1 .1 .1 .0) }, (p .1 .1 .0, (p .1 .1 .1 .0 .0, places-kept (p .1 .1 .1 .1 .0) refl refl refl (n .kept .1 .1 .0) (n .kept .1 .1 .1 .0) (n .kept .1 .1 .1 .1 .0))))))
+
+same-length-9 : tie.Need-same-length-9
+same-length-9 c = search needs
+
+same-length-10 : tie.Need-same-length-10
+same-length-10 c = search needs
+
+same-length-11 : tie.Need-same-length-11
+same-length-11 c = search needs
+
+same-length-12 : tie.Need-same-length-12
+same-length-12 c = search needs
+
+same-length-13 : tie.Need-same-length-13
+same-length-13 c = c .before .before .before .before .before .before .before .before .before .before .before .before .before .before .before .before .before .before .before .before .before .before .before .before .before .before .before .before .before .before .before .before .before .before .before .before .before .before .before .before .before .before .before .before .note .kept .1 .1 .0
+
+same-length-14 : tie.Need-same-length-14
+same-length-14 c = c .before .before .before .before .before .before .before .before .before .before .before .before .before .before .before .before .before .before .before .before .before .before .before .before .before .before .before .before .before .before .before .before .before .before .before .before .before .before .before .before .before .before .before .before .note .kept .1 .1 .1 .0
+
+same-length-15 : tie.Need-same-length-15
+same-length-15 c = c .before .before .before .before .before .before .before .before .before .before .before .before .before .before .before .before .before .before .before .before .before .before .before .before .before .before .before .before .before .before .before .before .before .before .before .before .before .before .before .before .before .before .before .before .note .kept .1 .1 .1 .1 .0
+
+same-length-16 : tie.Need-same-length-16
+same-length-16 c = c .before .before .before .before .before .before .before .before .before .before .before .before .before .before .before .before .before .before .before .before .before .before .before .before .before .before .before .before .before .before .before .before .before .before .before .before .before .before .before .before .before .before .before .before .note .kept .1 .1 .1 .1 .1 .0
+
+same-length-17 : tie.Need-same-length-17
+same-length-17 c = search needs
+
+same-length-18 : tie.Need-same-length-18
+same-length-18 c = search needs
+
+same-length-19 : tie.Need-same-length-19
+same-length-19 c = search needs
+
+returns-2 : tie.Need-returns-2
+returns-2 c =
+    let e = c .before .before .before .before .before .before .before .before .before .before .before .before .before .before .before .before .before .before .before .before .before .before .before .before .before .before .before .before .before .before .before .before .before .before .before .before .before .before .before .before .before .before .before .before .note .ensures in
+    let k = c .before .before .before .before .before .before .before .before .before .before .before .before .before .before .before .before .before .before .before .before .before .before .before .before .before .before .before .before .before .before .is-straight .kept in
+    let w = c .before .before .before .before .before .before .before .before .before .before .before .before .before .before .walk-lists .ensures in
+    (w .0, (kept-then (record { order = refl; number = refl; up = k .1 .1 .1 .1 .1 .0; kind = k .1 .1 .1 .1 .1 .1 .0 }) (w .1), (e .0, e .1)))
 
 pub walk-spec : {M : Type 1} → statement M
 walk-spec =
     tie.close
     (tie.spec
-    Inv-loop
-    μ-loop
-    link-requires
-    loop-holds
-    root-requires
-    add-a
-    loop-less
-    loop-again
+    note-requires
+    is-straight-requires
+    number-in-turn-requires
     same-length
     same-length-2
     same-length-3
@@ -122,7 +117,17 @@ walk-spec =
     same-length-6
     same-length-7
     same-length-8
+    returns
+    walk-lists-requires
     same-length-9
     same-length-10
     same-length-11
-    returns)
+    same-length-12
+    same-length-13
+    same-length-14
+    same-length-15
+    same-length-16
+    same-length-17
+    same-length-18
+    same-length-19
+    returns-2)
