@@ -1,2 +1,3 @@
 pub mod Kekule
 pub mod Calls
+pub mod First

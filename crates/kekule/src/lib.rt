@@ -8,8 +8,9 @@ ghost use Rattle.ids.specs.Small.{small};
 ghost use Rattle.table.specs.Valid.{Valid, checkCode};
 ghost use Rattle.matching.specs.Enumeration.{rowCall, zeroed};
 ghost use Rattle.matching.specs.Model.{reply};
-ghost use Rattle.table_graph.specs.Graph.{matchingOf, matchable};
+ghost use Rattle.table_graph.specs.Graph.{matchingOf};
 ghost use Rattle.table_graph.specs.Built.{Prepared, Room};
+ghost use Rattle.kekule.specs.First.{FirstIn};
 ghost use Rattle.kekule.specs.Kekule.{out, callReplyOf, roomy, callOn, allZero, isMatchingOf, askedOf, tables, kekulized, kekulizedOf, Counted};
 ghost use Rattle.kekule.specs.Calls.{callsState, ranOf, replayed, Replays};
 use ids::BondId;
@@ -197,8 +198,31 @@ pub fn call_valid(
     found_of(ask(c, atoms, bonds, n, m, row))
 }
 
-// internal: whether valid tables have a matching, from what one pass over their bonds left, with buffers for the flags and a row.
-pub fn matchable(
+// The first matching of valid tables, from what one pass over their bonds left, with a buffer for the flags.
+fn search_wired(
+    atoms: &[i32],
+    n: usize,
+    m: usize,
+    sums: &[u16],
+    ea: &[u16],
+    eb: &[u16],
+    el: &[u8],
+    flags: &mut [u8],
+    row: &mut [u8],
+) -> MatchingAnswer
+    requires { ⌜ (n ≤ length (now flags)) × (m ≤ length (now row)) ⌝ }
+    requires { ⌜ ((bonds : List ℤ) × Prepared (now atoms) bonds n m (now sums) (now ea) (now eb) (now el)) ⌝ }
+    ensures { λ r. ⌜ ((bonds : List ℤ) → Prepared (now (atoms .entry)) bonds n m (now (sums .entry)) (now (ea .entry)) (now (eb .entry)) (now (el .entry)) → reply r (now (row .exit)) ≡ rowCall (matchingOf (now (atoms .entry)) bonds n m) m Call.First (now (row .entry))) ⌝ }
+{
+    if table_graph::none_selected(atoms, n) {
+        return give_zeros(row);
+    }
+    table_graph::fill_flags(atoms, sums, n, flags);
+    matching_engine::first(&ea[..m], &eb[..m], &el[..m], &mut flags[..n], row)
+}
+
+// internal: whether valid tables have a matching, from what one pass over their bonds left; the row gets the first. A buffer is lent for the flags.
+pub fn first_wired(
     atoms: &[i32],
     n: usize,
     m: usize,
@@ -211,13 +235,9 @@ pub fn matchable(
 ) -> bool
     requires { ⌜ (n ≤ length (now flags)) × (m ≤ length (now row)) ⌝ }
     requires { ⌜ ((bonds : List ℤ) × Prepared (now atoms) bonds n m (now sums) (now ea) (now eb) (now el)) ⌝ }
-    ensures { λ r. ⌜ ((bonds : List ℤ) → Prepared (now (atoms .entry)) bonds n m (now (sums .entry)) (now (ea .entry)) (now (eb .entry)) (now (el .entry)) → r ≡ matchable (now (atoms .entry)) bonds n m) ⌝ }
+    ensures { λ r. ⌜ ((bonds : List ℤ) → Prepared (now (atoms .entry)) bonds n m (now (sums .entry)) (now (ea .entry)) (now (eb .entry)) (now (el .entry)) → FirstIn (now (atoms .entry)) bonds n m (now (row .entry)) r (now (row .exit))) ⌝ }
 {
-    if table_graph::none_selected(atoms, n) {
-        return true;
-    }
-    table_graph::fill_flags(atoms, sums, n, flags);
-    let answer = matching_engine::first(&ea[..m], &eb[..m], &el[..m], &mut flags[..n], row);
+    let answer = search_wired(atoms, n, m, sums, ea, eb, el, flags, row);
     is_given(found_of(answer))
 }
 

@@ -6,3 +6,4 @@ pub mod Turns
 pub mod Ends
 pub mod Filling
 pub mod Ranks
+pub mod Chosen

@@ -10,7 +10,7 @@ use Rattle.loops.specs.Loop.{pick, run}
 use Rattle.valence.specs.Valence.{implied, overfull}
 use Rattle.table.specs.Limits.{HYDROGENS}
 use Rattle.table.specs.Cells.{atomPlace, element, selected}
-use Rattle.table_graph.specs.Graph.{matchable}
+use Rattle.kekule.specs.First.{FirstIn}
 use Rattle.reading.specs.Read.{ReadResult, refused, hydrogenated, overfullAtoms}
 use Rattle.reader.specs.declared.ending.Whole.{Whole}
 
@@ -39,11 +39,11 @@ pub record AtomsFilled (outside sums : List ℕ) (n : ℕ) (t t′ : List ℤ) (
   pub hydrogens : t′ ≡ hydrogenatedBy outside sums n t
   pub overfull : r ≡ overfullsBy outside sums n t
 
--- the atoms have their hydrogens; how many are over-full and whether there is a matching is told
-pub record Completed (outside : List ℕ) (atoms bonds : List ℤ) (n m : ℕ) (r : Whole) (atoms′ : List ℤ) : Type 0 where
+-- the atoms have their hydrogens; how many are over-full and whether there is a matching is told, and the row has the first one
+pub record Completed (outside : List ℕ) (atoms bonds : List ℤ) (n m : ℕ) (row : List ℕ) (r : Whole) (atoms′ : List ℤ) (row′ : List ℕ) : Type 0 where
   pub hydrogens : atoms′ ≡ hydrogenated outside bonds m n atoms
   pub overfull : r .overfull ≡ overfullAtoms outside bonds m n atoms
-  pub matched : r .matchable ≡ matchable atoms′ bonds n m
+  pub matched : FirstIn atoms′ bonds n m row (r .matchable) row′
 
 -- the molecule, or 11, by whether it has a matching
 abbrev pub placedBy : Bool → List ℤ → List ℤ → ℕ → ℕ → ℕ → ReadResult

@@ -5,3 +5,4 @@ pub mod Bridge
 pub mod Ranks
 pub mod Filled
 pub mod Ending
+pub mod Chosen

@@ -62,11 +62,13 @@ fn joins(bonds: &[i32], a: AtomId, b: AtomId, i: BondId) -> bool
     ensures { λ r. ⌜ r ≡ joins (now (bonds .entry)) (a .0) (b .0) (i .0) ⌝ }
 {
     let y = bond_number(bonds, i, SECOND);
-    if (y != a.0) & (y != b.0) {
-        return false;
+    if y == b.0 {
+        return bond_number(bonds, i, FIRST) == a.0;
     }
-    let x = bond_number(bonds, i, FIRST);
-    ((x == a.0) & (y == b.0)) | ((x == b.0) & (y == a.0))
+    if y == a.0 {
+        return bond_number(bonds, i, FIRST) == b.0;
+    }
+    false
 }
 
 // Whether the second end of one of m bonds is one of two atoms: a look at each, without an early end.

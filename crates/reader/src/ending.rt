@@ -20,6 +20,7 @@ ghost use Rattle.reading.specs.Read.{refused, earlier, leftmost, hydrogenated, 
 ghost use Rattle.reader.specs.Ranks.{firstRank, secondRank, rankBonds, Rankable};
 ghost use Rattle.reader.specs.Filled.{AtomFilled, AtomsFilled, Completed, placedBy};
 ghost use Rattle.reader.specs.Ending.{told, endedOf};
+ghost use Rattle.reader.specs.Chosen.{Chosen};
 use ids::AtomId;
 use ids::BRIDGES;
 use ids::BondId;
@@ -154,11 +155,11 @@ fn complete_in(
     requires { ⌜ Valid (hydrogenated (now outsides) (now bonds) m n (now atoms)) (now bonds) n m ⌝ }
     requires { ⌜ Room n m (now flags) (now ea) (now eb) (now el) (now sums) ⌝ }
     requires { ⌜ (now sums ≡ replicate (length (now sums)) 0) × (m ≤ length (now row)) ⌝ }
-    ensures { λ r. ⌜ Completed (now (outsides .entry)) (now (atoms .entry)) (now (bonds .entry)) n m r (now (atoms .exit)) ⌝ }
+    ensures { λ r. ⌜ Completed (now (outsides .entry)) (now (atoms .entry)) (now (bonds .entry)) n m (now (row .entry)) r (now (atoms .exit)) (now (row .exit)) ⌝ }
 {
     table_graph::wire(bonds, m, ea, eb, el, sums);
     let overfull = hydrogenate(n, outsides, sums, atoms);
-    let matchable = kekule::matchable(atoms, n, m, sums, ea, eb, el, flags, row);
+    let matchable = kekule::first_wired(atoms, n, m, sums, ea, eb, el, flags, row);
     Whole {
         matchable,
         overfull,
@@ -172,17 +173,18 @@ fn complete_small(
     outsides: &[u8; MAX_ATOMS],
     atoms: &mut [i32],
     bonds: &[i32],
+    row: &mut [u8],
 ) -> Whole
     requires { ⌜ Valid (hydrogenated (now outsides) (now bonds) m n (now atoms)) (now bonds) n m ⌝ }
     requires { ⌜ (n ≤ small) × (m ≤ small) ⌝ }
-    ensures { λ r. ⌜ Completed (now (outsides .entry)) (now (atoms .entry)) (now (bonds .entry)) n m r (now (atoms .exit)) ⌝ }
+    requires { ⌜ m ≤ length (now row) ⌝ }
+    ensures { λ r. ⌜ Completed (now (outsides .entry)) (now (atoms .entry)) (now (bonds .entry)) n m (now (row .entry)) r (now (atoms .exit)) (now (row .exit)) ⌝ }
 {
     let mut flags = [0u8; SMALL];
     let mut ea = [0u16; SMALL];
     let mut eb = [0u16; SMALL];
     let mut el = [0u8; SMALL];
     let mut sums = [0u16; SMALL];
-    let mut row = [0u8; SMALL];
     complete_in(
         n,
         m,
@@ -194,7 +196,7 @@ fn complete_small(
         &mut eb,
         &mut el,
         &mut sums,
-        &mut row,
+        row,
     )
 }
 
@@ -205,16 +207,17 @@ fn complete_large(
     outsides: &[u8; MAX_ATOMS],
     atoms: &mut [i32],
     bonds: &[i32],
+    row: &mut [u8],
 ) -> Whole
     requires { ⌜ Valid (hydrogenated (now outsides) (now bonds) m n (now atoms)) (now bonds) n m ⌝ }
-    ensures { λ r. ⌜ Completed (now (outsides .entry)) (now (atoms .entry)) (now (bonds .entry)) n m r (now (atoms .exit)) ⌝ }
+    requires { ⌜ m ≤ length (now row) ⌝ }
+    ensures { λ r. ⌜ Completed (now (outsides .entry)) (now (atoms .entry)) (now (bonds .entry)) n m (now (row .entry)) r (now (atoms .exit)) (now (row .exit)) ⌝ }
 {
     let mut flags = [0u8; MAX_ATOMS];
     let mut ea = [0u16; MAX_BONDS];
     let mut eb = [0u16; MAX_BONDS];
     let mut el = [0u8; MAX_BONDS];
     let mut sums = [0u16; MAX_ATOMS];
-    let mut row = [0u8; MAX_BONDS];
     complete_in(
         n,
         m,
@@ -226,7 +229,7 @@ fn complete_large(
         &mut eb,
         &mut el,
         &mut sums,
-        &mut row,
+        row,
     )
 }
 
@@ -237,17 +240,19 @@ fn complete(
     outsides: &[u8; MAX_ATOMS],
     atoms: &mut [i32],
     bonds: &[i32],
+    row: &mut [u8],
 ) -> Whole
     requires { ⌜ Valid (hydrogenated (now outsides) (now bonds) m n (now atoms)) (now bonds) n m ⌝ }
-    ensures { λ r. ⌜ Completed (now (outsides .entry)) (now (atoms .entry)) (now (bonds .entry)) n m r (now (atoms .exit)) ⌝ }
+    requires { ⌜ m ≤ length (now row) ⌝ }
+    ensures { λ r. ⌜ Completed (now (outsides .entry)) (now (atoms .entry)) (now (bonds .entry)) n m (now (row .entry)) r (now (atoms .exit)) (now (row .exit)) ⌝ }
 {
     if SMALL < n {
-        return complete_large(n, m, outsides, atoms, bonds);
+        return complete_large(n, m, outsides, atoms, bonds, row);
     }
     if SMALL < m {
-        return complete_large(n, m, outsides, atoms, bonds);
+        return complete_large(n, m, outsides, atoms, bonds, row);
     }
-    complete_small(n, m, outsides, atoms, bonds)
+    complete_small(n, m, outsides, atoms, bonds, row)
 }
 
 // A refusal with its offset; both tables are zeroed.
@@ -344,7 +349,38 @@ fn place(
     refuse_whole(Refusal::Unmatchable, 0, atoms, bonds)
 }
 
-// internal: what a text that was read whole answers: 10, a late check's refusal, 11 or the molecule.
+// internal: what a text that was read whole answers: 10, a late check's refusal, 11 or the molecule, whose first matching the row gets.
+pub fn end_row(
+    st: State,
+    offsets: &[u16; BRIDGES],
+    outsides: &[u8; MAX_ATOMS],
+    keys: &mut [u16; KEYS],
+    atoms: &mut [i32],
+    bonds: &mut [i32],
+    row: &mut [u8],
+) -> ReadAnswer
+    requires { ⌜ (st .atoms ≤ maxAtoms) × (st .bonds ≤ maxBonds) ⌝ }
+    requires { ⌜ Valid (hydrogenated (now outsides) (now bonds) (st .bonds) (st .atoms) (now atoms)) (now bonds) (st .atoms) (st .bonds) ⌝ }
+    requires { ⌜ Rankable (now bonds) (st .bonds) (now keys) ⌝ }
+    requires { ⌜ st .bonds ≤ length (now row) ⌝ }
+    ensures { λ r. ⌜ told r (now (atoms .exit)) (now (bonds .exit)) ≡ endedOf (steering st (now (offsets .entry)) (now (outsides .entry)) (now (keys .entry))) (now (atoms .entry)) (now (bonds .entry)) ⌝ }
+    ensures { λ r. ⌜ Chosen r (now (atoms .exit)) (now (bonds .exit)) (now (row .entry)) (now (row .exit)) ⌝ }
+{
+    let openers = st.openers;
+    let p = leftmost(&openers, offsets);
+    if p < MAX_TEXT {
+        return refuse_whole(Refusal::OpenBridge, p, atoms, bonds);
+    }
+    let n = st.atoms;
+    let m = st.bonds;
+    let w = complete(n, m, outsides, atoms, bonds, row);
+    match table_validity::late::late_check(atoms, bonds, n, m) {
+        Check::Fine => place(w, n, m, keys, atoms, bonds),
+        Check::Refused(r) => refuse_whole(r, 0, atoms, bonds),
+    }
+}
+
+// internal: the same, and the first matching is dropped.
 pub fn end(
     st: State,
     offsets: &[u16; BRIDGES],
@@ -358,16 +394,6 @@ pub fn end(
     requires { ⌜ Rankable (now bonds) (st .bonds) (now keys) ⌝ }
     ensures { λ r. ⌜ told r (now (atoms .exit)) (now (bonds .exit)) ≡ endedOf (steering st (now (offsets .entry)) (now (outsides .entry)) (now (keys .entry))) (now (atoms .entry)) (now (bonds .entry)) ⌝ }
 {
-    let openers = st.openers;
-    let p = leftmost(&openers, offsets);
-    if p < MAX_TEXT {
-        return refuse_whole(Refusal::OpenBridge, p, atoms, bonds);
-    }
-    let n = st.atoms;
-    let m = st.bonds;
-    let w = complete(n, m, outsides, atoms, bonds);
-    match table_validity::late::late_check(atoms, bonds, n, m) {
-        Check::Fine => place(w, n, m, keys, atoms, bonds),
-        Check::Refused(r) => refuse_whole(r, 0, atoms, bonds),
-    }
+    let mut row = [0u8; MAX_BONDS];
+    end_row(st, offsets, outsides, keys, atoms, bonds, &mut row)
 }

@@ -5,13 +5,14 @@ ghost use mathlib.Core.List.{List};
 ghost use Prim.Native.Nat.{_≤_};
 ghost use lib.ListN.{length, replicate};
 ghost use lib.IntN.{ℤ};
-ghost use Rattle.table.specs.Limits.{maxAtoms};
+ghost use Rattle.table.specs.Limits.{maxAtoms, maxBonds};
 ghost use Rattle.table.specs.Valid.{enough};
 ghost use Rattle.ids.specs.Limits.{maxText, bridges};
 ghost use Rattle.reading_state.specs.State.{keyCount};
 ghost use Rattle.reading.specs.Read.{zeros, readOf};
 ghost use Rattle.reader.specs.Outcome.{outcome};
 ghost use Rattle.reader.specs.Ending.{told, Blank, TextRead};
+ghost use Rattle.reader.specs.Chosen.{Chosen};
 use crate::bridge::PartRead;
 use crate::bridge::Why;
 use crate::bridge::refuse;
@@ -25,6 +26,7 @@ use reading_state::KEYS;
 use reading_state::State;
 use refusal::Refusal;
 use table::MAX_ATOMS;
+use table::MAX_BONDS;
 use table_edits::clear;
 
 pub mod atom;
@@ -70,10 +72,12 @@ fn read_text(
     o
 }
 
-// internal: reads a text into tables that are zeroed and long enough, for callers that know them so.
-pub fn read_zeroed(text: &[u8], atoms: &mut [i32], bonds: &mut [i32]) -> ReadAnswer
+// internal: reads a text into tables that are zeroed and long enough, for callers that know them so; the row gets the first matching of a molecule.
+pub fn read_row(text: &[u8], atoms: &mut [i32], bonds: &mut [i32], row: &mut [u8]) -> ReadAnswer
     requires { ⌜ Blank (now atoms) (now bonds) ⌝ }
+    requires { ⌜ maxBonds ≤ length (now row) ⌝ }
     ensures { λ r. ⌜ ((a b : List ℤ) → now (atoms .entry) ≡ zeros a → now (bonds .entry) ≡ zeros b → enough a b ≡ true → told r (now (atoms .exit)) (now (bonds .exit)) ≡ readOf (now (text .entry)) a b) ⌝ }
+    ensures { λ r. ⌜ Chosen r (now (atoms .exit)) (now (bonds .exit)) (now (row .entry)) (now (row .exit)) ⌝ }
 {
     if MAX_TEXT < text.len() {
         return ReadAnswer::Refused(Refusal::LongText, MAX_TEXT);
@@ -86,7 +90,7 @@ pub fn read_zeroed(text: &[u8], atoms: &mut [i32], bonds: &mut [i32]) -> ReadAns
     match w {
         Why::Fine => {
             let st = o.st;
-            ending::end(st, &offsets, &outsides, &mut keys, atoms, bonds)
+            ending::end_row(st, &offsets, &outsides, &mut keys, atoms, bonds, row)
         }
         Why::Refused(r, p) => {
             clear(atoms);
@@ -94,6 +98,15 @@ pub fn read_zeroed(text: &[u8], atoms: &mut [i32], bonds: &mut [i32]) -> ReadAns
             ReadAnswer::Refused(r, p)
         }
     }
+}
+
+// internal: the same, and the first matching is dropped.
+pub fn read_zeroed(text: &[u8], atoms: &mut [i32], bonds: &mut [i32]) -> ReadAnswer
+    requires { ⌜ Blank (now atoms) (now bonds) ⌝ }
+    ensures { λ r. ⌜ ((a b : List ℤ) → now (atoms .entry) ≡ zeros a → now (bonds .entry) ≡ zeros b → enough a b ≡ true → told r (now (atoms .exit)) (now (bonds .exit)) ≡ readOf (now (text .entry)) a b) ⌝ }
+{
+    let mut row = [0u8; MAX_BONDS];
+    read_row(text, atoms, bonds, &mut row)
 }
 
 // Reads a text: the counts of atoms, of bonds and of over-full atoms outside brackets, the tables holding their rows and zeros after them; or the refusal with its offset,

@@ -4,3 +4,4 @@ pub mod Fields
 pub mod Element
 pub mod Chain
 pub mod Letters
+pub mod Common

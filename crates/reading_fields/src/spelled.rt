@@ -101,12 +101,12 @@ fn boxed_at(s: &[u8], at: usize, b: u8) -> Spelled
     }
 }
 
-// internal: the atom at an offset.
-pub fn read_spelling(s: &[u8], at: usize) -> Spelled
+// The atom at an offset, by its first byte.
+fn by_letter(s: &[u8], at: usize, b: u8) -> Spelled
     requires { ⌜ at ≤ length (now s) ⌝ }
+    requires { ⌜ Peeked (now s) at b ⌝ }
     ensures { λ r. ⌜ Spells (now (s .entry)) at r ⌝ }
 {
-    let b = peek(s, at);
     if b == 0 {
         return Spelled::Nothing;
     }
@@ -117,4 +117,28 @@ pub fn read_spelling(s: &[u8], at: usize) -> Spelled
         Letter::Bracket => boxed_at(s, at, b),
         Letter::Nothing => Spelled::Nothing,
     }
+}
+
+// internal: the atom at an offset; the common letters are asked for first.
+pub fn read_spelling(s: &[u8], at: usize) -> Spelled
+    requires { ⌜ at ≤ length (now s) ⌝ }
+    ensures { λ r. ⌜ Spells (now (s .entry)) at r ⌝ }
+{
+    let b = peek(s, at);
+    if b == b'c' {
+        return Spelled::Row(bare(6, 1), 1, at + 1);
+    }
+    if b == b'C' {
+        return letter_at(s, at, b, 6);
+    }
+    if b == b'O' {
+        return letter_at(s, at, b, 8);
+    }
+    if b == b'N' {
+        return letter_at(s, at, b, 7);
+    }
+    if b == b'n' {
+        return Spelled::Row(bare(7, 1), 1, at + 1);
+    }
+    by_letter(s, at, b)
 }

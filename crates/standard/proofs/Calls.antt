@@ -25,10 +25,12 @@ use Rattle.ids.specs.Limits.{maxText}
 use Rattle.matching.specs.declared.Call.the-variants.{First}
 use Rattle.reading.specs.Read as read
 use Rattle.reader.specs.Ending as reader
+use Rattle.reader.specs.Chosen.{ChosenBy, Chosen}
 use Rattle.reader.proofs.Ends.{cleared-blank}
 use Rattle.reader.specs.declared.ending.ReadAnswer as reply
 use Rattle.reading.proofs.Accepted as reading
 use Rattle.matching.specs.Enumeration.{rowCall}
+use Rattle.kekule.specs.First.{firstIn}
 use Rattle.kekule.specs.Kekule as kekulize
 use Rattle.kekule.specs.Kekule.{KekulizeReply, CallReply, callReplyOf, out, tables, roomy, callOn, isMatchingOf, kekulizedOf}
 use Rattle.kekule.proofs.Kekule.{cleared, call-done, kekulize-crowded, kekulize-done}
@@ -40,7 +42,7 @@ use Rattle.writer.proofs.Answer.{told-valid}
 use Rattle.writer.specs.declared.Written.{Written}
 use Rattle.writer.specs.declared.Written.the-variants as written
 use Rattle.standard.specs.Standard.{StandardOut, refusedAs, zeroed, firstRow, kekuleOf, writtenOf, ofWritten, ofMolecule, ofRead, standardOf, told}
-use Rattle.standard.specs.Standing.{Writable, Standing, Settled}
+use Rattle.standard.specs.Standing.{Writable, Standing, FirstOf, Settled}
 use Rattle.standard.proofs.First.{first-is}
 use Rattle.standard.specs.declared.Standardized.the-variants.{Text, Refused}
 
@@ -87,38 +89,49 @@ module _ (atoms bonds : List ℤ) (n m : ℕ) (w : Standing atoms bonds n m) whe
   pub blank-fits : (blank : List ℕ) → blank ≡ replicate maxBonds 0 → m ≤ length blank
   blank-fits blank zero = omega (arith, standing-valid .few-bonds, ap length zero, length-replicate {A = ℕ} maxBonds 0)
 
-  module _ (blank row : List ℕ) (f : Found) (zero : blank ≡ replicate maxBonds 0) (kept : length row ≡ length blank) (first : out f row ≡ callReplyOf (rowCall (matchingOf atoms bonds n m) m First blank)) where
-    long : (r : List ℕ) → length r ≡ length blank → roomy atoms bonds (length r) ≡ true
-    long r l = ap (λ (x : ℕ). leb maxBonds x && enough atoms bonds) (l ∙ ap length zero ∙ length-replicate {A = ℕ} maxBonds 0) ∙ w .room
+  is-long : (row : List ℕ) → length row ≡ maxBonds → roomy atoms bonds (length row) ≡ true
+  is-long row l = ap (λ (x : ℕ). leb maxBonds x && enough atoms bonds) l ∙ w .room
+
+  -- the first call's row
+  first-row : firstIn atoms bonds n m (replicate maxBonds 0) ≡ firstRow atoms bonds n m
+  unfolding firstRow
+  first-row = ap (λ (o : CallReply). o .row) (call-done First atoms bonds n m (replicate maxBonds 0) (is-long (replicate maxBonds 0) (length-replicate {A = ℕ} maxBonds 0)) (w .is-sound) refl)
+
+  pub first-of : (blank row : List ℕ) → blank ≡ replicate maxBonds 0 → length row ≡ length blank → row ≡ firstIn atoms bonds n m blank → FirstOf atoms bonds n m row
+  first-of blank row zero kept first =
+      record { long = kept ∙ ap length zero ∙ length-replicate {A = ℕ} maxBonds 0; first = first ∙ ap (firstIn atoms bonds n m) zero ∙ first-row }
+
+  pub first-called : (blank row : List ℕ) (f : Found) → blank ≡ replicate maxBonds 0 → length row ≡ length blank → out f row ≡ callReplyOf (rowCall (matchingOf atoms bonds n m) m First blank) → FirstOf atoms bonds n m row
+  first-called blank row f zero kept first = first-of blank row zero kept (ap (λ (o : CallReply). o .row) first)
+
+  module _ (row : List ℕ) (f : FirstOf atoms bonds n m row) where
+    long : roomy atoms bonds (length row) ≡ true
+    long = is-long row (f .long)
 
     pub row-fits : m ≤ length row
-    row-fits = omega (arith, standing-valid .few-bonds, kept, ap length zero, length-replicate {A = ℕ} maxBonds 0)
-
-    the-first : row ≡ firstRow atoms bonds n m
-    unfolding firstRow
-    the-first = ap (λ (o : CallReply). o .row) (call-done First atoms bonds n m blank (long blank refl) (w .is-sound) first) ∙ ap (λ (r : List ℕ). callOn First atoms bonds n m r .row) zero
+    row-fits = omega (arith, standing-valid .few-bonds, f .long)
 
     matches : isMatchingOf atoms bonds n m row ≡ true
-    matches = subst (λ (r : List ℕ). isMatchingOf atoms bonds n m r ≡ true) (sym (ap (λ (o : CallReply). o .row) first)) (first-is atoms bonds n m blank (w .matched))
+    matches = subst (λ (r : List ℕ). isMatchingOf atoms bonds n m r ≡ true) (first-row ∙ sym (f .first)) (first-is atoms bonds n m (replicate maxBonds 0) (w .matched))
 
     the-tables : {t : KekulizeReply} → t ≡ kekulizedOf atoms bonds n m row → t ≡ kekuleOf atoms bonds n m
     unfolding kekuleOf
-    the-tables e = e ∙ ap (kekulizedOf atoms bonds n m) the-first
+    the-tables e = e ∙ ap (kekulizedOf atoms bonds n m) (f .first)
 
     pub crowded : noneCrowdedBy bonds m row ≡ false → Settled atoms bonds n m (check.Refused CrowdedEnd) atoms bonds row
     crowded d =
         record {
-          first = the-first;
-          done = the-tables (kekulize-crowded atoms bonds n m row (long row kept) (w .is-sound) matches d);
+          first = f .first;
+          done = the-tables (kekulize-crowded atoms bonds n m row long (w .is-sound) matches d);
           writable = λ e. no-refusal e;
         }
 
     pub kekulized : {a b : List ℤ} → noneCrowdedBy bonds m row ≡ true → tables check.Fine a b ≡ kekulize.kekulized atoms bonds n m row → length a ≡ length atoms → length b ≡ length bonds → Settled atoms bonds n m check.Fine a b row
     unfolding enough
     kekulized {a} {b} d done la lb =
-        let e : tables check.Fine a b ≡ kekulizedOf atoms bonds n m row = kekulize-done atoms bonds n m row (long row kept) (w .is-sound) matches d done in
+        let e : tables check.Fine a b ≡ kekulizedOf atoms bonds n m row = kekulize-done atoms bonds n m row long (w .is-sound) matches d done in
         record {
-          first = the-first;
+          first = f .first;
           done = the-tables e;
           writable = λ z. record {
             room = (λ i. leb (atomCells * maxAtoms) (la i) && leb (bondCells * maxBonds) (lb i)) ∙ w .room;
@@ -166,6 +179,9 @@ blank-room = both (le-leb (atomCells * maxAtoms) (length blankAtoms) (omega (ari
 pub blank-tables : reader.Blank blankAtoms blankBonds
 blank-tables = cleared-blank blankAtoms blankBonds blank-room (blank-is (atomCells * maxAtoms)) (blank-is (bondCells * maxBonds))
 
+pub row-long : maxBonds ≤ length {A = ℕ} (replicate maxBonds 0)
+row-long = omega (arith, length-replicate {A = ℕ} maxBonds 0)
+
 -- what reading into them promises
 pub blank-read : (s : List ℕ) {t : read.ReadResult} → ((a b : List ℤ) → blankAtoms ≡ read.zeros a → blankBonds ≡ read.zeros b → enough a b ≡ true → t ≡ read.readOf s a b) → t ≡ readBlank s
 blank-read s f = f blankAtoms blankBonds (blank-is (atomCells * maxAtoms)) (blank-is (bondCells * maxBonds)) blank-room
@@ -190,6 +206,11 @@ read-standing s a b x answer {n} {m} {k} e =
     let same : reader.told (reply.ReadAnswer.Molecule n m k) a b ≡ readBlank s = ap (λ (y : reply.ReadAnswer). reader.told y a b) (sym e) ∙ answer in
     let fine : readBlank s .code ≡ 0 = ap (λ (t : read.ReadResult). t .code) (sym same) in
     subst (λ (t : read.ReadResult). Standing (t .atoms) (t .bonds) (t .atomCount) (t .bondCount)) (sym same) (accepted-standing s fine)
+
+-- the row that reading got
+pub read-first : (s : List ℕ) (a b : List ℤ) (x : reply.ReadAnswer) (blank row : List ℕ) → reader.told x a b ≡ readBlank s → Chosen x a b blank row → blank ≡ replicate maxBonds 0 → length row ≡ length blank
+    → {n m k : ℕ} → x ≡ reply.ReadAnswer.Molecule n m k → FirstOf a b n m row
+read-first s a b x blank row answer c zero kept e = first-of a b _ _ (read-standing s a b x answer e) blank row zero kept (subst (λ (y : reply.ReadAnswer). ChosenBy y a b blank row) e (c .is))
 
 module _ (s output : List ℕ) (a b : List ℤ) (x : reply.ReadAnswer) (long : maxText ≤ length output) (answer : reader.told x a b ≡ readBlank s) where
   the-reading : {y : reply.ReadAnswer} → x ≡ y → ofRead (reader.told y a b) output ≡ standardOf s output

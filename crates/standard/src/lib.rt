@@ -7,7 +7,7 @@ ghost use Rattle.table.specs.Limits.{maxAtoms, maxBonds};
 ghost use Rattle.ids.specs.Limits.{maxText};
 ghost use Rattle.writing.specs.Write.{writeOf};
 ghost use Rattle.standard.specs.Standard.{told, zeroed, ofWritten, ofMolecule, standardOf};
-ghost use Rattle.standard.specs.Standing.{Writable, Standing, Settled};
+ghost use Rattle.standard.specs.Standing.{Writable, Standing, FirstOf, Settled};
 use ids::MAX_TEXT;
 use matching::Call;
 use reader::ending::ReadAnswer;
@@ -54,13 +54,12 @@ fn write_kekulized(
     }
 }
 
-// internal: kekulizes the tables of an accepted text by their first matching, which a zeroed row gets; or 20, which changes neither table.
-pub fn settle(atoms: &mut [i32], bonds: &mut [i32], n: usize, m: usize, row: &mut [u8]) -> Check
+// Kekulizes the tables of an accepted text by their first matching, which the row has; or 20, which changes neither table.
+fn settle_by(atoms: &mut [i32], bonds: &mut [i32], n: usize, m: usize, row: &[u8]) -> Check
     requires { ⌜ Standing (now atoms) (now bonds) n m ⌝ }
-    requires { ⌜ now row ≡ replicate maxBonds 0 ⌝ }
-    ensures { λ r. ⌜ Settled (now (atoms .entry)) (now (bonds .entry)) n m r (now (atoms .exit)) (now (bonds .exit)) (now (row .exit)) ⌝ }
+    requires { ⌜ FirstOf (now atoms) (now bonds) n m (now row) ⌝ }
+    ensures { λ r. ⌜ Settled (now (atoms .entry)) (now (bonds .entry)) n m r (now (atoms .exit)) (now (bonds .exit)) (now (row .entry)) ⌝ }
 {
-    kekule::call_valid(Call::First, atoms, bonds, n, m, row);
     if !table_marks::none_crowded_by(bonds, m, row) {
         return Check::Refused(Refusal::CrowdedEnd);
     }
@@ -68,21 +67,32 @@ pub fn settle(atoms: &mut [i32], bonds: &mut [i32], n: usize, m: usize, row: &mu
     Check::Fine
 }
 
-// A molecule that was read: kekulized by its first matching, and its text.
+// internal: kekulizes the tables of an accepted text by their first matching, which a zeroed row gets; or 20, which changes neither table.
+pub fn settle(atoms: &mut [i32], bonds: &mut [i32], n: usize, m: usize, row: &mut [u8]) -> Check
+    requires { ⌜ Standing (now atoms) (now bonds) n m ⌝ }
+    requires { ⌜ now row ≡ replicate maxBonds 0 ⌝ }
+    ensures { λ r. ⌜ Settled (now (atoms .entry)) (now (bonds .entry)) n m r (now (atoms .exit)) (now (bonds .exit)) (now (row .exit)) ⌝ }
+{
+    kekule::call_valid(Call::First, atoms, bonds, n, m, row);
+    settle_by(atoms, bonds, n, m, row)
+}
+
+// A molecule that was read: kekulized by its first matching, which the row has, and its text.
 fn kekulize_first(
     atoms: &mut [i32],
     bonds: &mut [i32],
     n: usize,
     m: usize,
     overfull: usize,
+    row: &[u8],
     out: &mut [u8],
 ) -> Standardized
     requires { ⌜ Standing (now atoms) (now bonds) n m ⌝ }
+    requires { ⌜ FirstOf (now atoms) (now bonds) n m (now row) ⌝ }
     requires { ⌜ maxText ≤ length (now out) ⌝ }
     ensures { λ t. ⌜ told t (now (out .exit)) ≡ ofMolecule (now (atoms .entry)) (now (bonds .entry)) n m overfull (now (out .entry)) ⌝ }
 {
-    let mut row = [0u8; MAX_BONDS];
-    let c = settle(atoms, bonds, n, m, &mut row);
+    let c = settle_by(atoms, bonds, n, m, row);
     match c {
         Check::Fine => write_kekulized(atoms, bonds, n, m, overfull, out),
         Check::Refused(r) => refuse(r, 0, out),
@@ -100,11 +110,12 @@ pub fn standardize(text: &[u8], out: &mut [u8]) -> Standardized
     }
     let mut atoms = [0i32; ATOM_CELLS * MAX_ATOMS];
     let mut bonds = [0i32; BOND_CELLS * MAX_BONDS];
-    let a = reader::read_zeroed(text, &mut atoms, &mut bonds);
+    let mut row = [0u8; MAX_BONDS];
+    let a = reader::read_row(text, &mut atoms, &mut bonds, &mut row);
     match a {
         ReadAnswer::Refused(r, p) => refuse(r, p, out),
         ReadAnswer::Molecule(n, m, overfull) => {
-            kekulize_first(&mut atoms, &mut bonds, n, m, overfull, out)
+            kekulize_first(&mut atoms, &mut bonds, n, m, overfull, &row, out)
         }
     }
 }

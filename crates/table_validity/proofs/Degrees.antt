@@ -10,15 +10,17 @@ use lib.ListN.{length, getD, replicate, length-set, List·getD-eq-default}
 use lib.Seq.{getD-set-same, getD-set-other, ext-getD}
 use lib.IntN.{ℤ}
 use lib.Dec.{eqb, ltb}
-use borrow.Author.Tests.{eqb-true, eqb-false, ltb-true, ltb-false, lt-ltb, le-leb, lt-leb}
+use borrow.Author.Tests.{not-true, eqb-true, eqb-false, ltb-true, ltb-false, lt-ltb, le-leb, lt-leb}
 use Rattle.loops.specs.Loop.{pick, each, upTo}
 use Rattle.loops.proofs.Loops.{Left, left-start, left-pass, left-fail, left-end, length-upTo, upTo-at, each-at, each-all, each-same}
 use Rattle.refusal.proofs.Codes.{code-range}
-use Rattle.table.specs.Cells.{selected, hydrogens, mark, end1, end2, touches}
+use Rattle.table.specs.Cells.{selected, hydrogens, mark, end1, end2, touches, kind}
 use Rattle.table.specs.declared.Check.{Check}
 use Rattle.table.specs.declared.Check.the-variants.{Fine, Refused}
 use Rattle.table.specs.Valid.{valid, Valid, checkCode}
-use Rattle.table.specs.Marks.{noneCrowded, noneStray}
+use Rattle.kinds.specs.Kind.{isMark}
+use Rattle.table.specs.Marks.{noneCrowded, noneStray, stray, unmarked}
+use Rattle.table.proofs.Marks.{unmarked-crowded}
 use Rattle.table.specs.Sound.{bondDegree, loose, noneLoose, fourNeighbours, unfit, noneUnfit, lateCode, sound}
 use Rattle.table.proofs.Valid.{facts, bond-row}
 use Rattle.table.proofs.Sound.{degree-more, degree-none, degree-small, sound-late, sound-back}
@@ -113,6 +115,14 @@ plain-code atoms bonds n m h =
 pub late-counts : (atoms bonds : List ℤ) (n m : ℕ) → noneCrowded bonds m ≡ true → noneStray bonds m ≡ true → countsCode atoms bonds n m ≡ lateCode atoms bonds n m
 unfolding countsCode lateCode
 late-counts atoms bonds n m e f = rw (e, f)
+
+-- no mark, none astray
+unmarked-stray : (bonds : List ℤ) (m : ℕ) → unmarked bonds m ≡ true → noneStray bonds m ≡ true
+unfolding unmarked noneStray
+unmarked-stray bonds m h = each-all (λ b. not (stray bonds m b)) m (λ b l. rw (not-true (isMark (kind bonds b)) (each-at (λ x. not (isMark (kind bonds x))) m b h l)))
+
+pub unmarked-counts : (atoms bonds : List ℤ) (n m : ℕ) → unmarked bonds m ≡ true → countsCode atoms bonds n m ≡ lateCode atoms bonds n m
+unmarked-counts atoms bonds n m h = late-counts atoms bonds n m (unmarked-crowded bonds m h) (unmarked-stray bonds m h)
 
 -- one atom's test
 pub fit-unmarked : (atoms : List ℤ) (a d : ℕ) → mark atoms a ≡ 0 → fit atoms a d ≡ true

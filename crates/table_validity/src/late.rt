@@ -3,8 +3,9 @@ ghost use mathlib.Core.Path.{_≡_};
 ghost use Prim.Native.Nat.{ℕ, _<_, _≤_};
 ghost use lib.ListN.{length, getD, replicate};
 ghost use Rattle.loops.specs.Loop.{each, upTo};
-ghost use Rattle.table.specs.Limits.{maxAtoms};
+ghost use Rattle.table.specs.Limits.{maxAtoms, maxBonds};
 ghost use Rattle.table.specs.Valid.{Valid, checkCode};
+ghost use Rattle.table.specs.Marks.{unmarked};
 ghost use Rattle.table.specs.Sound.{bondDegree, lateCode};
 ghost use Rattle.table_validity.specs.Degrees.{counted, Ends, plain, fit, degreesCode, countsCode};
 use ids::AtomId;
@@ -14,6 +15,7 @@ use refusal::Refusal;
 use table::Check;
 use table::FIRST;
 use table::HYDROGENS;
+use table::KIND;
 use table::MARK;
 use table::MAX_ATOMS;
 use table::SECOND;
@@ -123,11 +125,29 @@ fn check_counts(atoms: &[i32], bonds: &[i32], n: usize, m: usize) -> Check
     check_counts_in(atoms, bonds, n, m, &mut degrees)
 }
 
+// No bond has a mark.
+fn unmarked(bonds: &[i32], m: usize) -> bool
+    requires { ⌜ m ≤ maxBonds ⌝ }
+    ensures { λ r. ⌜ r ≡ unmarked (now (bonds .entry)) m ⌝ }
+{
+    let mut i = 0;
+    while i < m {
+        if kinds::mark(cell::bond_number(bonds, BondId(i), KIND)) != 0 {
+            return false;
+        }
+        i += 1;
+    }
+    true
+}
+
 // internal: the late checks of valid tables in their order: the first refusal.
 pub fn late_check(atoms: &[i32], bonds: &[i32], n: usize, m: usize) -> Check
     requires { ⌜ Valid (now atoms) (now bonds) n m ⌝ }
     ensures { λ r. ⌜ checkCode r ≡ lateCode (now (atoms .entry)) (now (bonds .entry)) n m ⌝ }
 {
+    if unmarked(bonds, m) {
+        return check_counts(atoms, bonds, n, m);
+    }
     if !table_marks::none_crowded(bonds, m) {
         return Check::Refused(Refusal::CrowdedEnd);
     }

@@ -21,8 +21,8 @@ hydrogenate-requires c κs =
     let a = s .args in
     (s .pre .0 .few-atoms, omega (arith, s .pre .1 .0 .summed, sums-length (now (a .bonds)) (a .m) _ (c .before .before .before .before .before .before .before .before .before .before .wire .ensures .1)))
 
-matchable-requires : tie.Need-matchable-requires
-matchable-requires c κs =
+first-wired-requires : tie.Need-first-wired-requires
+first-wired-requires c κs =
     let s = c .before .before .before .before .before .before .before .before .before .before .before .before .before .before .before .before .before .before .before .before .before .before .before .before .before .before .before .before .before .before in
     let a = s .args in
     let w = c .before .before .before .before .before .before .before .before .before .before .before .before .before .before .before .before .before .before .before .wire .ensures in
@@ -59,7 +59,7 @@ returns c =
     record {
       hydrogens = completed-atoms (now (a .outsides)) (now (a .atoms)) (now (a .bonds)) (a .n) (a .m) _ (s .pre .1 .0 .summed) (w .1) (s .pre .0) (h .hydrogens);
       overfull = h .overfull ∙ overfulls-by (now (a .outsides)) (now (a .bonds)) (a .n) (a .m) _ (now (a .atoms)) (w .1) (s .pre .1 .0 .summed);
-      matched = c .before .before .before .before .matchable .ensures (now (a .bonds)) (completed-tables (now (a .outsides)) (now (a .atoms)) (now (a .bonds)) (a .n) (a .m) _ (s .pre .1 .0 .summed) (w .1) (s .pre .0) (h .hydrogens) (w .0));
+      matched = c .before .before .before .before .first-wired .ensures (now (a .bonds)) (completed-tables (now (a .outsides)) (now (a .atoms)) (now (a .bonds)) (a .n) (a .m) _ (s .pre .1 .0 .summed) (w .1) (s .pre .0) (h .hydrogens) (w .0));
     }
 
 pub complete-in-spec : {M : Type 1} → statement M
@@ -68,7 +68,7 @@ complete-in-spec =
     (tie.spec
     wire-requires
     hydrogenate-requires
-    matchable-requires
+    first-wired-requires
     same-length
     same-length-2
     same-length-3
