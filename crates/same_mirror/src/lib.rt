@@ -14,7 +14,7 @@ use same_place::SIDE;
 // How long a guess may take, and how much a candidate must have cost for it to be worth one, in steps.
 const GUESS: u32 = 300;
 
-const WORTH: u32 = 100;
+const WORTH: u32 = 500;
 
 // What a guess costs, in steps.
 const COST: u32 = 100;
