@@ -108,7 +108,7 @@ search-loop-again t c =
     let l = c .before .before .if2 .left in
     let g = c .before .before .before .before .before .before .before .before .args in
     ⊎-elim
-    (λ w. pass-marked v i l (omega (arith, w .18, w .14 .ensures .0, w .7 .ensures .1)) (w .17) (w .14 .ensures .1 (g .p .now)) (nowhere (w .2 .ensures .0) (w .7 .ensures .0) (w .8 .left) (some-left (w .7 .result .left) (ltb 100 (s .loop .left - 1 - w .7 .result .left)) (w .10 .taken))))
+    (λ w. pass-marked v i l (omega (arith, w .18, w .14 .ensures .0, w .7 .ensures .1)) (w .17) (w .14 .ensures .1 (g .p .now)) (nowhere (w .2 .ensures .0) (w .7 .ensures .0) (w .8 .left) (some-left (w .7 .result .left) (ltb 500 (s .loop .left - 1 - w .7 .result .left)) (w .10 .taken))))
     (⊎-elim
     (λ w. pass-next v i l (omega (arith, w .14, w .7 .ensures .1)) (w .13) (λ k. nowhere (w .2 .ensures .0) (w .7 .ensures .0) (w .8 .left) (omega (arith, w .14, k))))
     (⊎-elim
