@@ -73,8 +73,13 @@ pub handed : (found : List ℕ) (n : ℕ) (ren₀ : List ℕ) → n ≤ length r
 handed found n ren₀ room size e = e ∙ rw (drop-length ren₀, append-nil (upTo (λ i. pick (ltb i n) (getD found i 0) 0) 0 (length ren₀))) (handed-out found n (length ren₀) room size)
 
 -- keys and pairs are low enough
-pub bounded : (x : Molecule) (row : List ℕ) → Ready x row → (on : Bool) {base keys : List ℕ} → base ≡ pairsOf on x keys → keys ≡ keysOf x → Bounded base keys
-bounded x row w on {base} {keys} b k = record { low-base = low-same b (pairs-low x keys on (w .few)); low-keys = low-same k (keys-low x (w .valid) (w .few)) }
+pub bounded : (x : Molecule) (row : List ℕ) → Ready x row → (on : Bool) {base keys : List ℕ} → base ≡ pairsOf on x keys → keys ≡ keysOf x → Bounded (x .n) base keys
+bounded x row w on {base} {keys} b k =
+    record {
+      low-base = low-same b (pairs-low x keys on (w .few));
+      low-keys = low-same k (keys-low x (w .valid) (w .few));
+      based = record { size = ap length b ∙ pairs-length x keys on (w .few); key = pairKey on x keys; at = λ a d la ld. ap (λ (l : List ℕ). entry l a d) b ∙ pairs-at x keys on (w .few) a d la ld };
+    }
 
 -- a list that has no head
 none-there : (l : List Row) → (some? l ≡ true → ⊥) → l ≡ []

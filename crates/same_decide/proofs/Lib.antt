@@ -1,2 +1,4 @@
 pub mod Walk
 pub mod Rows
+pub mod Skipping
+pub mod Barring

@@ -10,11 +10,14 @@ use lib.IntN.{ℤ}
 use lib.Seq.{length-take-le}
 use borrow.Author.Tests.{eq-eqb, ne-eqb}
 use Rattle.loops.specs.Loop.{run}
-use Rattle.matching.specs.Enumeration.{Row, passing, matchings, before, fill, Reply}
+use Rattle.matching.specs.Enumeration.{Row, passing, matchings, before, fill, Reply, isRow}
 use Rattle.matching.specs.Model.{some?, headOr}
 use Rattle.matching.specs.declared.MatchingAnswer.{MatchingAnswer}
 use Rattle.matching.specs.declared.MatchingAnswer.the-variants.{Given, Absent, Refused, Ended}
 use Rattle.matching.proofs.Graph.{never}
+use Rattle.matching.proofs.Enumeration.{row-length}
+use Rattle.loops.proofs.Loops.{and-left}
+use Rattle.table_graph.specs.Graph.{matchingOf}
 use Rattle.table.specs.Valid.{Valid}
 use Rattle.kekule_answers.specs.Answers.{foundOf, foundCode}
 use Rattle.kekule_answers.specs.declared.Found.{Found}
@@ -91,12 +94,18 @@ module _ (o : List ℕ) (z : ℕ) (ok : List ℕ) (atoms2 : List ℤ) (y : Sketc
       let q : seconds o z ok atoms2 y ≡ [] = walking-end p (y .m) T (length row₀) fit v h in
       record { long = v .long; size = l; told = sym (ap some? q); wrote = λ k. absurd (never false k refl); placed = λ k. absurd (never false k refl) }
 
--- the walk with a matrix that was drawn, and a sum
-pub as-drawn : (x : Sketch) (r1 : Row) {o ok : List ℕ} {z : ℕ} {atoms2 : List ℤ} {y : Sketch} {row ren : List ℕ} {r : Bool} {row′ ren′ : List ℕ} → z ≡ sumOf x r1 → o ≡ run (withBond (x .bonds) r1) 0 (x .m) (x .base)
-    → SecondFound o z ok atoms2 y row ren r row′ ren′ → SecondFound (drawnMatrix x r1) (sumOf x r1) ok atoms2 y row ren r row′ ren′
+-- the ways with a matrix that was drawn, and a sum
+pub drawn-ways : (x : Sketch) (r1 : Row) {o : List ℕ} (ok : List ℕ) {z : ℕ} (y : Sketch) (s : Row) {ren : List ℕ} {r : Bool} {ren′ : List ℕ} → z ≡ sumOf x r1 → o ≡ run (withBond (x .bonds) r1) 0 (x .m) (x .base)
+    → Solved (ways o z ok y s) (y .n) 0 ren r ren′ → Solved (ways (drawnMatrix x r1) (sumOf x r1) ok y s) (y .n) 0 ren r ren′
 unfolding drawnMatrix
-as-drawn x r1 {o} {ok} {z} {atoms2} {y} {row} {ren} {r} {row′} {ren′} q e w =
-    subst (λ (k : ℕ). SecondFound (run (withBond (x .bonds) r1) 0 (x .m) (x .base)) k ok atoms2 y row ren r row′ ren′) q (subst (λ (l : List ℕ). SecondFound l z ok atoms2 y row ren r row′ ren′) e w)
+drawn-ways x r1 {o} ok {z} y s {ren} {r} {ren′} q e w =
+    subst (λ (k : ℕ). Solved (ways (run (withBond (x .bonds) r1) 0 (x .m) (x .base)) k ok y s) (y .n) 0 ren r ren′) q (subst (λ (l : List ℕ). Solved (ways l z ok y s) (y .n) 0 ren r ren′) e w)
+
+-- a row of the tables can be drawn
+pub ready-row : {atoms bonds : List ℤ} {n m : ℕ} (row : Row) → Valid atoms bonds n m → n ≤ maxSame → (isRow m row && matchingOf atoms bonds n m row) ≡ true → Drawable bonds m row
+ready-row {atoms} {bonds} {n} {m} row v few h =
+    let l : length row ≡ m = row-length m row (and-left (isRow m row) (matchingOf atoms bonds n m row) h) in
+    drawable (record { atoms = atoms; bonds = bonds; n = n; m = m }) row v few (omega arith)
 
 module _ (ok : List ℕ) (atoms1 : List ℤ) (x : Sketch) (atoms2 : List ℤ) (y : Sketch) (row₀ row2₀ ren₀ : List ℕ) (fit : x .m ≤ length row₀) where
   abbrev p1 : Row → Bool

@@ -1,22 +1,24 @@
 -- auxiliary: the rows of two molecules walked in their order, as the contracts of the walk say it
-use Prim.Native.Nat.{ℕ, _≤_}
+use Prim.Native.Nat.{ℕ, _*_, _+_, _/_, _%_, _<_, _≤_}
 use mathlib.Core.Path.{_≡_}
 use mathlib.Core.Bool.{Bool, true, false}
 use mathlib.Core.List.{List, []}
-use lib.ListN.{length, take}
+use lib.ListN.{length, getD, take}
 use lib.IntN.{ℤ}
 use lib.Dec.{eqb}
 use Rattle.loops.specs.Loop.{pick, run}
-use Rattle.matching.specs.Enumeration.{Row, passing, matchings, fill, Reply, rowCall}
+use Rattle.matching.specs.Enumeration.{Row, passing, matchings, fill, Reply, rowCall, isRow}
 use Rattle.matching.specs.Model.{some?, headOr}
 use Rattle.matching.specs.declared.Call.{Call}
 use Rattle.matching.specs.declared.MatchingAnswer.{MatchingAnswer}
 use Rattle.matching.specs.declared.MatchingAnswer.the-variants.{Given, Absent, Refused, Ended}
 use Rattle.table_graph.specs.Graph.{matchingOf}
-use Rattle.same_model.specs.Same.{maxSame}
-use Rattle.same_place.specs.Place.{goods}
+use Rattle.same_model.specs.Same.{maxSame, image}
+use Rattle.same_place.specs.Place.{entry, goods}
 use Rattle.same_keys.specs.Keys.{Low, highest}
-use Rattle.same_drawing.specs.Drawing.{withBond, rowSum}
+use Rattle.same_drawing.specs.Drawing.{cells, withBond, rowSum}
+use Rattle.same_open.specs.Open.{Way, Goes, Faces}
+use Rattle.same_part.specs.Part.{closedMatrix}
 
 -- what is drawn of a molecule: its bonds, the keys of its atoms, and the matrix of their pairs to which orders are added
 pub record Sketch : Type 0 where
@@ -72,16 +74,36 @@ pub record HandsOut (g : Reply) (r : Bool) (row : Row) : Type 0 where
   pub told : r ≡ handedOut (g .answer)
   pub wrote : row ≡ g .row
 
+-- a matrix that holds four times the key of each pair
+pub record Based (n : ℕ) (base : List ℕ) : Type 0 where
+  pub size : length base ≡ cells
+  pub key : ℕ → ℕ → ℕ
+  pub at : (a b : ℕ) → a < n → b < n → entry base a b ≡ 4 * key a b
+
 -- numbers that are low enough for all sums
-pub record Bounded (base keys : List ℕ) : Type 0 where
+pub record Bounded (n : ℕ) (base keys : List ℕ) : Type 0 where
   pub low-base : Low base 40000
   pub low-keys : Low keys (highest 33)
+  pub based : Based n base
 
 -- n atoms, and a renumbering with a cell for each
 pub record Fewer (n : ℕ) (base keys ren : List ℕ) : Type 0 where
   pub few : n ≤ maxSame
   pub room : n ≤ length ren
-  pub bounded : Bounded base keys
+  pub bounded : Bounded n base keys
+
+-- a cell of the matrix seen from the other side
+abbrev pub turnedCell : List ℕ → ℕ → ℕ
+turnedCell ok i = getD ok (maxSame * (i % maxSame) + i / maxSame) 0
+
+-- no renumbering leads from a matrix to where it is allowed to go
+abbrev pub Nowhere : List ℕ → List ℕ → List ℕ → ℕ → Type 0
+Nowhere p allowed ok n = (t : List ℕ) → ((a : ℕ) → a < n → image t a < n) → Goes ok n t → Faces p allowed n t → ⊥
+
+-- no matching of the first that begins as its row does, up to `to`, has a way to one of the second that begins as its row does
+pub record Apart (atoms bonds : List ℤ) (m : ℕ) (row : Row) (to : ℕ) (atoms2 bonds2 : List ℤ) (m2 : ℕ) (row2 : Row) (to2 : ℕ) (ok : List ℕ) (n : ℕ) : Type 0 where
+  pub none : (s s2 : Row) → isRow m s ≡ true → matchingOf atoms bonds n m s ≡ true → take to s ≡ take to row → isRow m2 s2 ≡ true → matchingOf atoms2 bonds2 n m2 s2 ≡ true → take to2 s2 ≡ take to2 row2
+      → (t : List ℕ) → Way (closedMatrix bonds s m) (closedMatrix bonds2 s2 m2) n t → Goes ok n t → ⊥
 
 -- the walk over the second molecule's rows: whether one goes with the first's matrix; the first such, and its smallest renumbering
 pub record SecondFound (o : List ℕ) (z : ℕ) (ok : List ℕ) (atoms2 : List ℤ) (y : Sketch) (row ren : List ℕ) (r : Bool) (row′ ren′ : List ℕ) : Type 0 where

@@ -32,7 +32,7 @@ use Rattle.same_place.specs.Place.{entry, beside, placeable, goodFrom, goods}
 use Rattle.same_drawing.specs.Drawing.{Orders, Matches}
 
 -- one test after the other is both at once
-passing-both : (p q : Row → Bool) (l : List Row) → passing p (passing q l) ≡ passing (λ t. q t && p t) l
+pub passing-both : (p q : Row → Bool) (l : List Row) → passing p (passing q l) ≡ passing (λ t. q t && p t) l
 unfolding passing
 passing-both p q [] = refl
 passing-both p q (r ∷ l) = go (q r) (passing-both p q l)

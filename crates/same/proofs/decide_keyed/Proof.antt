@@ -29,8 +29,11 @@ first-row-requires c κs = let s = c .before .before .before .before .before .be
       (
         s .pre .1 .0 .valid,
         (
-          (s .pre .0 .room, s .pre .1 .0 .room),
-          (record { few = s .pre .0 .few; room = omega (arith, s .pre .0 .few, length-replicate {A = ℕ} 64 0); bounded = bounded _ _ (s .pre .1 .0) on f2 (k .1) }, bounded _ _ (s .pre .0) on f1 (k .0)),
+          (s .pre .0 .long, s .pre .1 .0 .long),
+          (
+            (s .pre .0 .room, s .pre .1 .0 .room),
+            (record { few = s .pre .0 .few; room = omega (arith, s .pre .0 .few, length-replicate {A = ℕ} 64 0); bounded = bounded _ _ (s .pre .1 .0) on f2 (k .1) }, bounded _ _ (s .pre .0) on f1 (k .0)),
+          ),
         ),
       ),
     )

@@ -1,0 +1,3 @@
+pub mod Checking
+pub mod Likeness
+pub mod Passing

@@ -1,0 +1,19 @@
+-- `same_open::seek` meets its contract. Assumes nothing.
+use Rattle.same_open.proofs.Seeking.{among-start}
+use borrow.Author.Needs.{needs}
+use Rattle.same_open.proofs.seek.Statement.{statement}
+use Rattle.same_open.proofs.seek.Tie as tie
+
+fill-candidates-requires : tie.Need-fill-candidates-requires
+fill-candidates-requires c κs = search needs
+
+search-requires : tie.Need-search-requires
+search-requires c κs = search needs
+
+returns : tie.Need-returns
+returns c =
+    let k = c .before .before .before .before in
+    λ h l t b o f. c .search .ensures h l t (among-start _ _ (k .before .before .args .ok .now) _ _ _ (k .fill-candidates .ensures) b o f)
+
+pub seek-spec : {M : Type 1} → statement M
+seek-spec = tie.close (tie.spec fill-candidates-requires search-requires returns)

@@ -1,0 +1,4 @@
+pub mod Drawn
+pub mod Step
+pub mod Opening
+pub mod Laws
