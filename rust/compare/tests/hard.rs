@@ -9,11 +9,11 @@ use std::sync::mpsc;
 use std::thread;
 use std::time::Duration;
 
-/// No pair of a family that is named takes as long; the slowest takes a hundredth of it.
+/// No pair of a family that is named takes as long; the slowest takes about a hundredth of it.
 const LIMIT: Duration = Duration::from_secs(5);
 
 /// The families that have no pair over the limit of 50 milliseconds (docs/PERFORMANCE.md).
-const QUICK: [&str; 12] = [
+const QUICK: [&str; 16] = [
     "isolated atoms between ring atoms",
     "like atoms and short chains",
     "rings of 6 against rings of 6 and 3",
@@ -26,6 +26,10 @@ const QUICK: [&str; 12] = [
     "graphs of Latin squares",
     "projective planes and triple systems",
     "tori, cubes and random regular graphs",
+    "C60, delocalized and drawn",
+    "C60, part drawn",
+    "hexagons on a torus, delocalized",
+    "random cubic graphs, delocalized",
 ];
 
 #[test]
