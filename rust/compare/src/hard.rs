@@ -540,6 +540,29 @@ fn part_drawn(random: &mut Random, molecule: &Molecule, count: usize) -> Molecul
     drawn
 }
 
+/// Two drawings of one small graph of delocalized atoms, or of two: each whole, in part, or drawn.
+pub fn many_rows(random: &mut Random) -> [Molecule; 2] {
+    let order = 2 * random.between(4, 7);
+    let [one, other] = [0; 2].map(|_| regular(random, order, 3).kept());
+    let other = if random.percent(70) {
+        one.clone()
+    } else {
+        other
+    };
+    [one, other].map(|whole| {
+        let drawn = match random.below(3) {
+            _ if first(&whole).is_none() => whole,
+            0 => whole,
+            1 => {
+                let count = random.below(order / 2);
+                part_drawn(random, &whole, count)
+            }
+            _ => other_drawing(random, &whole),
+        };
+        renumbered(random, &drawn)
+    })
+}
+
 /// Delocalized atoms, with many matchings.
 fn delocalized() -> Vec<Family> {
     let mut random = Random::new(9);

@@ -2,9 +2,10 @@
 //! pair within a limit that leaves room for a slow machine.
 
 use compare::buffers::Buffers;
-use compare::hard::families;
-use compare::implementation::{Answer, Implementation};
+use compare::hard::{families, many_rows};
+use compare::implementation::{Answer, Implementation, Reference};
 use compare::proved::Proved;
+use compare::random::Random;
 use std::sync::mpsc;
 use std::thread;
 use std::time::Duration;
@@ -46,5 +47,19 @@ fn no_pair_of_a_quick_family_takes_long() {
             let told = Ok(Answer::of(usize::from(*is_same)));
             assert_eq!(answer, told, "{name}, pair {number}");
         }
+    }
+}
+
+#[test]
+fn both_programs_hand_out_the_same_where_there_are_many_rows() {
+    let mut random = Random::new(31);
+    for number in 0..400 {
+        let pair = many_rows(&mut random);
+        let [proved, told] = [&Proved as &dyn Implementation, &Reference].map(|program| {
+            let [mut one, mut other] = pair.each_ref().map(Buffers::clean);
+            let answer = program.same(&mut one, &mut other);
+            (answer, one.row, other.row, one.renumbering)
+        });
+        assert_eq!(proved, told, "pair {number}");
     }
 }
