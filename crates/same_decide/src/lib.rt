@@ -13,6 +13,7 @@ ghost use Rattle.matching_skip.specs.Skip.{laterThan};
 ghost use Rattle.table_graph.specs.Graph.{matchingOf};
 ghost use Rattle.same_model.specs.Same.{maxSame, image};
 ghost use Rattle.same_place.specs.Place.{entry, Solved};
+ghost use Rattle.same_keys.specs.Keys.{Low, highest};
 ghost use Rattle.same_drawing.specs.Drawing.{cells, Drawable};
 ghost use Rattle.same_open.specs.Open.{Goes, Allowed, Faces};
 ghost use Rattle.same_part.specs.Part.{partMatrix};
@@ -43,10 +44,52 @@ fn ask(c: Call, atoms: &[i32], bonds: &[i32], n: usize, m: usize, row: &mut [u8]
     found_code(kekule::call_valid(c, atoms, bonds, n, m, row)) == 0
 }
 
+// How many places of the first four rows show that atoms have many candidates, and how many of them hold 1 then.
+const SHOWN: usize = 256;
+
+const CROWDED: u32 = 24;
+
+// 1 for a 1.
+fn one_if(x: u8) -> u32
+    ensures { λ r. ⌜ r ≤ 1 ⌝ }
+{
+    if x == 1 { 1 } else { 0 }
+}
+
+// Where atoms have many candidates, the first search counts as many.
+fn hurry(ok: &[u8; CELLS], pace: &mut [u32; 2]) {
+    let mut count = 0u32;
+    let mut i = 0;
+    while i < SHOWN {
+        count += one_if(ok[i]);
+        i += 1;
+    }
+    if CROWDED < count {
+        pace[0] = PATIENCE - 1;
+    }
+}
+
 // Counts one search more, up to the number that matters.
 fn note_search(pace: &mut [u32; 2]) {
     if pace[0] < PATIENCE {
         pace[0] += 1;
+    }
+}
+
+// Counts a row of the second molecule that will be searched, since its sum is the first's.
+fn note_row(
+    z1: u64,
+    keys2: &[u64; SIDE],
+    bonds2: &[i32],
+    m2: usize,
+    row2: &[u8],
+    pace: &mut [u32; 2],
+)
+    requires { ⌜ Drawable (now bonds2) m2 (now row2) ⌝ }
+    requires { ⌜ Low (now keys2) (highest 33) ⌝ }
+{
+    if same_drawing::row_sum(bonds2, m2, keys2, row2) == z1 {
+        note_search(pace);
     }
 }
 
@@ -62,7 +105,6 @@ fn place(
     m2: usize,
     row2: &[u8],
     ren: &mut [u8; SIDE],
-    pace: &mut [u32; 2],
 ) -> bool
     requires { ⌜ Drawable (now bonds2) m2 (now row2) ⌝ }
     requires { ⌜ Fewer n (now base2) (now keys2) (now ren) ⌝ }
@@ -71,7 +113,6 @@ fn place(
     if same_drawing::row_sum(bonds2, m2, keys2, row2) != z1 {
         return false;
     }
-    note_search(pace);
     let mut o2 = *base2;
     same_drawing::fill_orders(bonds2, m2, row2, &mut o2);
     same_search::solve(o1, &o2, ok, n, ren)
@@ -382,6 +423,7 @@ fn second_row(
     let mut guess = [2u8; MAX_BONDS];
     let mut more = ask(Call::First, atoms2, bonds2, n, m2, row2);
     while more {
+        note_row(z1, keys2, bonds2, m2, &row2[..m2], pace);
         let to = bar_second(
             atoms1,
             bonds1,
@@ -399,19 +441,7 @@ fn second_row(
         if to <= m2 {
             more = skip(atoms2, bonds2, n, m2, row2, to);
         } else {
-            if place(
-                &o1,
-                z1,
-                ok,
-                base2,
-                keys2,
-                bonds2,
-                n,
-                m2,
-                &row2[..m2],
-                ren,
-                pace,
-            ) {
+            if place(&o1, z1, ok, base2, keys2, bonds2, n, m2, &row2[..m2], ren) {
                 return true;
             }
             more = ask(Call::Next, atoms2, bonds2, n, m2, row2);
@@ -448,6 +478,7 @@ pub fn first_row(
 {
     let none = [0u8; MAX_BONDS];
     let mut pace = [0, STEPS];
+    hurry(ok, &mut pace);
     let mut guess = [2u8; MAX_BONDS];
     let mut more = ask(Call::First, atoms1, bonds1, n, m1, row1);
     while more {

@@ -12,9 +12,6 @@ row-sum-requires c κs = search needs
 returns : tie.Need-returns
 returns c = no-ways _ _ _ (sketch _ _ _ _ _) _ (c .before .row-sum .ensures) (c .if1 .taken) _
 
-note-search-requires : tie.Need-note-search-requires
-note-search-requires c κs = search needs
-
 fill-orders-requires : tie.Need-fill-orders-requires
 fill-orders-requires c κs = search needs
 
@@ -22,8 +19,8 @@ solve-requires : tie.Need-solve-requires
 solve-requires c κs = search needs
 
 returns-2 : tie.Need-returns-2
-returns-2 c = as-ways _ _ _ (sketch _ _ _ _ _) _ (c .before .before .before .before .before .before .before .before .before .row-sum .ensures) (c .before .before .before .before .before .before .before .before .if1 .left) (c .before .before .before .fill-orders .ensures) (c .solve .ensures)
+returns-2 c = as-ways _ _ _ (sketch _ _ _ _ _) _ (c .before .before .before .before .before .before .before .row-sum .ensures) (c .before .before .before .before .before .before .if1 .left) (c .before .before .before .fill-orders .ensures) (c .solve .ensures)
 
 pub place-spec : {M : Type 1} → statement M
 place-spec =
-    tie.close (tie.spec row-sum-requires returns note-search-requires fill-orders-requires solve-requires returns-2)
+    tie.close (tie.spec row-sum-requires returns fill-orders-requires solve-requires returns-2)

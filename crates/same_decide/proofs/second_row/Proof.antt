@@ -44,101 +44,120 @@ loop-holds c =
     let k = first-length _ (s .args .m2) (now (s .args .row2)) (s .pre .1 .1 .1 .1 .0) (c .before .before .ask .ensures) in
     (walking-first _ _ _ _ (omega (arith, s .pre .1 .1 .1 .1 .0)) (now (s .args .row2)) (sym k) (c .before .before .ask .ensures), refl)
 
-slice-reshare-prefix-bar-second : tie.Need-slice-reshare-prefix-bar-second Inv-loop μ-loop
-slice-reshare-prefix-bar-second c =
+slice-reshare-prefix-note-row : tie.Need-slice-reshare-prefix-note-row Inv-loop μ-loop
+slice-reshare-prefix-note-row c =
     let s = c .before .before .before .before .before .before .before .before .before .before .before .before in
     let k = first-length _ (s .args .m2) (now (s .args .row2)) (s .pre .1 .1 .1 .1 .0) (c .before .before .before .before .ask .ensures) in
     omega (arith, s .pre .1 .1 .1 .1 .0, c .before .loop .inv .0 .long)
 
-slice-aggregate-bar-second : tie.Need-slice-aggregate-bar-second Inv-loop μ-loop
-slice-aggregate-bar-second c =
+slice-aggregate-note-row : tie.Need-slice-aggregate-note-row Inv-loop μ-loop
+slice-aggregate-note-row c =
     let s = c .before .before .before .before .before .before .before .before .before .before .before .before .before in
     let k = first-length _ (s .args .m2) (now (s .args .row2)) (s .pre .1 .1 .1 .1 .0) (c .before .before .before .before .before .ask .ensures) in
     sym (length-take-le (s .args .m2) (c .before .before .loop .row2) (omega (arith, s .pre .1 .1 .1 .1 .0, c .before .before .loop .inv .0 .long)))
 
-bar-second-requires : tie.Need-bar-second-requires Inv-loop μ-loop
-bar-second-requires c κs =
+note-row-requires : tie.Need-note-row-requires Inv-loop μ-loop
+note-row-requires c κs =
+    let s = c .before .before .before .before .before .before .before .before .before .before .before .before .before .before in
+    let k = first-length _ (s .args .m2) (now (s .args .row2)) (s .pre .1 .1 .1 .1 .0) (c .before .before .before .before .before .before .ask .ensures) in
+    let v = c .before .before .before .loop in
+    (ready _ (s .pre .1 .0) (s .pre .1 .1 .1 .1 .1 .0 .few) (omega (arith, s .pre .1 .1 .1 .1 .0, v .inv .0 .long)), s .pre .1 .1 .1 .1 .1 .0 .bounded .low-keys)
+
+slice-reshare-prefix-bar-second : tie.Need-slice-reshare-prefix-bar-second Inv-loop μ-loop
+slice-reshare-prefix-bar-second c =
     let s = c .before .before .before .before .before .before .before .before .before .before .before .before .before .before .before in
     let k = first-length _ (s .args .m2) (now (s .args .row2)) (s .pre .1 .1 .1 .1 .0) (c .before .before .before .before .before .before .before .ask .ensures) in
-    let v = c .before .before .before .before .loop in
+    omega (arith, s .pre .1 .1 .1 .1 .0, c .before .before .before .before .loop .inv .0 .long)
+
+slice-aggregate-bar-second : tie.Need-slice-aggregate-bar-second Inv-loop μ-loop
+slice-aggregate-bar-second c =
+    let s = c .before .before .before .before .before .before .before .before .before .before .before .before .before .before .before .before in
+    let k = first-length _ (s .args .m2) (now (s .args .row2)) (s .pre .1 .1 .1 .1 .0) (c .before .before .before .before .before .before .before .before .ask .ensures) in
+    sym (length-take-le (s .args .m2) (c .before .before .before .before .before .loop .row2) (omega (arith, s .pre .1 .1 .1 .1 .0, c .before .before .before .before .before .loop .inv .0 .long)))
+
+bar-second-requires : tie.Need-bar-second-requires Inv-loop μ-loop
+bar-second-requires c κs =
+    let s = c .before .before .before .before .before .before .before .before .before .before .before .before .before .before .before .before .before .before in
+    let k = first-length _ (s .args .m2) (now (s .args .row2)) (s .pre .1 .1 .1 .1 .0) (c .before .before .before .before .before .before .before .before .before .before .ask .ensures) in
+    let v = c .before .before .before .before .before .before .before .loop in
     let l1 = row-length (s .args .m1) (now (s .args .row1)) (and-left _ _ (s .pre .1 .1 .1 .0)) in
     let l2 = length-take-le (s .args .m2) (v .row2) (omega (arith, s .pre .1 .1 .1 .1 .0, v .inv .0 .long)) in
     (s .pre .0, (s .pre .1 .0, (s .pre .1 .1 .1 .1 .1 .0 .few, omega (arith, l1), omega (arith, l2))))
 
 skip-requires : tie.Need-skip-requires Inv-loop μ-loop
 skip-requires c κs =
-    let s = c .before .before .before .before .before .before .before .before .before .before .before .before .before .before .before .before .before .before in
-    let k = first-length _ (s .args .m2) (now (s .args .row2)) (s .pre .1 .1 .1 .1 .0) (c .before .before .before .before .before .before .before .before .before .before .ask .ensures) in
-    let v = c .before .before .before .before .before .before .before .loop in
-    (s .pre .1 .0, ((s .pre .1 .1 .1 .1 .1 .0 .few, omega (arith, s .pre .1 .1 .1 .1 .0, v .inv .0 .long), c .before .if1 .taken), v .inv .0 .good (c .before .before .before .before .before .before .loop-test .taken)))
+    let s = c .before .before .before .before .before .before .before .before .before .before .before .before .before .before .before .before .before .before .before .before .before in
+    let k = first-length _ (s .args .m2) (now (s .args .row2)) (s .pre .1 .1 .1 .1 .0) (c .before .before .before .before .before .before .before .before .before .before .before .before .before .ask .ensures) in
+    let v = c .before .before .before .before .before .before .before .before .before .before .loop in
+    (s .pre .1 .0, ((s .pre .1 .1 .1 .1 .1 .0 .few, omega (arith, s .pre .1 .1 .1 .1 .0, v .inv .0 .long), c .before .if1 .taken), v .inv .0 .good (c .before .before .before .before .before .before .before .before .before .loop-test .taken)))
 
 loop-less : tie.Need-loop-less Inv-loop μ-loop
 loop-less c =
-    let s = c .before .before .before .before .before .before .before .before .before .before .before .before .before .before .before .before .before .before .before .before .before in
-    let k = first-length _ (s .args .m2) (now (s .args .row2)) (s .pre .1 .1 .1 .1 .0) (c .before .before .before .before .before .before .before .before .before .before .before .before .before .ask .ensures) in
-    let v = c .before .before .before .before .before .before .before .before .before .before .loop in
-    skip-fewer _ _ _ _ (omega (arith, s .pre .1 .1 .1 .1 .0)) (v .inv .0) (c .before .before .before .before .before .before .before .before .before .loop-test .taken) (c .before .before .before .before .before .bar-second .result) (c .before .before .before .before .if1 .taken) (second-apart (now (s .args .keys1)) (now (s .args .keys2)) (now (s .args .ok)) (s .pre .0) (s .pre .1 .0) (s .pre .1 .1 .0 .0) (s .pre .1 .1 .0 .1) (s .pre .1 .1 .1 .1 .1 .0 .few) (s .pre .1 .1 .1 .1 .1 .1 .based) (s .pre .1 .1 .1 .1 .1 .0 .bounded .based) (now (s .args .row1)) (s .pre .1 .1 .1 .0) (c .before .before .before .before .before .bar-second .ensures (c .before .before .before .before .if1 .taken))) (skip-reply (laterThan (matchingOf (now (s .args .atoms2)) (now (s .args .bonds2)) (s .args .n) (s .args .m2)) (s .args .m2) (c .before .before .before .before .before .bar-second .result) (v .row2)) (v .inv .0 .long) (c .before .before .skip .ensures))
+    let s = c .before .before .before .before .before .before .before .before .before .before .before .before .before .before .before .before .before .before .before .before .before .before .before .before in
+    let k = first-length _ (s .args .m2) (now (s .args .row2)) (s .pre .1 .1 .1 .1 .0) (c .before .before .before .before .before .before .before .before .before .before .before .before .before .before .before .before .ask .ensures) in
+    let v = c .before .before .before .before .before .before .before .before .before .before .before .before .before .loop in
+    skip-fewer _ _ _ _ (omega (arith, s .pre .1 .1 .1 .1 .0)) (v .inv .0) (c .before .before .before .before .before .before .before .before .before .before .before .before .loop-test .taken) (c .before .before .before .before .before .bar-second .result) (c .before .before .before .before .if1 .taken) (second-apart (now (s .args .keys1)) (now (s .args .keys2)) (now (s .args .ok)) (s .pre .0) (s .pre .1 .0) (s .pre .1 .1 .0 .0) (s .pre .1 .1 .0 .1) (s .pre .1 .1 .1 .1 .1 .0 .few) (s .pre .1 .1 .1 .1 .1 .1 .based) (s .pre .1 .1 .1 .1 .1 .0 .bounded .based) (now (s .args .row1)) (s .pre .1 .1 .1 .0) (c .before .before .before .before .before .bar-second .ensures (c .before .before .before .before .if1 .taken))) (skip-reply (laterThan (matchingOf (now (s .args .atoms2)) (now (s .args .bonds2)) (s .args .n) (s .args .m2)) (s .args .m2) (c .before .before .before .before .before .bar-second .result) (v .row2)) (v .inv .0 .long) (c .before .before .skip .ensures))
 
 loop-again : tie.Need-loop-again Inv-loop μ-loop
 loop-again c =
-    let s = c .before .before .before .before .before .before .before .before .before .before .before .before .before .before .before .before .before .before .before .before .before in
-    let k = first-length _ (s .args .m2) (now (s .args .row2)) (s .pre .1 .1 .1 .1 .0) (c .before .before .before .before .before .before .before .before .before .before .before .before .before .ask .ensures) in
-    let v = c .before .before .before .before .before .before .before .before .before .before .loop in
-    (walking-skip _ _ _ _ (omega (arith, s .pre .1 .1 .1 .1 .0)) (v .inv .0) (c .before .before .before .before .before .before .before .before .before .loop-test .taken) (c .before .before .before .before .before .bar-second .result) (c .before .before .before .before .if1 .taken) (second-apart (now (s .args .keys1)) (now (s .args .keys2)) (now (s .args .ok)) (s .pre .0) (s .pre .1 .0) (s .pre .1 .1 .0 .0) (s .pre .1 .1 .0 .1) (s .pre .1 .1 .1 .1 .1 .0 .few) (s .pre .1 .1 .1 .1 .1 .1 .based) (s .pre .1 .1 .1 .1 .1 .0 .bounded .based) (now (s .args .row1)) (s .pre .1 .1 .1 .0) (c .before .before .before .before .before .bar-second .ensures (c .before .before .before .before .if1 .taken))) (skip-reply (laterThan (matchingOf (now (s .args .atoms2)) (now (s .args .bonds2)) (s .args .n) (s .args .m2)) (s .args .m2) (c .before .before .before .before .before .bar-second .result) (v .row2)) (v .inv .0 .long) (c .before .before .skip .ensures)), v .inv .1)
+    let s = c .before .before .before .before .before .before .before .before .before .before .before .before .before .before .before .before .before .before .before .before .before .before .before .before in
+    let k = first-length _ (s .args .m2) (now (s .args .row2)) (s .pre .1 .1 .1 .1 .0) (c .before .before .before .before .before .before .before .before .before .before .before .before .before .before .before .before .ask .ensures) in
+    let v = c .before .before .before .before .before .before .before .before .before .before .before .before .before .loop in
+    (walking-skip _ _ _ _ (omega (arith, s .pre .1 .1 .1 .1 .0)) (v .inv .0) (c .before .before .before .before .before .before .before .before .before .before .before .before .loop-test .taken) (c .before .before .before .before .before .bar-second .result) (c .before .before .before .before .if1 .taken) (second-apart (now (s .args .keys1)) (now (s .args .keys2)) (now (s .args .ok)) (s .pre .0) (s .pre .1 .0) (s .pre .1 .1 .0 .0) (s .pre .1 .1 .0 .1) (s .pre .1 .1 .1 .1 .1 .0 .few) (s .pre .1 .1 .1 .1 .1 .1 .based) (s .pre .1 .1 .1 .1 .1 .0 .bounded .based) (now (s .args .row1)) (s .pre .1 .1 .1 .0) (c .before .before .before .before .before .bar-second .ensures (c .before .before .before .before .if1 .taken))) (skip-reply (laterThan (matchingOf (now (s .args .atoms2)) (now (s .args .bonds2)) (s .args .n) (s .args .m2)) (s .args .m2) (c .before .before .before .before .before .bar-second .result) (v .row2)) (v .inv .0 .long) (c .before .before .skip .ensures)), v .inv .1)
 
 slice-reshare-prefix-place : tie.Need-slice-reshare-prefix-place Inv-loop μ-loop
 slice-reshare-prefix-place c =
-    let s = c .before .before .before .before .before .before .before .before .before .before .before .before .before .before .before .before .before .before in
-    let k = first-length _ (s .args .m2) (now (s .args .row2)) (s .pre .1 .1 .1 .1 .0) (c .before .before .before .before .before .before .before .before .before .before .ask .ensures) in
-    omega (arith, s .pre .1 .1 .1 .1 .0, c .before .before .before .before .before .before .before .loop .inv .0 .long)
+    let s = c .before .before .before .before .before .before .before .before .before .before .before .before .before .before .before .before .before .before .before .before .before in
+    let k = first-length _ (s .args .m2) (now (s .args .row2)) (s .pre .1 .1 .1 .1 .0) (c .before .before .before .before .before .before .before .before .before .before .before .before .before .ask .ensures) in
+    omega (arith, s .pre .1 .1 .1 .1 .0, c .before .before .before .before .before .before .before .before .before .before .loop .inv .0 .long)
 
 slice-aggregate-place : tie.Need-slice-aggregate-place Inv-loop μ-loop
 slice-aggregate-place c =
-    let s = c .before .before .before .before .before .before .before .before .before .before .before .before .before .before .before .before .before .before .before in
-    let k = first-length _ (s .args .m2) (now (s .args .row2)) (s .pre .1 .1 .1 .1 .0) (c .before .before .before .before .before .before .before .before .before .before .before .ask .ensures) in
-    sym (length-take-le (s .args .m2) (c .before .before .before .before .before .before .before .before .loop .row2) (omega (arith, s .pre .1 .1 .1 .1 .0, c .before .before .before .before .before .before .before .before .loop .inv .0 .long)))
+    let s = c .before .before .before .before .before .before .before .before .before .before .before .before .before .before .before .before .before .before .before .before .before .before in
+    let k = first-length _ (s .args .m2) (now (s .args .row2)) (s .pre .1 .1 .1 .1 .0) (c .before .before .before .before .before .before .before .before .before .before .before .before .before .before .ask .ensures) in
+    sym (length-take-le (s .args .m2) (c .before .before .before .before .before .before .before .before .before .before .before .loop .row2) (omega (arith, s .pre .1 .1 .1 .1 .0, c .before .before .before .before .before .before .before .before .before .before .before .loop .inv .0 .long)))
 
 place-requires : tie.Need-place-requires Inv-loop μ-loop
 place-requires c κs =
-    let s = c .before .before .before .before .before .before .before .before .before .before .before .before .before .before .before .before .before .before .before .before .before in
-    let k = first-length _ (s .args .m2) (now (s .args .row2)) (s .pre .1 .1 .1 .1 .0) (c .before .before .before .before .before .before .before .before .before .before .before .before .before .ask .ensures) in
-    let v = c .before .before .before .before .before .before .before .before .before .before .loop in
+    let s = c .before .before .before .before .before .before .before .before .before .before .before .before .before .before .before .before .before .before .before .before .before .before .before in
+    let k = first-length _ (s .args .m2) (now (s .args .row2)) (s .pre .1 .1 .1 .1 .0) (c .before .before .before .before .before .before .before .before .before .before .before .before .before .before .before .ask .ensures) in
+    let v = c .before .before .before .before .before .before .before .before .before .before .before .before .loop in
     (ready _ (s .pre .1 .0) (s .pre .1 .1 .1 .1 .1 .0 .few) (omega (arith, s .pre .1 .1 .1 .1 .0, v .inv .0 .long)), record { few = s .pre .1 .1 .1 .1 .1 .0 .few; room = omega (arith, s .pre .1 .1 .1 .1 .1 .0 .room, v .inv .1); bounded = s .pre .1 .1 .1 .1 .1 .0 .bounded })
 
 same-length : tie.Need-same-length Inv-loop μ-loop
 same-length c =
-    let s = c .before .before .before .before .before .before .before .before .before .before .before .before .before .before .before .before .before .before .before .before .before .before .before in
-    let k = first-length _ (s .args .m2) (now (s .args .row2)) (s .pre .1 .1 .1 .1 .0) (c .before .before .before .before .before .before .before .before .before .before .before .before .before .before .before .ask .ensures) in
-    c .before .before .before .before .before .before .before .before .before .before .before .before .loop .inv .0 .long ∙ k
+    let s = c .before .before .before .before .before .before .before .before .before .before .before .before .before .before .before .before .before .before .before .before .before .before .before .before .before in
+    let k = first-length _ (s .args .m2) (now (s .args .row2)) (s .pre .1 .1 .1 .1 .0) (c .before .before .before .before .before .before .before .before .before .before .before .before .before .before .before .before .before .ask .ensures) in
+    c .before .before .before .before .before .before .before .before .before .before .before .before .before .before .loop .inv .0 .long ∙ k
 
 returns : tie.Need-returns Inv-loop μ-loop
 returns c =
-    let s = c .before .before .before .before .before .before .before .before .before .before .before .before .before .before .before .before .before .before .before .before .before .before .before in
-    let k = first-length _ (s .args .m2) (now (s .args .row2)) (s .pre .1 .1 .1 .1 .0) (c .before .before .before .before .before .before .before .before .before .before .before .before .before .before .before .ask .ensures) in
-    let v = c .before .before .before .before .before .before .before .before .before .before .before .before .loop in
-    second-hit _ _ _ _ (sketch _ _ _ _ _) (now (s .args .row2)) (now (s .args .ren)) (s .pre .1 .1 .1 .1 .0) k (v .inv .0) (c .before .before .before .before .before .before .before .before .before .before .before .loop-test .taken) (v .inv .1) (drawn-ways (sketch _ _ _ _ _) (now (s .args .row1)) (now (s .args .ok)) (sketch _ _ _ _ _) _ (c .before .before .before .before .before .before .before .before .before .before .before .before .before .before .before .before .before .before .before .before .row-sum .ensures) (c .before .before .before .before .before .before .before .before .before .before .before .before .before .before .before .before .before .fill-orders .ensures) (c .before .place .ensures)) (c .if2 .taken)
+    let s = c .before .before .before .before .before .before .before .before .before .before .before .before .before .before .before .before .before .before .before .before .before .before .before .before .before in
+    let k = first-length _ (s .args .m2) (now (s .args .row2)) (s .pre .1 .1 .1 .1 .0) (c .before .before .before .before .before .before .before .before .before .before .before .before .before .before .before .before .before .ask .ensures) in
+    let v = c .before .before .before .before .before .before .before .before .before .before .before .before .before .before .loop in
+    second-hit _ _ _ _ (sketch _ _ _ _ _) (now (s .args .row2)) (now (s .args .ren)) (s .pre .1 .1 .1 .1 .0) k (v .inv .0) (c .before .before .before .before .before .before .before .before .before .before .before .before .before .loop-test .taken) (v .inv .1) (drawn-ways (sketch _ _ _ _ _) (now (s .args .row1)) (now (s .args .ok)) (sketch _ _ _ _ _) _ (c .before .before .before .before .before .before .before .before .before .before .before .before .before .before .before .before .before .before .before .before .before .before .row-sum .ensures) (c .before .before .before .before .before .before .before .before .before .before .before .before .before .before .before .before .before .before .before .fill-orders .ensures) (c .before .place .ensures)) (c .if2 .taken)
 
 ask-requires-2 : tie.Need-ask-requires-2 Inv-loop μ-loop
 ask-requires-2 c κs =
-    let s = c .before .before .before .before .before .before .before .before .before .before .before .before .before .before .before .before .before .before .before .before .before .before .before .before in
-    let k = first-length _ (s .args .m2) (now (s .args .row2)) (s .pre .1 .1 .1 .1 .0) (c .before .before .before .before .before .before .before .before .before .before .before .before .before .before .before .before .ask .ensures) in
-    (s .pre .1 .0, omega (arith, s .pre .1 .1 .1 .1 .0, c .before .before .before .before .before .before .before .before .before .before .before .before .before .loop .inv .0 .long))
+    let s = c .before .before .before .before .before .before .before .before .before .before .before .before .before .before .before .before .before .before .before .before .before .before .before .before .before .before in
+    let k = first-length _ (s .args .m2) (now (s .args .row2)) (s .pre .1 .1 .1 .1 .0) (c .before .before .before .before .before .before .before .before .before .before .before .before .before .before .before .before .before .before .ask .ensures) in
+    (s .pre .1 .0, omega (arith, s .pre .1 .1 .1 .1 .0, c .before .before .before .before .before .before .before .before .before .before .before .before .before .before .before .loop .inv .0 .long))
 
 loop-less-2 : tie.Need-loop-less-2 Inv-loop μ-loop
 loop-less-2 c =
-    let s = c .before .before .before .before .before .before .before .before .before .before .before .before .before .before .before .before .before .before .before .before .before .before .before .before .before .before .before in
-    let k = first-length _ (s .args .m2) (now (s .args .row2)) (s .pre .1 .1 .1 .1 .0) (c .before .before .before .before .before .before .before .before .before .before .before .before .before .before .before .before .before .before .before .ask .ensures) in
-    let v = c .before .before .before .before .before .before .before .before .before .before .before .before .before .before .before .before .loop in
-    let p = drawn-ways (sketch _ _ _ _ _) (now (s .args .row1)) (now (s .args .ok)) (sketch _ _ _ _ _) _ (c .before .before .before .before .before .before .before .before .before .before .before .before .before .before .before .before .before .before .before .before .before .before .before .before .row-sum .ensures) (c .before .before .before .before .before .before .before .before .before .before .before .before .before .before .before .before .before .before .before .before .before .fill-orders .ensures) (c .before .before .before .before .before .place .ensures) in
-    fewer _ _ _ _ (omega (arith, s .pre .1 .1 .1 .1 .0)) (v .inv .0) (c .before .before .before .before .before .before .before .before .before .before .before .before .before .before .before .loop-test .taken) (sym (p .told) ∙ c .before .before .before .before .if2 .left) (c .before .before .ask2 .ensures)
+    let s = c .before .before .before .before .before .before .before .before .before .before .before .before .before .before .before .before .before .before .before .before .before .before .before .before .before .before .before .before .before in
+    let k = first-length _ (s .args .m2) (now (s .args .row2)) (s .pre .1 .1 .1 .1 .0) (c .before .before .before .before .before .before .before .before .before .before .before .before .before .before .before .before .before .before .before .before .before .ask .ensures) in
+    let v = c .before .before .before .before .before .before .before .before .before .before .before .before .before .before .before .before .before .before .loop in
+    let p = drawn-ways (sketch _ _ _ _ _) (now (s .args .row1)) (now (s .args .ok)) (sketch _ _ _ _ _) _ (c .before .before .before .before .before .before .before .before .before .before .before .before .before .before .before .before .before .before .before .before .before .before .before .before .before .before .row-sum .ensures) (c .before .before .before .before .before .before .before .before .before .before .before .before .before .before .before .before .before .before .before .before .before .before .before .fill-orders .ensures) (c .before .before .before .before .before .place .ensures) in
+    fewer _ _ _ _ (omega (arith, s .pre .1 .1 .1 .1 .0)) (v .inv .0) (c .before .before .before .before .before .before .before .before .before .before .before .before .before .before .before .before .before .loop-test .taken) (sym (p .told) ∙ c .before .before .before .before .if2 .left) (c .before .before .ask2 .ensures)
 
 loop-again-2 : tie.Need-loop-again-2 Inv-loop μ-loop
 loop-again-2 c =
-    let s = c .before .before .before .before .before .before .before .before .before .before .before .before .before .before .before .before .before .before .before .before .before .before .before .before .before .before .before in
-    let k = first-length _ (s .args .m2) (now (s .args .row2)) (s .pre .1 .1 .1 .1 .0) (c .before .before .before .before .before .before .before .before .before .before .before .before .before .before .before .before .before .before .before .ask .ensures) in
-    let v = c .before .before .before .before .before .before .before .before .before .before .before .before .before .before .before .before .loop in
-    let p = drawn-ways (sketch _ _ _ _ _) (now (s .args .row1)) (now (s .args .ok)) (sketch _ _ _ _ _) _ (c .before .before .before .before .before .before .before .before .before .before .before .before .before .before .before .before .before .before .before .before .before .before .before .before .row-sum .ensures) (c .before .before .before .before .before .before .before .before .before .before .before .before .before .before .before .before .before .before .before .before .before .fill-orders .ensures) (c .before .before .before .before .before .place .ensures) in
-    (walking-next _ _ _ _ (omega (arith, s .pre .1 .1 .1 .1 .0)) (v .inv .0) (c .before .before .before .before .before .before .before .before .before .before .before .before .before .before .before .loop-test .taken) (sym (p .told) ∙ c .before .before .before .before .if2 .left) (c .before .before .ask2 .ensures), p .long ∙ v .inv .1)
+    let s = c .before .before .before .before .before .before .before .before .before .before .before .before .before .before .before .before .before .before .before .before .before .before .before .before .before .before .before .before .before in
+    let k = first-length _ (s .args .m2) (now (s .args .row2)) (s .pre .1 .1 .1 .1 .0) (c .before .before .before .before .before .before .before .before .before .before .before .before .before .before .before .before .before .before .before .before .before .ask .ensures) in
+    let v = c .before .before .before .before .before .before .before .before .before .before .before .before .before .before .before .before .before .before .loop in
+    let p = drawn-ways (sketch _ _ _ _ _) (now (s .args .row1)) (now (s .args .ok)) (sketch _ _ _ _ _) _ (c .before .before .before .before .before .before .before .before .before .before .before .before .before .before .before .before .before .before .before .before .before .before .before .before .before .before .row-sum .ensures) (c .before .before .before .before .before .before .before .before .before .before .before .before .before .before .before .before .before .before .before .before .before .before .before .fill-orders .ensures) (c .before .before .before .before .before .place .ensures) in
+    (walking-next _ _ _ _ (omega (arith, s .pre .1 .1 .1 .1 .0)) (v .inv .0) (c .before .before .before .before .before .before .before .before .before .before .before .before .before .before .before .before .before .loop-test .taken) (sym (p .told) ∙ c .before .before .before .before .if2 .left) (c .before .before .ask2 .ensures), p .long ∙ v .inv .1)
 
 same-length-2 : tie.Need-same-length-2 Inv-loop μ-loop
 same-length-2 c =
@@ -162,6 +181,9 @@ second-row-spec =
     fill-orders-requires
     ask-requires
     loop-holds
+    slice-reshare-prefix-note-row
+    slice-aggregate-note-row
+    note-row-requires
     slice-reshare-prefix-bar-second
     slice-aggregate-bar-second
     bar-second-requires
