@@ -4,6 +4,7 @@ use native.Mathlib.Omega.{arith}
 use native.Mathlib.Decide.{ℕ-discrete}
 use mathlib.Core.Path.{_≡_, refl, sym, ap, _∙_, subst, subst⁻¹}
 use mathlib.Core.Bool.{Bool, true, false, _&&_}
+use mathlib.Core.Logic.{_⊎_, inl, ⊎-elim}
 use mathlib.Core.List.{List, [], _∷_}
 use lib.ListN.{length, getD, set, replicate, length-replicate}
 use lib.IntN.{ℤ, pos}
@@ -30,6 +31,7 @@ use Rattle.table.specs.Cells.{atomPlace, element, selected}
 use Rattle.table.specs.Valid.{Valid, enough}
 use Rattle.table.specs.Sound.{lateCode}
 use Rattle.table.specs.Orders.{turnMarks}
+use Rattle.table.proofs.Valid.{second-end}
 use Rattle.table.proofs.Orders.{ButMarks, turned-but, but-late, turned-length}
 use Rattle.table_graph.specs.Graph.{bondSum, matchable}
 use Rattle.table_graph.specs.Built.{Wired, Prepared}
@@ -43,9 +45,13 @@ use Rattle.reading.specs.Memory.{Memory, nothing, blank}
 use Rattle.reading.specs.Act.{act, modeAct}
 use Rattle.reading.specs.Read.{ReadResult, zeros, refused, short, beginning, hydrogenate, hydrogenated, overfullAtoms, earlier, leftmost, textRank, ended, finished, readFrom, readOf}
 use Rattle.reading.proofs.Hydrogens.{implied-small}
-use Rattle.reading.proofs.Sane.{Sane}
+use Rattle.reading.proofs.Sane.{Steers}
 use Rattle.reading.proofs.Valid.{sane-filled}
 use Rattle.reading.proofs.Claims.{read-sane}
+use Rattle.reading.specs.Conditions.{bytesRead}
+use Rattle.reading_short.specs.Short as rows
+use Rattle.reading_short.specs.Short.{readInto}
+use Rattle.reading_short.proofs.Short.{short-stands}
 use Rattle.reading_fields.specs.Rest.{rest, memory}
 use Rattle.reading_fields.proofs.Rest.{rest-end, rest-down-stop}
 use Rattle.reading_fields.proofs.Bytes.{there}
@@ -55,7 +61,7 @@ use Rattle.reader.specs.declared.ending.ReadAnswer as reply
 use Rattle.reader.specs.Outcome.{Bounded, Outcome, refusedAt, PastFine, Past, Goes, Stops, Sequenced}
 use Rattle.reader.specs.Ranks.{Rankable}
 use Rattle.reader.specs.Filled.{hydrogensBy, hydrogenatedBy, placedBy}
-use Rattle.reader.specs.Ending.{told, endedOf, answerOf, Blank, TextGoes, TextRead}
+use Rattle.reader.specs.Ending.{told, endedOf, answerOf, Ready, Blank, TextGoes, TextRead}
 use Rattle.reader.proofs.Branches.{close-down}
 
 -- ---- the whole text
@@ -247,56 +253,88 @@ good-going n (going σ ν) μ h = split (accepting σ) h
     split false q = absurd (let z : _≡_ {A = ℕ} 0 1 = cc in omega arith)
 good-going n (halted c p) μ h = absurd (let z : _≡_ {A = ℕ} 0 1 = cc in omega arith)
 
+-- where the text was read whole the state is within its bounds
+pub text-bounded : {s : List ℕ} {a b x y : List ℤ} {o : Outcome} → TextRead s a b x y o → o .why ≡ Why.Fine → Bounded (o .st)
+text-bounded {s} {a} {b} {x} {y} {o} g w =
+    let f : TextGoes s a b x y Why.Fine (o .st) = subst (λ (z : Why). TextGoes s a b x y z (o .st)) w (g .is) in
+    f .2
+
+-- a zeroed table that is longer than another by so many cells
+abbrev longer : ℕ → List ℤ → List ℤ
+longer k t = replicate (length t + k) (pos 0)
+
+longer-than : (k : ℕ) (t : List ℤ) → length t ≤ length (longer k t)
+longer-than k t = omega (arith, length-replicate {A = ℤ} (length t + k) (pos 0))
+
+longer-enough : (a b : List ℤ) → enough (longer (atomCells * maxAtoms) a) (longer (bondCells * maxBonds) b) ≡ true
+unfolding enough
+longer-enough a b =
+    let la = le-leb (atomCells * maxAtoms) (length (longer (atomCells * maxAtoms) a)) (omega (arith, length-replicate {A = ℤ} (length a + atomCells * maxAtoms) (pos 0))) in
+    let lb = le-leb (bondCells * maxBonds) (length (longer (bondCells * maxBonds) b)) (omega (arith, length-replicate {A = ℤ} (length b + bondCells * maxBonds) (pos 0))) in
+    λ i. la i && lb i
+
 module _ (s : List ℕ) (a b : List ℤ) where
   pub told-short : enough a b ≡ false → told (reply.ReadAnswer.Refused Short 0) a b ≡ readOf s a b
   unfolding readOf
   told-short h = rw h
 
-  module _ (h : enough a b ≡ true) where
-    pub told-long : {x y : List ℤ} → maxText < length s → x ≡ zeros a → y ≡ zeros b → told (reply.ReadAnswer.Refused LongText maxText) x y ≡ readOf s a b
-    unfolding readOf
-    told-long l ex ey = rw (ex, ey, h, lt-leb (length s) maxText l)
+  -- into tables that are as long as they have to be
+  pub into-of : enough a b ≡ true → readInto s a b ≡ readOf s a b
+  unfolding readOf readInto
+  into-of h = rw h
 
-    module _ (l : length s ≤ maxText) {a₁ b₁ : List ℤ} (ea : a₁ ≡ zeros a) (eb : b₁ ≡ zeros b) {x y : List ℤ} {o : Outcome} (g : TextRead s a₁ b₁ x y o) where
-      whole : readOf s a b ≡ byAnswer a b (answerOf s a₁ b₁)
-      unfolding readOf readFrom answer
-      whole = rw (h, le-leb (length s) maxText l, ea, eb) (finished-by (length s) a b (read act 0 (going start (beginning (zeros a) (zeros b))) s))
+  pub told-long : {x y : List ℤ} → maxText < length s → x ≡ zeros a → y ≡ zeros b → told (reply.ReadAnswer.Refused LongText maxText) x y ≡ readInto s a b
+  unfolding readInto
+  told-long l ex ey = rw (ex, ey, lt-leb (length s) maxText l)
 
-      pub told-refused : {c : Refusal} {p : ℕ} {x′ y′ : List ℤ} → o .why ≡ Why.Refused c p → length x ≡ length a₁ → length y ≡ length b₁ → x′ ≡ zeros x → y′ ≡ zeros y
-          → told (reply.ReadAnswer.Refused c p) x′ y′ ≡ readOf s a b
-      told-refused w lx ly ex ey =
-          rw (zeros-as a x ea lx ex, zeros-as b y eb ly ey) (sym (whole ∙ ap (byAnswer a b) (subst (λ (z : Why). TextGoes s a₁ b₁ x y z (o .st)) w (g .is))))
+  module _ (l : length s ≤ maxText) {a₁ b₁ : List ℤ} (ea : a₁ ≡ zeros a) (eb : b₁ ≡ zeros b) {x y : List ℤ} {o : Outcome} (g : TextRead s a₁ b₁ x y o) where
+    whole : readInto s a b ≡ byAnswer a b (answerOf s a₁ b₁)
+    unfolding readInto readFrom answer
+    whole = rw (le-leb (length s) maxText l, ea, eb) (finished-by (length s) a b (read act 0 (going start (beginning (zeros a) (zeros b))) s))
 
-      module _ (w : o .why ≡ Why.Fine) where
-        fine : (i : ℕ) × (f : Fields) × Bounded (o .st) × (answerOf s a₁ b₁ ≡ good (memory (o .st) x y nothing i f))
-        fine = subst (λ (z : Why). TextGoes s a₁ b₁ x y z (o .st)) w (g .is)
+    pub told-refused : {c : Refusal} {p : ℕ} {x′ y′ : List ℤ} → o .why ≡ Why.Refused c p → length x ≡ length a₁ → length y ≡ length b₁ → x′ ≡ zeros x → y′ ≡ zeros y
+        → told (reply.ReadAnswer.Refused c p) x′ y′ ≡ readInto s a b
+    told-refused w lx ly ex ey =
+        rw (zeros-as a x ea lx ex, zeros-as b y eb ly ey) (sym (whole ∙ ap (byAnswer a b) (subst (λ (z : Why). TextGoes s a₁ b₁ x y z (o .st)) w (g .is))))
 
-        pub text-bounded : Bounded (o .st)
-        text-bounded = fine .2
+    module _ (w : o .why ≡ Why.Fine) where
+      fine : (i : ℕ) × (f : Fields) × Bounded (o .st) × (answerOf s a₁ b₁ ≡ good (memory (o .st) x y nothing i f))
+      fine = subst (λ (z : Why). TextGoes s a₁ b₁ x y z (o .st)) w (g .is)
 
-        text-sane : (σ : machine.MachineState) × Sane (length a) (length b) σ (length s) (memory (o .st) x y nothing (fine .0) (fine .1))
-        unfolding answer
-        text-sane =
-            let e : answerOf s (zeros a) (zeros b) ≡ good (memory (o .st) x y nothing (fine .0) (fine .1)) = rw (← ea, ← eb) (fine .3) in
-            let r = good-going (length s) (read act 0 (going start (beginning (zeros a) (zeros b))) s) (memory (o .st) x y nothing (fine .0) (fine .1)) e in
-            (r .0, read-sane s a b {σ = r .0} (record { room = h; short = l }) (r .1))
+      pub told-fine : {z : ReadResult} → z ≡ endedOf (o .st) x y → z ≡ readInto s a b
+      unfolding ended
+      told-fine q = q ∙ sym (whole ∙ ap (byAnswer a b) (fine .3))
+
+      -- the bytes were read to this memory
+      reached-end : (σ : machine.MachineState) × (bytesRead s a b ≡ going σ (memory (o .st) x y nothing (fine .0) (fine .1)))
+      unfolding answer
+      reached-end =
+          let e : answerOf s (zeros a) (zeros b) ≡ good (memory (o .st) x y nothing (fine .0) (fine .1)) = rw (← ea, ← eb) (fine .3) in
+          good-going (length s) (read act 0 (going start (beginning (zeros a) (zeros b))) s) (memory (o .st) x y nothing (fine .0) (fine .1)) e
+
+      module _ (room : (enough a b ≡ true) ⊎ rows.Short s a b) where
+        stands : Valid (hydrogenated (o .st .outside) y (o .st .bonds) (o .st .atoms) x) y (o .st .atoms) (o .st .bonds) × Steers (length s) (o .st)
+        stands = ⊎-elim long few room
+          where
+            long : enough a b ≡ true → Valid (hydrogenated (o .st .outside) y (o .st .bonds) (o .st .atoms) x) y (o .st .atoms) (o .st .bonds) × Steers (length s) (o .st)
+            long h =
+                let v = read-sane s a b {σ = reached-end .0} (record { room = h; short = l }) (reached-end .1) in
+                (sane-filled {σ = reached-end .0} v, v .steering)
+
+            few : rows.Short s a b → Valid (hydrogenated (o .st .outside) y (o .st .bonds) (o .st .atoms) x) y (o .st .atoms) (o .st .bonds) × Steers (length s) (o .st)
+            few h = short-stands s a b (longer (atomCells * maxAtoms) a) (longer (bondCells * maxBonds) b) h (longer-enough a b) (longer-than (atomCells * maxAtoms) a) (longer-than (bondCells * maxBonds) b) l (reached-end .1)
 
         pub text-valid : Valid (hydrogenated (o .st .outside) y (o .st .bonds) (o .st .atoms) x) y (o .st .atoms) (o .st .bonds)
-        text-valid = sane-filled {σ = text-sane .0} (text-sane .1)
+        text-valid = stands .0
 
         pub text-rankable : Rankable y (o .st .bonds) (o .st .keys)
         text-rankable =
-            let w = text-sane .1 in
             record {
-              few = w .tables .few-bonds;
-              second = λ b k. omega (arith, w .tables .bond-rows b k .second, w .tables .few-atoms);
-              room = w .steering .keys-length;
-              key = λ k. omega (arith, w .steering .keys k);
+              few = stands .0 .few-bonds;
+              second = λ b k. omega (arith, second-end (stands .0) b k, stands .0 .few-atoms);
+              room = stands .1 .keys-length;
+              key = λ k. omega (arith, stands .1 .keys k);
             }
-
-        pub told-fine : {z : ReadResult} → z ≡ endedOf (o .st) x y → z ≡ readOf s a b
-        unfolding ended
-        told-fine q = q ∙ sym (whole ∙ ap (byAnswer a b) (fine .3))
 
 -- tables that were cleared are blank
 zeros-twice : (t : List ℤ) → zeros t ≡ zeros (zeros t)
@@ -316,6 +354,9 @@ cleared-blank a b {x} {y} h ex ey =
 
     ly : length y ≡ length b
     ly = ap length ey ∙ length-replicate {A = ℤ} (length b) (pos 0)
+
+pub blank-ready : (s : List ℕ) {x y : List ℤ} → Blank x y → Ready s x y
+blank-ready s b = record { atoms-zero = b .atoms-zero; bonds-zero = b .bonds-zero; room = inl (b .room) }
 
 -- ---- for the functions' proofs
 pub hydrogens-put : (t : List ℤ) (a x sum : ℕ) {e s h : ℕ} {t′ : List ℤ} → x ≡ 1 → e ≡ element t a → s ≡ selected t a → h ≡ implied e s sum → t′ ≡ set t (atomPlace a HYDROGENS) (toZ w32 h) → t′ ≡ hydrogensBy x sum a t

@@ -3,6 +3,7 @@ use Prim.Native.Nat.{ℕ}
 use mathlib.Core.Path.{_≡_}
 use mathlib.Core.List.{List}
 use mathlib.Core.Bool.{true}
+use mathlib.Core.Logic.{_⊎_}
 use lib.IntN.{ℤ}
 use Rattle.refusal.specs.Code.{codeOf}
 use Rattle.table.specs.Valid.{enough}
@@ -13,6 +14,7 @@ use Rattle.reading.specs.Memory.{Memory, nothing, blank}
 use Rattle.reading.specs.Act.{act}
 use Rattle.reading.specs.Read.{ReadResult, zeros, beginning, ended}
 use Rattle.reading_fields.specs.Rest.{memory}
+use Rattle.reading_short.specs.Short.{Short}
 use Rattle.reader.specs.declared.bridge.Why.{Why}
 use Rattle.reader.specs.declared.ending.ReadAnswer as reply
 use Rattle.reader.specs.Outcome.{Bounded, Outcome}
@@ -37,6 +39,12 @@ TextGoes s a b a′ b′ (Why.Refused r p) u = answerOf s a b ≡ bad (codeOf r)
 
 pub record TextRead (s : List ℕ) (a b a′ b′ : List ℤ) (o : Outcome) : Type 0 where
   pub is : TextGoes s a b a′ b′ (o .why) (o .st)
+
+-- tables that are zeroed, and long enough for a text: as long as 01 asks, or with a row for each of its bytes
+pub record Ready (s : List ℕ) (atoms bonds : List ℤ) : Type 0 where
+  pub atoms-zero : atoms ≡ zeros atoms
+  pub bonds-zero : bonds ≡ zeros bonds
+  pub room : (enough atoms bonds ≡ true) ⊎ Short s atoms bonds
 
 -- tables that are zeroed, and as long as 01 asks
 pub record Blank (atoms bonds : List ℤ) : Type 0 where

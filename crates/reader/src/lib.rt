@@ -10,8 +10,9 @@ ghost use Rattle.table.specs.Valid.{enough};
 ghost use Rattle.ids.specs.Limits.{maxText, bridges};
 ghost use Rattle.reading_state.specs.State.{keyCount};
 ghost use Rattle.reading.specs.Read.{zeros, readOf};
+ghost use Rattle.reading_short.specs.Short.{readInto};
 ghost use Rattle.reader.specs.Outcome.{outcome};
-ghost use Rattle.reader.specs.Ending.{told, Blank, TextRead};
+ghost use Rattle.reader.specs.Ending.{told, Ready, Blank, TextRead};
 ghost use Rattle.reader.specs.Chosen.{Chosen};
 use crate::bridge::PartRead;
 use crate::bridge::Why;
@@ -72,11 +73,11 @@ fn read_text(
     o
 }
 
-// internal: reads a text into tables that are zeroed and long enough, for callers that know them so; the row gets the first matching of a molecule.
+// internal: reads a text into tables that are zeroed and long enough for it, for callers that know them so; the row gets the first matching of a molecule.
 pub fn read_row(text: &[u8], atoms: &mut [i32], bonds: &mut [i32], row: &mut [u8]) -> ReadAnswer
-    requires { ⌜ Blank (now atoms) (now bonds) ⌝ }
+    requires { ⌜ Ready (now text) (now atoms) (now bonds) ⌝ }
     requires { ⌜ maxBonds ≤ length (now row) ⌝ }
-    ensures { λ r. ⌜ ((a b : List ℤ) → now (atoms .entry) ≡ zeros a → now (bonds .entry) ≡ zeros b → enough a b ≡ true → told r (now (atoms .exit)) (now (bonds .exit)) ≡ readOf (now (text .entry)) a b) ⌝ }
+    ensures { λ r. ⌜ ((a b : List ℤ) → now (atoms .entry) ≡ zeros a → now (bonds .entry) ≡ zeros b → told r (now (atoms .exit)) (now (bonds .exit)) ≡ readInto (now (text .entry)) a b) ⌝ }
     ensures { λ r. ⌜ Chosen r (now (atoms .exit)) (now (bonds .exit)) (now (row .entry)) (now (row .exit)) ⌝ }
 {
     if MAX_TEXT < text.len() {
@@ -100,7 +101,7 @@ pub fn read_row(text: &[u8], atoms: &mut [i32], bonds: &mut [i32], row: &mut [u8
     }
 }
 
-// internal: the same, and the first matching is dropped.
+// internal: reads a text into tables that are zeroed and as long as they have to be; the first matching is dropped.
 pub fn read_zeroed(text: &[u8], atoms: &mut [i32], bonds: &mut [i32]) -> ReadAnswer
     requires { ⌜ Blank (now atoms) (now bonds) ⌝ }
     ensures { λ r. ⌜ ((a b : List ℤ) → now (atoms .entry) ≡ zeros a → now (bonds .entry) ≡ zeros b → enough a b ≡ true → told r (now (atoms .exit)) (now (bonds .exit)) ≡ readOf (now (text .entry)) a b) ⌝ }

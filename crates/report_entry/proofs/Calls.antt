@@ -70,7 +70,7 @@ row-fits {a} {b} {n} {m} w row e = omega (arith, standing-valid a b n m w .few-b
 
 -- what writing sound tables hands back
 pub blank-written : {atoms bonds : List ℤ} {n m : ℕ} → Writable atoms bonds n m → (w : Written) (text numbers : List ℕ) → told w text numbers ≡ write.writeValid atoms bonds n m (replicate maxText 0) (replicate maxAtoms 0) → told w text numbers ≡ writeBlank atoms bonds n m
-blank-written {atoms} {bonds} {n} {m} u w text numbers e = the-writing atoms bonds n m 0 (replicate maxText 0) w text numbers u text-long e
+blank-written {atoms} {bonds} {n} {m} u w text numbers e = the-writing atoms bonds n m 0 (replicate maxText 0) w text numbers e u text-long
 
 module _ (atoms bonds : List ℤ) (n m k : ℕ) (row text numbers : List ℕ) (w : Written) (write : told w text numbers ≡ writeBlank atoms bonds n m) where
   pub written-accepted : {size : ℕ} → w ≡ Text size → ofWritten n m k row (writeBlank atoms bonds n m) ≡ acceptedAs n m k (take m row) (take size text)

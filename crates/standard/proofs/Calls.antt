@@ -2,6 +2,7 @@
 use Prim.Native.Nat.{ℕ, _*_, _-_, _≤_, _<_}
 use native.Mathlib.Omega.{arith}
 use mathlib.Core.Path.{_≡_, refl, sym, ap, subst, _∙_}
+use mathlib.Core.Logic.{_⊎_, inr, ⊎-elim}
 use mathlib.Core.List.{List, _++_}
 use mathlib.Core.Bool.{Bool, true, false, _&&_}
 use lib.ListN.{length, take, replicate, length-replicate}
@@ -12,39 +13,43 @@ use Rattle.loops.specs.Loop.{pick}
 use Rattle.refusal.specs.Code.{codeOf}
 use Rattle.refusal.specs.declared.Refusal.{Refusal}
 use Rattle.refusal.proofs.Codes.{code-range}
-use Rattle.table.specs.Limits.{maxAtoms, maxBonds, atomCells, bondCells}
-use Rattle.table.specs.Valid.{Valid, enough, checkCode}
-use Rattle.table.specs.declared.Check.{Check}
-use Rattle.refusal.specs.declared.Refusal.the-variants.{CrowdedEnd}
-use Rattle.table.specs.Sound.{noneUnfit, sound}
-use Rattle.table.proofs.Sound.{sound-valid, sound-late, late-none}
-use Rattle.table_marks.specs.Chosen.{noneCrowdedBy}
-use Rattle.table_graph.specs.Graph.{matchingOf}
-use Rattle.table.specs.declared.Check.the-variants as check
 use Rattle.ids.specs.Limits.{maxText}
+use Rattle.ids.specs.Small.{small}
+use Rattle.table.specs.Limits.{maxAtoms, maxBonds, atomCells, bondCells}
+use Rattle.table.specs.Valid.{Valid, enough}
+use Rattle.table.specs.Sound.{noneUnfit, sound}
+use Rattle.table.specs.declared.Check.{Check}
+use Rattle.table.specs.declared.Check.the-variants as check
+use Rattle.table.proofs.Valid.{enough-facts}
+use Rattle.table.proofs.Sound.{sound-valid, sound-late, late-none}
+use Rattle.table_graph.specs.Graph.{matchingOf, matchable}
+use Rattle.table_alike.proofs.Readings.{same-sound, same-matchable}
+use Rattle.table_alike.proofs.Edits.{alike-itself}
+use Rattle.matching.specs.Enumeration.{rowCall}
 use Rattle.matching.specs.declared.Call.the-variants.{First}
 use Rattle.reading.specs.Read as read
+use Rattle.reading.proofs.Accepted as reading
+use Rattle.reading_short.specs.Short.{Short, readInto, Agree}
+use Rattle.reading_short.proofs.Cut.{few-read}
+use Rattle.reading_short.proofs.Short.{short-agree}
 use Rattle.reader.specs.Ending as reader
 use Rattle.reader.specs.Chosen.{ChosenBy, Chosen}
-use Rattle.reader.proofs.Ends.{cleared-blank}
 use Rattle.reader.specs.declared.ending.ReadAnswer as reply
-use Rattle.reading.proofs.Accepted as reading
-use Rattle.matching.specs.Enumeration.{rowCall}
+use Rattle.reader.proofs.Ends.{cleared-blank, blank-ready, into-of}
 use Rattle.kekule.specs.First.{firstIn}
-use Rattle.kekule.specs.Kekule as kekulize
-use Rattle.kekule.specs.Kekule.{KekulizeReply, CallReply, callReplyOf, out, tables, roomy, callOn, isMatchingOf, kekulizedOf}
-use Rattle.kekule.proofs.Kekule.{cleared, call-done, kekulize-crowded, kekulize-done}
-use Rattle.kekule.proofs.Kekulized.{kekulize-settles}
+use Rattle.kekule.specs.Kekule.{CallReply, KekulizeReply, callReplyOf, out, tables}
+use Rattle.kekule.proofs.Kekule.{cleared}
 use Rattle.kekule_answers.specs.declared.Found.{Found}
 use Rattle.writing.specs.Write as write
 use Rattle.writer.specs.Told as writer
 use Rattle.writer.proofs.Answer.{told-valid}
 use Rattle.writer.specs.declared.Written.{Written}
 use Rattle.writer.specs.declared.Written.the-variants as written
-use Rattle.standard.specs.Standard.{StandardOut, refusedAs, zeroed, firstRow, kekuleOf, writtenOf, ofWritten, ofMolecule, ofRead, standardOf, told}
-use Rattle.standard.specs.Standing.{Writable, Standing, FirstOf, Settled}
-use Rattle.standard.proofs.First.{first-is}
+use Rattle.standard.specs.Standard.{refusedAs, zeroed, ofWritten, ofMolecule, ofRead, standardOf, told}
+use Rattle.standard.specs.Standing.{Writable, Standing, Readable, Held, firstOf, HasFirst, kekuleBy, KekulizedBy, byTables, moleculeOf}
 use Rattle.standard.specs.declared.Standardized.the-variants.{Text, Refused}
+use Rattle.standard.proofs.Alike.{same-first, same-molecule}
+use Rattle.standard.proofs.Kekulized.{numbers-long, standing-held, standing-molecule}
 
 pub code-not-zero : (r : Refusal) → eqb (codeOf r) 0 ≡ false
 code-not-zero r = ne-eqb (codeOf r) 0 (λ e. omega (arith, code-range r .positive))
@@ -55,32 +60,26 @@ refuses r p out after e = ap (refusedAs (codeOf r) p) (e ∙ cleared out)
 
 -- ---- writing
 
-pub numbers-long : maxAtoms ≤ length {A = ℕ} (replicate maxAtoms 0)
-numbers-long = omega (arith, length-replicate {A = ℕ} maxAtoms 0)
-
-module _ (atoms bonds : List ℤ) (n m k : ℕ) (out : List ℕ) (w : Written) (after numbers : List ℕ) (u : Writable atoms bonds n m) (long : maxText ≤ length out) (answer : writer.told w after numbers ≡ write.writeValid atoms bonds n m out (replicate maxAtoms 0)) where
-  pub the-writing : writer.told w after numbers ≡ write.writeOf atoms bonds n m out (replicate maxAtoms 0)
-  the-writing = answer ∙ told-valid atoms bonds n m out (replicate maxAtoms 0) (u .room) long numbers-long (u .is-sound)
-
-  pub is-written : {size : ℕ} → w ≡ written.Text size → told (Text n m k size) after ≡ ofWritten n m k (write.writeOf atoms bonds n m out (replicate maxAtoms 0))
-  is-written e = sym (ap (λ (y : Written). ofWritten n m k (writer.told y after numbers)) e) ∙ ap (ofWritten n m k) the-writing
-
-  pub not-written : {r : Refusal} → w ≡ written.Refused r → told (Refused r 0) after ≡ ofWritten n m k (write.writeOf atoms bonds n m out (replicate maxAtoms 0))
-  not-written {r} e =
-      sym (ap (λ t. pick t (record { code = 0; place = 0; atoms = n; bonds = m; overfull = k; size = 0; output = after }) (refusedAs (codeOf r) 0 after)) (code-not-zero r))
-      ∙ sym (ap (λ (y : Written). ofWritten n m k (writer.told y after numbers)) e) ∙ ap (ofWritten n m k) the-writing
+pub sound-facts : {atoms bonds : List ℤ} {n m : ℕ} → sound atoms bonds n m ≡ true → Valid atoms bonds n m × (noneUnfit atoms bonds n m ≡ true)
+sound-facts {atoms} {bonds} {n} {m} s = (sound-valid atoms bonds n m s, late-none atoms bonds n m (sound-late atoms bonds n m s) .fit)
 
 pub writable-facts : {atoms bonds : List ℤ} {n m : ℕ} → Writable atoms bonds n m → Valid atoms bonds n m × (noneUnfit atoms bonds n m ≡ true)
-writable-facts {atoms} {bonds} {n} {m} u = (sound-valid atoms bonds n m (u .is-sound), late-none atoms bonds n m (sound-late atoms bonds n m (u .is-sound)) .fit)
+writable-facts u = sound-facts (u .is-sound)
+
+module _ (atoms bonds : List ℤ) (n m k : ℕ) (out : List ℕ) (w : Written) (after numbers : List ℕ) (answer : writer.told w after numbers ≡ write.writeValid atoms bonds n m out (replicate maxAtoms 0)) where
+  -- into buffers that are long enough
+  pub the-writing : Writable atoms bonds n m → maxText ≤ length out → writer.told w after numbers ≡ write.writeOf atoms bonds n m out (replicate maxAtoms 0)
+  the-writing u long = answer ∙ told-valid atoms bonds n m out (replicate maxAtoms 0) (u .room) long numbers-long (u .is-sound)
+
+  pub is-written : {size : ℕ} → w ≡ written.Text size → told (Text n m k size) after ≡ ofWritten n m k (write.writeValid atoms bonds n m out (replicate maxAtoms 0))
+  is-written e = sym (ap (λ (y : Written). ofWritten n m k (writer.told y after numbers)) e) ∙ ap (ofWritten n m k) answer
+
+  pub not-written : {r : Refusal} → w ≡ written.Refused r → told (Refused r 0) after ≡ ofWritten n m k (write.writeValid atoms bonds n m out (replicate maxAtoms 0))
+  not-written {r} e =
+      sym (ap (λ t. pick t (record { code = 0; place = 0; atoms = n; bonds = m; overfull = k; size = 0; output = after }) (refusedAs (codeOf r) 0 after)) (code-not-zero r))
+      ∙ sym (ap (λ (y : Written). ofWritten n m k (writer.told y after numbers)) e) ∙ ap (ofWritten n m k) answer
 
 -- ---- kekulizing
-
--- no refusal is an acceptance
-no-refusal : {P : Type 0} {r : Refusal} → check.Refused r ≡ check.Fine → P
-no-refusal {r = r} e =
-    let z : codeOf r ≡ 0 = ap checkCode e in
-    let p = code-range r in
-    absurd (omega (arith, z, p .positive))
 
 module _ (atoms bonds : List ℤ) (n m : ℕ) (w : Standing atoms bonds n m) where
   pub standing-valid : Valid atoms bonds n m
@@ -89,70 +88,25 @@ module _ (atoms bonds : List ℤ) (n m : ℕ) (w : Standing atoms bonds n m) whe
   pub blank-fits : (blank : List ℕ) → blank ≡ replicate maxBonds 0 → m ≤ length blank
   blank-fits blank zero = omega (arith, standing-valid .few-bonds, ap length zero, length-replicate {A = ℕ} maxBonds 0)
 
-  is-long : (row : List ℕ) → length row ≡ maxBonds → roomy atoms bonds (length row) ≡ true
-  is-long row l = ap (λ (x : ℕ). leb maxBonds x && enough atoms bonds) l ∙ w .room
-
-  -- the first call's row
-  first-row : firstIn atoms bonds n m (replicate maxBonds 0) ≡ firstRow atoms bonds n m
-  unfolding firstRow
-  first-row = ap (λ (o : CallReply). o .row) (call-done First atoms bonds n m (replicate maxBonds 0) (is-long (replicate maxBonds 0) (length-replicate {A = ℕ} maxBonds 0)) (w .is-sound) refl)
-
-  pub first-of : (blank row : List ℕ) → blank ≡ replicate maxBonds 0 → length row ≡ length blank → row ≡ firstIn atoms bonds n m blank → FirstOf atoms bonds n m row
-  first-of blank row zero kept first =
-      record { long = kept ∙ ap length zero ∙ length-replicate {A = ℕ} maxBonds 0; first = first ∙ ap (firstIn atoms bonds n m) zero ∙ first-row }
-
-  pub first-called : (blank row : List ℕ) (f : Found) → blank ≡ replicate maxBonds 0 → length row ≡ length blank → out f row ≡ callReplyOf (rowCall (matchingOf atoms bonds n m) m First blank) → FirstOf atoms bonds n m row
-  first-called blank row f zero kept first = first-of blank row zero kept (ap (λ (o : CallReply). o .row) first)
-
-  module _ (row : List ℕ) (f : FirstOf atoms bonds n m row) where
-    long : roomy atoms bonds (length row) ≡ true
-    long = is-long row (f .long)
-
-    pub row-fits : m ≤ length row
-    row-fits = omega (arith, standing-valid .few-bonds, f .long)
-
-    matches : isMatchingOf atoms bonds n m row ≡ true
-    matches = subst (λ (r : List ℕ). isMatchingOf atoms bonds n m r ≡ true) (first-row ∙ sym (f .first)) (first-is atoms bonds n m (replicate maxBonds 0) (w .matched))
-
-    the-tables : {t : KekulizeReply} → t ≡ kekulizedOf atoms bonds n m row → t ≡ kekuleOf atoms bonds n m
-    unfolding kekuleOf
-    the-tables e = e ∙ ap (kekulizedOf atoms bonds n m) (f .first)
-
-    pub crowded : noneCrowdedBy bonds m row ≡ false → Settled atoms bonds n m (check.Refused CrowdedEnd) atoms bonds row
-    crowded d =
-        record {
-          first = f .first;
-          done = the-tables (kekulize-crowded atoms bonds n m row long (w .is-sound) matches d);
-          writable = λ e. no-refusal e;
-        }
-
-    pub kekulized : {a b : List ℤ} → noneCrowdedBy bonds m row ≡ true → tables check.Fine a b ≡ kekulize.kekulized atoms bonds n m row → length a ≡ length atoms → length b ≡ length bonds → Settled atoms bonds n m check.Fine a b row
-    unfolding enough
-    kekulized {a} {b} d done la lb =
-        let e : tables check.Fine a b ≡ kekulizedOf atoms bonds n m row = kekulize-done atoms bonds n m row long (w .is-sound) matches d done in
-        record {
-          first = f .first;
-          done = the-tables e;
-          writable = λ z. record {
-            room = (λ i. leb (atomCells * maxAtoms) (la i) && leb (bondCells * maxBonds) (lb i)) ∙ w .room;
-            is-sound = subst (λ (t : KekulizeReply). sound (t .atoms) (t .bonds) n m ≡ true) (sym e) (kekulize-settles atoms bonds n m row (ap (λ (t : KekulizeReply). t .code) (sym e)) .still-sound);
-          };
-        }
+-- the row that the first call leaves
+pub first-called : (atoms bonds : List ℤ) (n m : ℕ) (blank row : List ℕ) (f : Found) → blank ≡ replicate maxBonds 0 → length row ≡ length blank → out f row ≡ callReplyOf (rowCall (matchingOf atoms bonds n m) m First blank) → HasFirst atoms bonds n m row
+first-called atoms bonds n m blank row f zero kept first =
+    record {
+      long = kept ∙ ap length zero ∙ length-replicate {A = ℕ} maxBonds 0;
+      first = ap (λ (o : CallReply). o .row) first ∙ ap (λ (l : List ℕ). rowCall (matchingOf atoms bonds n m) m First l .row) zero;
+    }
 
 -- the answer, by what kekulizing hands back
-module _ (atoms bonds : List ℤ) (n m k : ℕ) (row output : List ℕ) (a b : List ℤ) (c : Check) (settled : Settled atoms bonds n m c a b row) where
-  abbrev byTables : KekulizeReply → StandardOut
-  byTables t = pick (eqb (t .code) 0) (ofWritten n m k (write.writeOf (t .atoms) (t .bonds) n m output (replicate maxAtoms 0))) (zeroed (t .code) 0 output)
+module _ (atoms bonds : List ℤ) (n m k : ℕ) (row output : List ℕ) (a b : List ℤ) (c : Check) (f : HasFirst atoms bonds n m row) (settled : KekulizedBy atoms bonds n m row c a b) where
+  the-answer : {x : Check} → c ≡ x → byTables n m k output (tables x a b) ≡ moleculeOf atoms bonds n m k output
+  unfolding moleculeOf
+  the-answer e = sym (ap (λ (x : Check). byTables n m k output (tables x a b)) e) ∙ ap (byTables n m k output) (settled .done ∙ ap (kekuleBy atoms bonds n m) (f .first))
 
-  the-answer : {x : Check} → c ≡ x → byTables (tables x a b) ≡ ofMolecule atoms bonds n m k output
-  unfolding ofMolecule writtenOf
-  the-answer e = sym (ap (λ (x : Check). byTables (tables x a b)) e) ∙ ap byTables (settled .done)
-
-  pub is-settled : c ≡ check.Fine → ofWritten n m k (write.writeOf a b n m output (replicate maxAtoms 0)) ≡ ofMolecule atoms bonds n m k output
+  pub is-settled : c ≡ check.Fine → ofWritten n m k (write.writeValid a b n m output (replicate maxAtoms 0)) ≡ moleculeOf atoms bonds n m k output
   is-settled e = the-answer e
 
-  pub not-settled : {r : Refusal} → c ≡ check.Refused r → zeroed (codeOf r) 0 output ≡ ofMolecule atoms bonds n m k output
-  not-settled {r} e = sym (ap (λ t. pick t (ofWritten n m k (write.writeOf a b n m output (replicate maxAtoms 0))) (zeroed (codeOf r) 0 output)) (code-not-zero r)) ∙ the-answer e
+  pub not-settled : {r : Refusal} → c ≡ check.Refused r → zeroed (codeOf r) 0 output ≡ moleculeOf atoms bonds n m k output
+  not-settled {r} e = sym (ap (λ t. pick t (ofWritten n m k (write.writeValid a b n m output (replicate maxAtoms 0))) (zeroed (codeOf r) 0 output)) (code-not-zero r)) ∙ the-answer e
 
 -- ---- reading
 
@@ -178,6 +132,13 @@ blank-room = both (le-leb (atomCells * maxAtoms) (length blankAtoms) (omega (ari
 
 pub blank-tables : reader.Blank blankAtoms blankBonds
 blank-tables = cleared-blank blankAtoms blankBonds blank-room (blank-is (atomCells * maxAtoms)) (blank-is (bondCells * maxBonds))
+
+-- with as many rows as a short text has bytes
+abbrev fewAtoms : List ℤ
+fewAtoms = replicate (atomCells * small) (pos 0)
+
+abbrev fewBonds : List ℤ
+fewBonds = replicate (bondCells * small) (pos 0)
 
 pub row-long : maxBonds ≤ length {A = ℕ} (replicate maxBonds 0)
 row-long = omega (arith, length-replicate {A = ℕ} maxBonds 0)
@@ -207,20 +168,99 @@ read-standing s a b x answer {n} {m} {k} e =
     let fine : readBlank s .code ≡ 0 = ap (λ (t : read.ReadResult). t .code) (sym same) in
     subst (λ (t : read.ReadResult). Standing (t .atoms) (t .bonds) (t .atomCount) (t .bondCount)) (sym same) (accepted-standing s fine)
 
--- the row that reading got
-pub read-first : (s : List ℕ) (a b : List ℤ) (x : reply.ReadAnswer) (blank row : List ℕ) → reader.told x a b ≡ readBlank s → Chosen x a b blank row → blank ≡ replicate maxBonds 0 → length row ≡ length blank
-    → {n m k : ℕ} → x ≡ reply.ReadAnswer.Molecule n m k → FirstOf a b n m row
-read-first s a b x blank row answer c zero kept e = first-of a b _ _ (read-standing s a b x answer e) blank row zero kept (subst (λ (y : reply.ReadAnswer). ChosenBy y a b blank row) e (c .is))
+-- ---- tables of any length that a text can be read into
 
-module _ (s output : List ℕ) (a b : List ℤ) (x : reply.ReadAnswer) (long : maxText ≤ length output) (answer : reader.told x a b ≡ readBlank s) where
-  the-reading : {y : reply.ReadAnswer} → x ≡ y → ofRead (reader.told y a b) output ≡ standardOf s output
+pub long-readable : (s : List ℕ) → Readable s blankAtoms blankBonds
+long-readable s =
+    record {
+      ready = blank-ready s blank-tables;
+      agrees = subst (λ (t : read.ReadResult). Agree t (readBlank s)) (sym (into-of s blankAtoms blankBonds blank-room)) (agree-itself (readBlank s));
+    }
+  where
+    agree-itself : (t : read.ReadResult) → Agree t t
+    agree-itself t = record { code = refl; offset = refl; atom-count = refl; bond-count = refl; overfull = refl; atoms = alike-itself (t .atoms); bonds = alike-itself (t .bonds) }
+
+pub short-readable : (s : List ℕ) → length s ≤ small → Readable s fewAtoms fewBonds
+short-readable s l =
+    record {
+      ready = record { atoms-zero = blank-is (atomCells * small); bonds-zero = blank-is (bondCells * small); room = inr rows };
+      agrees = short-agree s fewAtoms fewBonds blankAtoms blankBonds rows blank-room (omega (arith, la, length-replicate {A = ℤ} (atomCells * maxAtoms) (pos 0))) (omega (arith, lb, length-replicate {A = ℤ} (bondCells * maxBonds) (pos 0))) (omega (arith, l));
+    }
+  where
+    la : length fewAtoms ≡ atomCells * small
+    la = length-replicate {A = ℤ} (atomCells * small) (pos 0)
+
+    lb : length fewBonds ≡ bondCells * small
+    lb = length-replicate {A = ℤ} (bondCells * small) (pos 0)
+
+    rows : Short s fewAtoms fewBonds
+    rows = record { atoms-long = omega (arith, la, l); bonds-long = omega (arith, lb, l) }
+
+-- an accepted text has at most as many atoms and bonds as bytes
+few-accepted : (s : List ℕ) → readBlank s .code ≡ 0 → (readBlank s .atomCount ≤ length s) × (readBlank s .bondCount ≤ length s)
+few-accepted s e =
+    let t = reading.read-accepted s _ _ e in
+    let f = few-read s blankAtoms blankBonds (t .reached) in
+    (omega (arith, f .0, t .counts .0), omega (arith, f .1, t .counts .1))
+
+-- what reading into such tables leaves: z and w are the tables before, a and b after
+module _ (s : List ℕ) (z w a b : List ℤ) (x : reply.ReadAnswer) (readable : Readable s z w) (answer : reader.told x a b ≡ readInto s z w) where
+  agrees : Agree (reader.told x a b) (readBlank s)
+  agrees = subst (λ (t : read.ReadResult). Agree t (readBlank s)) (sym answer) (readable .agrees)
+
+  module _ {n m k : ℕ} (e : x ≡ reply.ReadAnswer.Molecule n m k) where
+    same : Agree (reader.told (reply.ReadAnswer.Molecule n m k) a b) (readBlank s)
+    same = subst (λ (y : reply.ReadAnswer). Agree (reader.told y a b) (readBlank s)) e agrees
+
+    stands : Standing (readBlank s .atoms) (readBlank s .bonds) n m
+    stands = subst (λ (y : ℕ). Standing (readBlank s .atoms) (readBlank s .bonds) n y) (sym (same .bond-count)) (subst (λ (y : ℕ). Standing (readBlank s .atoms) (readBlank s .bonds) y (readBlank s .bondCount)) (sym (same .atom-count)) (accepted-standing s (sym (same .code))))
+
+    -- the tables have their rows
+    rows : (atomCells * n ≤ length z) × (bondCells * m ≤ length w)
+    rows = ⊎-elim long few (readable .ready .room)
+      where
+        long : enough z w ≡ true → (atomCells * n ≤ length z) × (bondCells * m ≤ length w)
+        long h =
+            let v = sound-valid (readBlank s .atoms) (readBlank s .bonds) n m (stands .is-sound) in
+            let r = enough-facts z w h in
+            (omega (arith, v .few-atoms, r .atoms-room), omega (arith, v .few-bonds, r .bonds-room))
+
+        few : Short s z w → (atomCells * n ≤ length z) × (bondCells * m ≤ length w)
+        few h =
+            let f = few-accepted s (sym (same .code)) in
+            (omega (arith, f .0, same .atom-count, h .atoms-long), omega (arith, f .1, same .bond-count, h .bonds-long))
+
+    pub read-held : length a ≡ length z → length b ≡ length w → Held a b n m
+    read-held la lb =
+        record {
+          atom-rows = omega (arith, la, rows .0);
+          bond-rows = omega (arith, lb, rows .1);
+          is-sound = same-sound (same .bonds) (same .atoms) n m ∙ stands .is-sound;
+          matched = same-matchable (same .bonds) (same .atoms) n m ∙ stands .matched;
+        }
+
+    -- the row that reading got
+    pub read-first : (blank row : List ℕ) → Chosen x a b blank row → blank ≡ replicate maxBonds 0 → length row ≡ length blank → HasFirst a b n m row
+    read-first blank row c zero kept =
+        record {
+          long = kept ∙ ap length zero ∙ length-replicate {A = ℕ} maxBonds 0;
+          first = subst (λ (y : reply.ReadAnswer). ChosenBy y a b blank row) e (c .is) ∙ ap (firstIn a b n m) zero;
+        }
+
+    pub read-accepted : (row output : List ℕ) → Held a b n m → HasFirst a b n m row → maxText ≤ length output → moleculeOf a b n m k output ≡ standardOf s output
+    unfolding standardOf
+    read-accepted row output h f long =
+        let g = standing-held (readBlank s .atoms) (readBlank s .bonds) n m stands in
+        let l : firstOf a b n m ≡ firstOf (readBlank s .atoms) (readBlank s .bonds) n m = same-first (same .atoms) (same .bonds) n m (h .atom-rows) (g .atom-rows) (h .bond-rows) (g .bond-rows) in
+        same-molecule (same .atoms) (same .bonds) n m (h .atom-rows) (g .atom-rows) (h .bond-rows) (g .bond-rows) k output
+        ∙ standing-molecule (readBlank s .atoms) (readBlank s .bonds) n m stands (ap length (sym l) ∙ ap length (sym (f .first)) ∙ f .long) k output long
+        ∙ (λ i. pick (eqb (same .code i) 0) (ofMolecule (readBlank s .atoms) (readBlank s .bonds) (same .atom-count i) (same .bond-count i) (same .overfull i) output) (zeroed (same .code i) (same .offset i) output))
+        ∙ sym (ap (λ t. pick t (ofRead (readBlank s) output) (refusedAs 1 0 output)) (le-leb maxText (length output) long))
+
+  pub read-refused : {r : Refusal} {p : ℕ} → x ≡ reply.ReadAnswer.Refused r p → (output : List ℕ) → maxText ≤ length output → zeroed (codeOf r) p output ≡ standardOf s output
   unfolding standardOf
-  the-reading e =
-      sym (ap (λ (y : reply.ReadAnswer). ofRead (reader.told y a b) output) e) ∙ ap (λ (t : read.ReadResult). ofRead t output) answer
+  read-refused {r} {p} e output long =
+      let same : Agree (reader.told (reply.ReadAnswer.Refused r p) a b) (readBlank s) = subst (λ (y : reply.ReadAnswer). Agree (reader.told y a b) (readBlank s)) e agrees in
+      sym (ap (λ t. pick t (ofMolecule (readBlank s .atoms) (readBlank s .bonds) 0 0 0 output) (zeroed (codeOf r) p output)) (code-not-zero r))
+      ∙ (λ i. pick (eqb (same .code i) 0) (ofMolecule (readBlank s .atoms) (readBlank s .bonds) (same .atom-count i) (same .bond-count i) (same .overfull i) output) (zeroed (same .code i) (same .offset i) output))
       ∙ sym (ap (λ t. pick t (ofRead (readBlank s) output) (refusedAs 1 0 output)) (le-leb maxText (length output) long))
-
-  pub read-refused : {r : Refusal} {p : ℕ} → x ≡ reply.ReadAnswer.Refused r p → zeroed (codeOf r) p output ≡ standardOf s output
-  read-refused {r} {p} e = sym (ap (λ t. pick t (ofMolecule a b 0 0 0 output) (zeroed (codeOf r) p output)) (code-not-zero r)) ∙ the-reading e
-
-  pub read-accepted : {n m k : ℕ} → x ≡ reply.ReadAnswer.Molecule n m k → ofMolecule a b n m k output ≡ standardOf s output
-  read-accepted e = the-reading e

@@ -1,14 +1,17 @@
 // One call from a text to the text kekulized: reading, the first matching, kekulizing and writing.
 ghost use mathlib.Core.Path.{_≡_};
+ghost use mathlib.Core.Bool.{true};
 ghost use Prim.Native.Nat.{_≤_};
 ghost use lib.ListN.{length, replicate};
 ghost use Rattle.refusal.specs.Code.{codeOf};
 ghost use Rattle.table.specs.Limits.{maxAtoms, maxBonds};
 ghost use Rattle.ids.specs.Limits.{maxText};
-ghost use Rattle.writing.specs.Write.{writeOf};
-ghost use Rattle.standard.specs.Standard.{told, zeroed, ofWritten, ofMolecule, standardOf};
-ghost use Rattle.standard.specs.Standing.{Writable, Standing, FirstOf, Settled};
+ghost use Rattle.table.specs.Sound.{sound};
+ghost use Rattle.writing.specs.Write.{writeValid};
+ghost use Rattle.standard.specs.Standard.{told, zeroed, ofWritten, standardOf};
+ghost use Rattle.standard.specs.Standing.{Standing, Settled, Readable, Held, HasFirst, KekulizedBy, moleculeOf};
 use ids::MAX_TEXT;
+use ids::SMALL;
 use matching::Call;
 use reader::ending::ReadAnswer;
 use refusal::Refusal;
@@ -42,9 +45,9 @@ fn write_kekulized(
     overfull: usize,
     out: &mut [u8],
 ) -> Standardized
-    requires { ⌜ Writable (now atoms) (now bonds) n m ⌝ }
+    requires { ⌜ sound (now atoms) (now bonds) n m ≡ true ⌝ }
     requires { ⌜ maxText ≤ length (now out) ⌝ }
-    ensures { λ t. ⌜ told t (now (out .exit)) ≡ ofWritten n m overfull (writeOf (now (atoms .entry)) (now (bonds .entry)) n m (now (out .entry)) (replicate maxAtoms 0)) ⌝ }
+    ensures { λ t. ⌜ told t (now (out .exit)) ≡ ofWritten n m overfull (writeValid (now (atoms .entry)) (now (bonds .entry)) n m (now (out .entry)) (replicate maxAtoms 0)) ⌝ }
 {
     let mut numbers = [0u16; MAX_ATOMS];
     let w = writer::write_valid(atoms, bonds, n, m, out, &mut numbers);
@@ -56,9 +59,9 @@ fn write_kekulized(
 
 // Kekulizes the tables of an accepted text by their first matching, which the row has; or 20, which changes neither table.
 fn settle_by(atoms: &mut [i32], bonds: &mut [i32], n: usize, m: usize, row: &[u8]) -> Check
-    requires { ⌜ Standing (now atoms) (now bonds) n m ⌝ }
-    requires { ⌜ FirstOf (now atoms) (now bonds) n m (now row) ⌝ }
-    ensures { λ r. ⌜ Settled (now (atoms .entry)) (now (bonds .entry)) n m r (now (atoms .exit)) (now (bonds .exit)) (now (row .entry)) ⌝ }
+    requires { ⌜ Held (now atoms) (now bonds) n m ⌝ }
+    requires { ⌜ HasFirst (now atoms) (now bonds) n m (now row) ⌝ }
+    ensures { λ r. ⌜ KekulizedBy (now (atoms .entry)) (now (bonds .entry)) n m (now (row .entry)) r (now (atoms .exit)) (now (bonds .exit)) ⌝ }
 {
     if !table_marks::none_crowded_by(bonds, m, row) {
         return Check::Refused(Refusal::CrowdedEnd);
@@ -87,10 +90,10 @@ fn kekulize_first(
     row: &[u8],
     out: &mut [u8],
 ) -> Standardized
-    requires { ⌜ Standing (now atoms) (now bonds) n m ⌝ }
-    requires { ⌜ FirstOf (now atoms) (now bonds) n m (now row) ⌝ }
+    requires { ⌜ Held (now atoms) (now bonds) n m ⌝ }
+    requires { ⌜ HasFirst (now atoms) (now bonds) n m (now row) ⌝ }
     requires { ⌜ maxText ≤ length (now out) ⌝ }
-    ensures { λ t. ⌜ told t (now (out .exit)) ≡ ofMolecule (now (atoms .entry)) (now (bonds .entry)) n m overfull (now (out .entry)) ⌝ }
+    ensures { λ t. ⌜ told t (now (out .exit)) ≡ moleculeOf (now (atoms .entry)) (now (bonds .entry)) n m overfull (now (out .entry)) ⌝ }
 {
     let c = settle_by(atoms, bonds, n, m, row);
     match c {
@@ -99,23 +102,45 @@ fn kekulize_first(
     }
 }
 
+// The text of a text, by way of zeroed tables that are long enough for it.
+fn standardize_in(text: &[u8], atoms: &mut [i32], bonds: &mut [i32], out: &mut [u8]) -> Standardized
+    requires { ⌜ Readable (now text) (now atoms) (now bonds) ⌝ }
+    requires { ⌜ maxText ≤ length (now out) ⌝ }
+    ensures { λ t. ⌜ told t (now (out .exit)) ≡ standardOf (now (text .entry)) (now (out .entry)) ⌝ }
+{
+    let mut row = [0u8; MAX_BONDS];
+    let a = reader::read_row(text, atoms, bonds, &mut row);
+    match a {
+        ReadAnswer::Refused(r, p) => refuse(r, p, out),
+        ReadAnswer::Molecule(n, m, overfull) => {
+            kekulize_first(atoms, bonds, n, m, overfull, &row, out)
+        }
+    }
+}
+
+// The same with tables that are long enough for any text.
+fn standardize_long(text: &[u8], out: &mut [u8]) -> Standardized
+    requires { ⌜ maxText ≤ length (now out) ⌝ }
+    ensures { λ t. ⌜ told t (now (out .exit)) ≡ standardOf (now (text .entry)) (now (out .entry)) ⌝ }
+{
+    let mut atoms = [0i32; ATOM_CELLS * MAX_ATOMS];
+    let mut bonds = [0i32; BOND_CELLS * MAX_BONDS];
+    standardize_in(text, &mut atoms, &mut bonds, out)
+}
+
 // Reads a text, kekulizes it by its first matching and writes it: the counts of atoms, of bonds and of over-full atoms outside brackets, and the
 // length of the text, whose bytes the output holds, and zeros after them; or the first refusal among these, with its place, which is 0 after reading.
-// An output that is too short (1) stays as it was; every other refusal leaves it zeroed.
+// An output that is too short (1) stays as it was; every other refusal leaves it zeroed. A short text has no more atoms and bonds than bytes.
 pub fn standardize(text: &[u8], out: &mut [u8]) -> Standardized
     ensures { λ t. ⌜ told t (now (out .exit)) ≡ standardOf (now (text .entry)) (now (out .entry)) ⌝ }
 {
     if out.len() < MAX_TEXT {
         return Standardized::Refused(Refusal::Short, 0);
     }
-    let mut atoms = [0i32; ATOM_CELLS * MAX_ATOMS];
-    let mut bonds = [0i32; BOND_CELLS * MAX_BONDS];
-    let mut row = [0u8; MAX_BONDS];
-    let a = reader::read_row(text, &mut atoms, &mut bonds, &mut row);
-    match a {
-        ReadAnswer::Refused(r, p) => refuse(r, p, out),
-        ReadAnswer::Molecule(n, m, overfull) => {
-            kekulize_first(&mut atoms, &mut bonds, n, m, overfull, &row, out)
-        }
+    if SMALL < text.len() {
+        return standardize_long(text, out);
     }
+    let mut atoms = [0i32; ATOM_CELLS * SMALL];
+    let mut bonds = [0i32; BOND_CELLS * SMALL];
+    standardize_in(text, &mut atoms, &mut bonds, out)
 }

@@ -1,7 +1,8 @@
 use mathlib.Core.Path.{refl, sym}
 use lib.Seq.{length-take-le}
 use Rattle.ids.specs.Limits.{maxText}
-use Rattle.standard.proofs.Calls.{writable-facts, numbers-long}
+use Rattle.standard.proofs.Calls.{writable-facts}
+use Rattle.standard.proofs.Kekulized.{numbers-long}
 use Rattle.report_entry.proofs.Calls.{said-as, text-long, blank-written, written-accepted, written-refused, text-within, buffer-fits}
 use borrow.Author.Needs.{needs}
 use Rattle.report_entry.proofs.report_kekulized.Statement.{statement}

@@ -11,7 +11,7 @@ enum-told : tie.Need-enum-told
 enum-told c = search needs
 
 write-kekulized-requires : tie.Need-write-kekulized-requires
-write-kekulized-requires c κs = (c .before .before .before .before .before .before .before .settle-by .ensures .writable (c .before .before .before .enum-told .given .1), c .before .before .before .before .before .before .before .before .before .before .before .before .pre .1 .1)
+write-kekulized-requires c κs = (c .before .before .before .before .before .before .before .settle-by .ensures .still-sound (c .before .before .before .enum-told .given .1), c .before .before .before .before .before .before .before .before .before .before .before .before .pre .1 .1)
 
 enum-known-c : tie.Need-enum-known-c
 enum-known-c c = search needs
@@ -29,7 +29,7 @@ same-length-3 : tie.Need-same-length-3
 same-length-3 c = search needs
 
 returns : tie.Need-returns
-returns c = c .before .before .write-kekulized .ensures ∙ is-settled _ _ _ _ _ _ _ _ _ _ (c .before .before .before .before .before .before .before .before .before .before .settle-by .ensures) (c .before .before .before .before .before .before .enum-told .given .1)
+returns c = c .before .before .write-kekulized .ensures ∙ is-settled _ _ _ _ _ _ _ _ _ _ (c .before .before .before .before .before .before .before .before .before .before .before .before .before .before .before .pre .1 .0) (c .before .before .before .before .before .before .before .before .before .before .settle-by .ensures) (c .before .before .before .before .before .before .enum-told .given .1)
 
 same-length-4 : tie.Need-same-length-4
 same-length-4 c = search needs
@@ -41,7 +41,7 @@ same-length-6 : tie.Need-same-length-6
 same-length-6 c = search needs
 
 returns-2 : tie.Need-returns-2
-returns-2 c = c .before .before .refuse .ensures ∙ not-settled _ _ _ _ _ _ _ _ _ _ (c .before .before .before .before .before .before .before .before .before .settle-by .ensures) (c .before .before .before .before .before .c .given .1)
+returns-2 c = c .before .before .refuse .ensures ∙ not-settled _ _ _ _ _ _ _ _ _ _ (c .before .before .before .before .before .before .before .before .before .before .before .before .before .before .pre .1 .0) (c .before .before .before .before .before .before .before .before .before .settle-by .ensures) (c .before .before .before .before .before .c .given .1)
 
 pub kekulize-first-spec : {M : Type 1} → statement M
 kekulize-first-spec =

@@ -1,5 +1,6 @@
 use denote.Ref.{now}
 use Rattle.standard.proofs.Calls.{standing-valid, blank-fits, first-called}
+use Rattle.standard.proofs.Kekulized.{standing-held, standing-settled}
 use borrow.Author.Needs.{needs}
 use Rattle.standard.proofs.settle.Statement.{statement}
 use Rattle.standard.proofs.settle.Tie as tie
@@ -11,7 +12,7 @@ settle-by-requires : tie.Need-settle-by-requires
 settle-by-requires c κs =
     let s = c .before .before .before .before .before .before .before .before .before .before in
     let k = c .before .before .before .before .before .call-valid in
-    (s .pre .0, first-called _ _ _ _ (s .pre .0) (now (s .args .row)) (k .last .1 .1 .1 .1 .1 .0) (k .result) (s .pre .1) (k .kept .1 .1 .1 .1 .1 .0) (k .ensures))
+    (standing-held _ _ _ _ (s .pre .0), first-called _ _ _ _ (now (s .args .row)) (k .last .1 .1 .1 .1 .1 .0) (k .result) (s .pre .1) (k .kept .1 .1 .1 .1 .1 .0) (k .ensures))
 
 same-length : tie.Need-same-length
 same-length c = search needs
@@ -23,7 +24,11 @@ same-length-3 : tie.Need-same-length-3
 same-length-3 c = search needs
 
 returns : tie.Need-returns
-returns c = search needs
+returns c =
+    let s = c .before .before .before .before .before .before .before .before .before .before .before .before .before in
+    let k = c .before .before .before .before .before .before .before .before .call-valid in
+    let y = c .before .before .settle-by in
+    standing-settled _ _ _ _ (s .pre .0) _ (first-called _ _ _ _ (now (s .args .row)) (k .last .1 .1 .1 .1 .1 .0) (k .result) (s .pre .1) (k .kept .1 .1 .1 .1 .1 .0) (k .ensures)) (y .ensures) (y .kept .0) (y .kept .1 .0)
 
 pub settle-spec : {M : Type 1} → statement M
 settle-spec =
