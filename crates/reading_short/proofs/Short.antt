@@ -12,7 +12,7 @@ use borrow.Author.Tests.{le-leb, leb-true, leb-false}
 use Rattle.loops.specs.Loop.{pick, run}
 use Rattle.ids.specs.Limits.{maxText}
 use Rattle.valence.specs.Valence.{implied, overfull}
-use Rattle.table.specs.Limits.{atomCells, bondCells, ELEMENT, SELECTED, HYDROGENS, SECOND}
+use Rattle.table.specs.Limits.{atomCells, ELEMENT, SELECTED, HYDROGENS, SECOND}
 use Rattle.table.specs.Cells.{number, atomPlace, bondPlace, element, selected}
 use Rattle.table.specs.Valid.{Valid, enough}
 use Rattle.table.specs.Sound.{lateCode}
@@ -21,7 +21,6 @@ use Rattle.table_alike.specs.Alike.{Alike}
 use Rattle.reading_grammar.specs.declared.MachineState.{MachineState}
 use Rattle.reading_grammar.specs.Machine.{accepting}
 use Rattle.reading_grammar.specs.Fold.{Reading, going, halted}
-use Rattle.reading_grammar.proofs.Ends.{never}
 use Rattle.reading.specs.Memory.{Memory}
 use Rattle.reading.specs.Conditions.{bytesRead}
 use Rattle.reading.specs.Read.{ReadResult, zeros, refused, atomsOf, hydrogenate, hydrogenated, overfullAtoms, rankBy, textRank, leftmost, placed, checked, ended, finished, readFrom, readOf}

@@ -1,22 +1,22 @@
 -- Rows that lead nowhere: no row of the other molecule goes with them. Assumes nothing.
-use mathlib.Core.Path.{_≡_, refl, sym, ap, _∙_, subst}
+use mathlib.Core.Path.{_≡_, refl, ap, _∙_, subst}
 use mathlib.Core.Bool.{Bool, true, false, _&&_}
 use mathlib.Core.List.{List, [], _++_}
-use Prim.Native.Nat.{ℕ, _+_, _*_, _<_, _≤_, _/_, _%_}
+use Prim.Native.Nat.{ℕ, _+_, _*_, _<_, _≤_}
 use native.Mathlib.Omega.{arith}
 use lib.IntN.{ℤ}
 use lib.Dec.{eqb}
-use lib.ListN.{length, getD, take, drop, List·getD-append}
+use lib.ListN.{length, getD, take, List·getD-append}
 use Rattle.loops.specs.Loop.{pick, upTo}
 use Rattle.loops.proofs.Loops.{and-left, and-right, length-upTo, upTo-at}
-use Rattle.matching.specs.Enumeration.{Row, isRow, matchings, passing, rows}
+use Rattle.matching.specs.Enumeration.{Row, isRow, rows}
 use Rattle.matching.specs.Model.{some?, headOr}
 use Rattle.matching.proofs.Graph.{never}
 use Rattle.table.specs.Valid.{Valid, enough}
-use Rattle.table.proofs.Valid.{Enough, enough-facts}
+use Rattle.table.proofs.Valid.{enough-facts}
 use Rattle.table_graph.specs.Graph.{matchingOf}
-use Rattle.same_model.specs.Same.{maxSame, Molecule, molecule}
-use Rattle.same_model.proofs.Lists.{All, all-passing, all-head}
+use Rattle.same_model.specs.Same.{maxSame, molecule}
+use Rattle.same_model.proofs.Lists.{all-passing, all-head}
 use Rattle.same_place.specs.Place.{entry, goods}
 use Rattle.same_drawing.specs.Drawing.{cells}
 use Rattle.same_open.specs.Open.{Way, Goes, Allowed}

@@ -1,19 +1,19 @@
 -- Skipping over tables: the graph that was built is the molecule's. Assumes nothing.
-use mathlib.Core.Path.{_≡_, refl, sym, ap, _∙_}
-use mathlib.Core.Bool.{Bool, true, false, _&&_}
+use mathlib.Core.Path.{_≡_}
+use mathlib.Core.Bool.{Bool, true, _&&_}
 use mathlib.Core.List.{List, [], _∷_}
 use Prim.Native.Nat.{ℕ}
 use lib.IntN.{ℤ}
 use lib.ListN.{length, take}
 use Rattle.matching.specs.Enumeration.{Row, isRow, orZeroed}
 use Rattle.matching.specs.Graph.{isMatching}
-use Rattle.matching.specs.Model.{bondsOf, some?}
+use Rattle.matching.specs.Model.{bondsOf}
 use Rattle.matching.specs.declared.MatchingAnswer.the-variants.{Ended}
 use Rattle.matching_skip.specs.Skip.{laterThan, Skipped}
 use Rattle.table_graph.specs.Built.{Built}
 use Rattle.table_graph.specs.Graph.{matchingOf}
 use Rattle.table_graph.proofs.Graph.{built-bonds, length-first}
-use Rattle.same_decide.specs.Decide.{HandsOut, handedOut}
+use Rattle.same_decide.specs.Decide.{HandsOut}
 
 -- what is skipped to is handed out
 handed : (fs : List Row) (len : ℕ) {r : Bool} {row : Row} → Skipped fs len r row → HandsOut (orZeroed len Ended fs) r row

@@ -1,8 +1,8 @@
 -- The rows of an enumeration walked by the two calls: what is left of the list leads to the same. Assumes nothing.
 use mathlib.Core.Path.{_≡_, refl, sym, ap, _∙_}
 use mathlib.Core.Bool.{Bool, true, false, _&&_}
-use mathlib.Core.List.{List, [], _∷_, _++_}
-use Prim.Native.Nat.{ℕ, zero, suc, _+_, _-_, _<_, _≤_}
+use mathlib.Core.List.{List, [], _∷_}
+use Prim.Native.Nat.{ℕ, zero, suc, _-_, _<_, _≤_}
 use native.Mathlib.Omega.{arith}
 use lib.Dec.{eqb, ltb}
 use lib.ListN.{length, take, replicate, length-append, length-replicate}
@@ -11,10 +11,9 @@ use lib.Seq.{take-at, take-take}
 use borrow.Author.Tests.{eq-eqb, ne-eqb, eqb-true, lt-ltb, ltb-true}
 use Rattle.loops.specs.Loop.{pick}
 use Rattle.loops.proofs.Loops.{and-left, and-right}
-use Rattle.matching.specs.Enumeration.{Row, rows, passing, consIf, matchings, fill, Reply, zeroed, given, isRow, before, orZeroed, rowCall}
-use Rattle.matching.specs.Model.{some?, headOr}
+use Rattle.matching.specs.Enumeration.{Row, rows, passing, consIf, matchings, fill, zeroed, given, isRow, before, orZeroed, rowCall}
 use Rattle.matching.specs.declared.MatchingAnswer.{MatchingAnswer}
-use Rattle.matching.specs.declared.MatchingAnswer.the-variants.{Given, Absent, Refused, Ended}
+use Rattle.matching.specs.declared.MatchingAnswer.the-variants.{Absent, Ended}
 use Rattle.matching.specs.declared.Call.the-variants.{First, Next}
 use Rattle.matching.proofs.Enumeration.{after, first-matching, passing-same, row-length}
 use Rattle.matching.proofs.Graph.{and-intro, never}

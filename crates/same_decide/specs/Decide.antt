@@ -7,9 +7,8 @@ use lib.ListN.{length, getD, take}
 use lib.IntN.{ℤ}
 use lib.Dec.{eqb}
 use Rattle.loops.specs.Loop.{pick, run}
-use Rattle.matching.specs.Enumeration.{Row, passing, matchings, fill, Reply, rowCall, isRow}
+use Rattle.matching.specs.Enumeration.{Row, passing, matchings, fill, Reply, isRow}
 use Rattle.matching.specs.Model.{some?, headOr}
-use Rattle.matching.specs.declared.Call.{Call}
 use Rattle.matching.specs.declared.MatchingAnswer.{MatchingAnswer}
 use Rattle.matching.specs.declared.MatchingAnswer.the-variants.{Given, Absent, Refused, Ended}
 use Rattle.table_graph.specs.Graph.{matchingOf}

@@ -1,8 +1,8 @@
 // The rows of two molecules walked in their order, until two settle to the same. Every function here is internal.
 ghost use mathlib.Core.Path.{_≡_};
 ghost use mathlib.Core.Bool.{true, false, _&&_};
-ghost use mathlib.Core.List.{List, _++_};
-ghost use Prim.Native.Nat.{ℕ, _+_, _<_, _≤_};
+ghost use mathlib.Core.List.{_++_};
+ghost use Prim.Native.Nat.{_+_, _<_, _≤_};
 ghost use lib.ListN.{length, take, drop};
 ghost use Rattle.loops.specs.Loop.{upTo};
 ghost use Rattle.table.specs.Limits.{maxBonds};
@@ -11,13 +11,12 @@ ghost use Rattle.matching.specs.Enumeration.{isRow, orZeroed, rowCall};
 ghost use Rattle.matching.specs.declared.MatchingAnswer.the-variants.{Ended};
 ghost use Rattle.matching_skip.specs.Skip.{laterThan};
 ghost use Rattle.table_graph.specs.Graph.{matchingOf};
-ghost use Rattle.same_model.specs.Same.{maxSame, image};
+ghost use Rattle.same_model.specs.Same.{maxSame};
 ghost use Rattle.same_place.specs.Place.{entry, Solved};
 ghost use Rattle.same_keys.specs.Keys.{Low, highest};
 ghost use Rattle.same_drawing.specs.Drawing.{cells, Drawable};
-ghost use Rattle.same_open.specs.Open.{Goes, Allowed, Faces};
 ghost use Rattle.same_part.specs.Part.{partMatrix};
-ghost use Rattle.same_decide.specs.Decide.{sketch, drawnMatrix, sumOf, ways, HandsOut, Based, Bounded, Fewer, SecondFound, FirstFound, turnedCell, Nowhere, Apart};
+ghost use Rattle.same_decide.specs.Decide.{sketch, drawnMatrix, sumOf, ways, HandsOut, Bounded, Fewer, SecondFound, FirstFound, turnedCell, Nowhere, Apart};
 use ids::BondId;
 use kekule_answers::found_code;
 use matching::Call;
@@ -29,11 +28,20 @@ use table::MAX_BONDS;
 use table::cell;
 use table::row;
 
+// A `pace` has how many searches were made, up to the number that matters, and how many steps are left for questions.
+
 // How many searches are made before it is asked which rows lead nowhere.
 const PATIENCE: u32 = 4;
 
-// How many steps may be made for all questions.
+// How many steps may be made for all questions, and for those that are asked before any search.
 const STEPS: u32 = 2000000;
+
+const EARLY: u32 = 50000;
+
+// How many places of the first four rows show that atoms have many candidates, and how many of them hold 1 then.
+const SHOWN: usize = 256;
+
+const CROWDED: u32 = 24;
 
 // One of the two calls for a matching: whether it hands one out, into the row.
 fn ask(c: Call, atoms: &[i32], bonds: &[i32], n: usize, m: usize, row: &mut [u8]) -> bool
@@ -44,11 +52,6 @@ fn ask(c: Call, atoms: &[i32], bonds: &[i32], n: usize, m: usize, row: &mut [u8]
     found_code(kekule::call_valid(c, atoms, bonds, n, m, row)) == 0
 }
 
-// How many places of the first four rows show that atoms have many candidates, and how many of them hold 1 then.
-const SHOWN: usize = 256;
-
-const CROWDED: u32 = 24;
-
 // 1 for a 1.
 fn one_if(x: u8) -> u32
     ensures { λ r. ⌜ r ≤ 1 ⌝ }
@@ -56,7 +59,7 @@ fn one_if(x: u8) -> u32
     if x == 1 { 1 } else { 0 }
 }
 
-// Where atoms have many candidates, the first search counts as many.
+// Where atoms have many candidates, it is asked before any search which rows lead nowhere, in few steps.
 fn hurry(ok: &[u8; CELLS], pace: &mut [u32; 2]) {
     let mut count = 0u32;
     let mut i = 0;
@@ -65,7 +68,16 @@ fn hurry(ok: &[u8; CELLS], pace: &mut [u32; 2]) {
         i += 1;
     }
     if CROWDED < count {
+        pace[0] = PATIENCE + 1;
+        pace[1] = EARLY;
+    }
+}
+
+// After that, the first search counts as many.
+fn relax(pace: &mut [u32; 2]) {
+    if PATIENCE < pace[0] {
         pace[0] = PATIENCE - 1;
+        pace[1] = STEPS;
     }
 }
 
@@ -88,6 +100,7 @@ fn note_row(
     requires { ⌜ Drawable (now bonds2) m2 (now row2) ⌝ }
     requires { ⌜ Low (now keys2) (highest 33) ⌝ }
 {
+    relax(pace);
     if same_drawing::row_sum(bonds2, m2, keys2, row2) == z1 {
         note_search(pace);
     }
@@ -229,6 +242,70 @@ fn guess_row(
     }
 }
 
+// The mark of an atom none of whose bonds is decided, and the lowest one.
+const LATE: u8 = 200;
+
+const SOON: u8 = 2;
+
+// How many bonds ago a bond was decided, counted from 1; 0 where it is not.
+fn age(k: usize, to: usize) -> usize {
+    if k < to {
+        return to - k;
+    }
+    0
+}
+
+// What a decided bond takes from the marks of its ends.
+fn weight(digit: u8) -> u8 {
+    if digit == 1 {
+        return 11;
+    }
+    1
+}
+
+// A mark made lower.
+fn lower(mark: u8, by: u8) -> u8 {
+    if mark < 100 {
+        return mark;
+    }
+    if 98 < by {
+        return mark;
+    }
+    mark - by
+}
+
+// The mark of an end of a bond, with its mark before.
+fn next_mark(mark: u8, ago: usize, digit: u8) -> u8 {
+    if ago == 0 {
+        return mark;
+    }
+    if ago == 1 {
+        return SOON;
+    }
+    lower(mark, weight(digit))
+}
+
+// Marks an end of a bond.
+fn put_mark(marks: &mut [u8; SIDE], a: usize, ago: usize, digit: u8) {
+    marks[a % SIDE] = next_mark(marks[a % SIDE], ago, digit);
+}
+
+// The atoms that a question places first where others have as few candidates: the ends of the bond that was decided last, then those of double bonds and of many decided bonds. No claim rests on it.
+fn fill_marks(bonds: &[i32], m: usize, row: &[u8], to: usize, marks: &mut [u8; SIDE])
+    requires { ⌜ Drawable (now bonds) m (now row) ⌝ }
+{
+    let mut k = 0;
+    while k < m {
+        let bond = row::get_bond(bonds, BondId(k));
+        let first = cell::number(bond.first);
+        let second = cell::number(bond.second);
+        let ago = age(k, to);
+        put_mark(marks, first, ago, row[k]);
+        put_mark(marks, second, ago, row[k]);
+        k += 1;
+    }
+}
+
 // Whether a row that is decided before `to` leads anywhere.
 fn ask_part(
     q: &[u16; CELLS],
@@ -249,7 +326,9 @@ fn ask_part(
 {
     let mut p = [0u16; CELLS];
     same_part::fill_part(bonds, m, opened, row, to, &mut p);
-    same_mirror::seek(&p, q, allowed, ok, n, ren, budget)
+    let mut marks = [LATE; SIDE];
+    fill_marks(bonds, m, row, to, &mut marks);
+    same_mirror::seek(&p, q, allowed, ok, n, &marks, ren, budget)
 }
 
 // How many bonds of the row lead nowhere, whatever follows; more than there are where that is not seen. The guess is a row that led somewhere.

@@ -14,7 +14,7 @@ use same_place::SIDE;
 // How long a guess may take, and how much a candidate must have cost for it to be worth one, in steps.
 const GUESS: u32 = 300;
 
-const WORTH: u32 = 500;
+const WORTH: u32 = 300;
 
 // What a guess costs, in steps.
 const COST: u32 = 100;
@@ -256,7 +256,7 @@ fn pay(left: u32, cost: u32) -> u32
     0
 }
 
-// Marks the candidates of v behind d that are like d; what is left of a budget then.
+// Marks the candidates of v from d on that are like d; what is left of a budget then.
 fn mark(
     q: &[u16; CELLS],
     allowed: &[u64; ALLOWED],
@@ -290,6 +290,7 @@ fn mark(
 // Tries the candidates of one atom after the other, but those like one that led nowhere at some cost.
 fn search(
     p: &[u16; CELLS],
+    near: &[u8; CELLS],
     q: &[u16; CELLS],
     allowed: &[u64; ALLOWED],
     cand: &[u64; SIDE],
@@ -324,9 +325,9 @@ fn search(
         if ((cand[v] >> d) % 2 == 1) & (dead[d] != 1) {
             left -= 1;
             let mut next = [0u64; SIDE];
-            if same_open::narrow(p, allowed, cand, n, v, d, &mut next) {
+            if same_support::narrow_near(p, near, allowed, cand, n, v, d, placed, &mut next) {
                 ren[v] = d as u8;
-                let tried = search(p, q, allowed, &next, n, rest - 1, placed, ren, left);
+                let tried = search(p, near, q, allowed, &next, n, rest - 1, placed, ren, left);
                 if tried.found {
                     return tried;
                 }
@@ -346,13 +347,14 @@ fn search(
     }
 }
 
-// internal: whether a renumbering leads from a matrix p to another, q, of which it is known what it allows.
+// internal: whether a renumbering leads from a matrix p to another, q, of which it is known what it allows. Among atoms with equally many candidates those with a low mark come first; no mark is 1.
 pub fn seek(
     p: &[u16; CELLS],
     q: &[u16; CELLS],
     allowed: &[u64; ALLOWED],
     ok: &[u8; CELLS],
     n: usize,
+    marks: &[u8; SIDE],
     ren: &mut [u8; SIDE],
     budget: u32,
 ) -> Tried
@@ -361,6 +363,8 @@ pub fn seek(
 {
     let mut cand = [0u64; SIDE];
     same_open::fill_candidates(ok, n, &mut cand);
-    let mut placed = [0u8; SIDE];
-    search(p, q, allowed, &cand, n, n, &mut placed, ren, budget)
+    let mut placed = *marks;
+    let mut near = [0u8; CELLS];
+    same_support::fill_near(p, n, &mut near);
+    search(p, &near, q, allowed, &cand, n, n, &mut placed, ren, budget)
 }

@@ -6,7 +6,7 @@ ghost use Prim.Native.Nat.{ℕ, _<_, _≤_};
 ghost use lib.ListN.{getD, length, set};
 ghost use Rattle.same_model.specs.Same.{maxSame, image};
 ghost use Rattle.same_place.specs.Place.{entry};
-ghost use Rattle.same_open.specs.Open.{agree, classes, classOf, mayFace, bit, Goes, Allowed, Faces, Among};
+ghost use Rattle.same_open.specs.Open.{agree, classes, classOf, mayFace, bit, Allowed, Among};
 use same_place::CELLS;
 use same_place::SIDE;
 
@@ -33,8 +33,8 @@ fn agree(u: u16, w: u16) -> bool
     (u != 0) & (w != 0)
 }
 
-// The class of a cell.
-fn class(u: u16) -> usize
+// internal: the class of a cell.
+pub fn class(u: u16) -> usize
     ensures { λ r. ⌜ r ≡ classOf u ⌝ }
 {
     if u < 4 {
@@ -77,8 +77,8 @@ fn facing(p: &[u16; CELLS], n: usize, c: usize, d: usize) -> u64
     mask
 }
 
-// Puts a set at a place of a list.
-fn put(list: &mut [u64], i: usize, mask: u64)
+// internal: puts a set at a place of a list.
+pub fn put(list: &mut [u64], i: usize, mask: u64)
     requires { ⌜ i < length (now list) ⌝ }
     ensures { λ _. ⌜ now (list .exit) ≡ set (now (list .entry)) i mask ⌝ }
 {
@@ -128,19 +128,22 @@ pub fn narrow(
     live
 }
 
-// internal: the atom with the fewest candidates of those that are not placed.
+// internal: the atom with the fewest candidates of those that are not placed; among equals the one with the lowest mark. 1 marks a placed atom.
 pub fn choose(cand: &[u64; SIDE], n: usize, placed: &[u8; SIDE]) -> usize
     requires { ⌜ (0 < n) × (n ≤ maxSame) ⌝ }
     ensures { λ r. ⌜ r < n ⌝ }
 {
     let mut v = 0;
     let mut fewest = 100;
+    let mut lowest = 0u8;
     let mut b = 0;
     while b < n {
-        if placed[b] == 0 {
+        let mark = placed[b];
+        if mark != 1 {
             let count = u64::count_ones(cand[b]);
-            if count < fewest {
+            if (count < fewest) | ((count == fewest) & (mark < lowest)) {
                 fewest = count;
+                lowest = mark;
                 v = b;
             }
         }
@@ -229,22 +232,4 @@ pub fn fill_candidates(ok: &[u8; CELLS], n: usize, cand: &mut [u64; SIDE])
         put(cand, a, mask);
         a += 1;
     }
-}
-
-// internal: whether a renumbering leads from a matrix to another, given by what it allows.
-pub fn seek(
-    p: &[u16; CELLS],
-    allowed: &[u64; ALLOWED],
-    ok: &[u8; CELLS],
-    n: usize,
-    ren: &mut [u8; SIDE],
-    budget: u32,
-) -> Tried
-    requires { ⌜ n ≤ maxSame ⌝ }
-    ensures { λ r. ⌜ (r .found ≡ false → 0 < r .left → (t : List ℕ) → ((a : ℕ) → a < n → image t a < n) → Goes (now (ok .entry)) n t → Faces (now (p .entry)) (now (allowed .entry)) n t → ⊥) ⌝ }
-{
-    let mut cand = [0u64; SIDE];
-    fill_candidates(ok, n, &mut cand);
-    let mut placed = [0u8; SIDE];
-    search(p, allowed, &cand, n, n, &mut placed, ren, budget)
 }

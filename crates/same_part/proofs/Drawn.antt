@@ -1,12 +1,12 @@
 -- Cells drawn with fewer open bonds. Assumes nothing.
-use mathlib.Core.Path.{_≡_, refl, sym, ap, _∙_}
-use mathlib.Core.Bool.{Bool, true, false, _&&_, not}
+use mathlib.Core.Path.{_≡_, refl, sym}
+use mathlib.Core.Bool.{Bool, true, false}
 use Prim.Native.Nat.{ℕ, _+_, _<_, _≤_}
 use native.Mathlib.Omega.{arith}
-use lib.Dec.{eqb, ltb}
-use borrow.Author.Tests.{ltb-true, ltb-false, eqb-true, eqb-false, not-true, lt-ltb, le-ltb, eq-eqb, ne-eqb}
+use lib.Dec.{ltb}
+use borrow.Author.Tests.{ltb-true, ltb-false}
 use Rattle.loops.specs.Loop.{pick}
-use Rattle.same_open.specs.Open.{openFrom, openBond, agree, Draws}
+use Rattle.same_open.specs.Open.{openFrom, openBond, Draws}
 
 -- a cell is closed or open
 by-cell : {A : Type 0} (u : ℕ) → (u < openFrom → A) → (openFrom ≤ u → A) → A

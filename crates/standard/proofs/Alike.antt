@@ -1,7 +1,7 @@
 -- A molecule in alike tables is kekulized and written the same, and tables of any length can be made longer. Assumes nothing.
 use Prim.Native.Nat.{ℕ, zero, suc, _+_, _*_, _≤_}
 use native.Mathlib.Omega.{arith}
-use mathlib.Core.Path.{_≡_, refl, sym, ap, subst, _∙_}
+use mathlib.Core.Path.{_≡_, refl, ap, _∙_}
 use mathlib.Core.Bool.{Bool, true, false}
 use mathlib.Core.List.{List, [], _∷_, _++_}
 use lib.ListN.{length, getD, set, replicate, length-replicate, length-set, length-append}
@@ -18,9 +18,8 @@ use Rattle.table_alike.proofs.Readings.{same-crowded, same-matching}
 use Rattle.table_alike.proofs.Edits.{alike-unselected, alike-doubled}
 use Rattle.matching.specs.Enumeration.{rowCall}
 use Rattle.matching.specs.declared.Call.the-variants.{First}
-use Rattle.kekule.specs.Kekule.{KekulizeReply, kekulizeReply, kekulized}
-use Rattle.writing.specs.Write.{writeValid}
-use Rattle.standard.specs.Standard.{StandardOut, zeroed, ofWritten}
+use Rattle.kekule.specs.Kekule.{kekulizeReply, kekulized}
+use Rattle.standard.specs.Standard.{ofWritten}
 use Rattle.standard.specs.Standing.{firstOf, kekuleBy, byTables, moleculeOf}
 use Rattle.standard.proofs.Writes.{same-written}
 

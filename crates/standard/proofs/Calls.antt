@@ -7,7 +7,7 @@ use mathlib.Core.List.{List, _++_}
 use mathlib.Core.Bool.{Bool, true, false, _&&_}
 use lib.ListN.{length, take, replicate, length-replicate}
 use lib.IntN.{ℤ, pos}
-use lib.Dec.{eqb, leb}
+use lib.Dec.{eqb}
 use borrow.Author.Tests.{ne-eqb, lt-leb, le-leb}
 use Rattle.loops.specs.Loop.{pick}
 use Rattle.refusal.specs.Code.{codeOf}
@@ -22,7 +22,7 @@ use Rattle.table.specs.declared.Check.{Check}
 use Rattle.table.specs.declared.Check.the-variants as check
 use Rattle.table.proofs.Valid.{enough-facts}
 use Rattle.table.proofs.Sound.{sound-valid, sound-late, late-none}
-use Rattle.table_graph.specs.Graph.{matchingOf, matchable}
+use Rattle.table_graph.specs.Graph.{matchingOf}
 use Rattle.table_alike.proofs.Readings.{same-sound, same-matchable}
 use Rattle.table_alike.proofs.Edits.{alike-itself}
 use Rattle.matching.specs.Enumeration.{rowCall}
@@ -37,7 +37,7 @@ use Rattle.reader.specs.Chosen.{ChosenBy, Chosen}
 use Rattle.reader.specs.declared.ending.ReadAnswer as reply
 use Rattle.reader.proofs.Ends.{cleared-blank, blank-ready, into-of}
 use Rattle.kekule.specs.First.{firstIn}
-use Rattle.kekule.specs.Kekule.{CallReply, KekulizeReply, callReplyOf, out, tables}
+use Rattle.kekule.specs.Kekule.{CallReply, callReplyOf, out, tables}
 use Rattle.kekule.proofs.Kekule.{cleared}
 use Rattle.kekule_answers.specs.declared.Found.{Found}
 use Rattle.writing.specs.Write as write

@@ -4,10 +4,9 @@ use native.Mathlib.Omega.{arith}
 use mathlib.Core.Path.{_≡_, refl, sym, ap, subst, _∙_}
 use mathlib.Core.Bool.{Bool, true, false, _&&_}
 use mathlib.Core.List.{List}
-use lib.ListN.{length, take, replicate, length-replicate}
+use lib.ListN.{length, replicate, length-replicate}
 use lib.IntN.{ℤ}
 use lib.Dec.{eqb, leb}
-use borrow.Author.Tests.{le-leb}
 use Rattle.loops.specs.Loop.{pick}
 use Rattle.refusal.specs.declared.Refusal.{Refusal}
 use Rattle.refusal.specs.declared.Refusal.the-variants.{CrowdedEnd}
@@ -16,7 +15,7 @@ use Rattle.refusal.proofs.Codes.{code-range}
 use Rattle.ids.specs.Limits.{maxText}
 use Rattle.table.specs.Limits.{maxAtoms, maxBonds, atomCells, bondCells}
 use Rattle.table.specs.Valid.{Valid, enough, checkCode}
-use Rattle.table.specs.Sound.{lateCode, sound}
+use Rattle.table.specs.Sound.{sound}
 use Rattle.table.specs.Marks.{noneCrowded}
 use Rattle.table.specs.Edits.{unselectedAtoms, doubledBonds}
 use Rattle.table.specs.declared.Check.{Check}
@@ -32,10 +31,10 @@ use Rattle.kekule.specs.Kekule.{KekulizeReply, CallReply, kekulizeReply, tables
 use Rattle.kekule.proofs.Kekule.{call-done}
 use Rattle.kekule.proofs.Crowding.{crowded-by, elides}
 use Rattle.kekule.proofs.Kekulized.{kekulized-sound}
-use Rattle.writing.specs.Write.{writeValid, writeOf}
+use Rattle.writing.specs.Write.{writeOf}
 use Rattle.writer.proofs.Answer.{told-valid}
 use Rattle.standard.specs.Standard.{StandardOut, firstRow, kekuleOf, writtenOf, ofWritten, zeroed, ofMolecule}
-use Rattle.standard.specs.Standing.{Writable, Standing, Settled, Held, firstOf, HasFirst, kekuleBy, KekulizedBy, byTables, moleculeOf}
+use Rattle.standard.specs.Standing.{Standing, Settled, Held, firstOf, HasFirst, kekuleBy, KekulizedBy, byTables, moleculeOf}
 use Rattle.standard.proofs.First.{first-is}
 use Rattle.standard.proofs.Alike.{padded, padded-length, padded-alike, unselected-length, doubled-length, same-crowding}
 

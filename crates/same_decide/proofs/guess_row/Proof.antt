@@ -1,5 +1,4 @@
 -- `same_decide::guess_row` keeps to its arrays. Assumes nothing.
-use mathlib.Core.Path.{refl}
 use Prim.Native.Nat.{_-_, _≤_}
 use native.Mathlib.Omega.{arith}
 use borrow.Author.Needs.{needs}

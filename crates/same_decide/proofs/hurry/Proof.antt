@@ -32,11 +32,14 @@ loop-less c = omega arith
 loop-again : tie.Need-loop-again Inv-loop μ-loop
 loop-again c = (omega (arith, c .one-if .ensures, c .before .before .before .loop .inv .0), omega arith)
 
-sub-pace : tie.Need-sub-pace Inv-loop μ-loop
-sub-pace c = search needs
+add-pace : tie.Need-add-pace Inv-loop μ-loop
+add-pace c = omega arith
 
 element-write-pace : tie.Need-element-write-pace Inv-loop μ-loop
 element-write-pace c = search needs
+
+element-write-pace-2 : tie.Need-element-write-pace-2 Inv-loop μ-loop
+element-write-pace-2 c = omega arith
 
 returns : tie.Need-returns Inv-loop μ-loop
 returns c = search needs
@@ -57,7 +60,8 @@ hurry-spec =
     add-i
     loop-less
     loop-again
-    sub-pace
+    add-pace
     element-write-pace
+    element-write-pace-2
     returns
     returns-2)

@@ -1,5 +1,4 @@
 -- `same_decide::place` meets its contract. Assumes nothing.
-use denote.Ref.{now}
 use Rattle.same_decide.specs.Decide.{sketch}
 use Rattle.same_decide.proofs.Rows.{as-ways, no-ways}
 use borrow.Author.Needs.{needs}

@@ -1,6 +1,6 @@
 -- `same_decide::turn_over` meets its contract. Assumes nothing.
 use mathlib.Core.Path.{refl}
-use Prim.Native.Nat.{_-_, _≤_}
+use Prim.Native.Nat.{_-_}
 use native.Mathlib.Omega.{arith}
 use Rattle.loops.proofs.Loops.{Edited, fills, edited-start, filled-step, filled-end}
 use Rattle.same_decide.specs.Decide.{turnedCell}

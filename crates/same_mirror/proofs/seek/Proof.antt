@@ -7,13 +7,16 @@ use Rattle.same_mirror.proofs.seek.Tie as tie
 fill-candidates-requires : tie.Need-fill-candidates-requires
 fill-candidates-requires c κs = search needs
 
+fill-near-requires : tie.Need-fill-near-requires
+fill-near-requires c κs = search needs
+
 search-requires : tie.Need-search-requires
 search-requires c κs = search needs
 
 returns : tie.Need-returns
 returns c =
-    let k = c .before .before .before .before in
+    let k = c .before .before .before .before .before .before .before .before in
     λ h l t b o f. c .search .ensures .0 h l t (among-start _ _ (k .before .before .args .ok .now) _ _ _ (k .fill-candidates .ensures) b o f)
 
 pub seek-spec : {M : Type 1} → statement M
-seek-spec = tie.close (tie.spec fill-candidates-requires search-requires returns)
+seek-spec = tie.close (tie.spec fill-candidates-requires fill-near-requires search-requires returns)

@@ -6,16 +6,16 @@ use Rattle.same_open.proofs.choose.Statement.{statement}
 use Rattle.same_open.proofs.choose.Tie as tie
 
 abbrev Inv-loop : tie.InvT-loop
-Inv-loop cand n placed v₀ fewest₀ b₀ v fewest b = (v < n) × (b ≤ n)
+Inv-loop cand n placed v₀ fewest₀ lowest₀ b₀ v fewest lowest b = (v < n) × (b ≤ n)
 
 abbrev μ-loop : tie.MeasureT-loop
-μ-loop cand n placed v₀ fewest₀ b₀ v fewest b = n - b
+μ-loop cand n placed v₀ fewest₀ lowest₀ b₀ v fewest lowest b = n - b
 
 loop-holds : tie.Need-loop-holds Inv-loop μ-loop
 loop-holds c = omega arith
 
-element-copy-out-if1 : tie.Need-element-copy-out-if1 Inv-loop μ-loop
-element-copy-out-if1 c = omega arith
+element-copy-out-mark : tie.Need-element-copy-out-mark Inv-loop μ-loop
+element-copy-out-mark c = omega arith
 
 mul-count : tie.Need-mul-count Inv-loop μ-loop
 mul-count c = omega arith
@@ -42,7 +42,7 @@ choose-spec =
     Inv-loop
     μ-loop
     loop-holds
-    element-copy-out-if1
+    element-copy-out-mark
     mul-count
     element-copy-out-count
     add-b
