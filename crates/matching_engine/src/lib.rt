@@ -189,6 +189,23 @@ fn seek_any(
     }
 }
 
+// internal: the same, with no numbers known.
+pub fn seek_from(
+    ea: &[u16],
+    eb: &[u16],
+    el: &[u8],
+    need: &mut [u8],
+    row: &mut [u8],
+    k: BondId,
+) -> bool
+    requires { ⌜ Shape (now ea) (now eb) (now el) (now need) (now row) (k .0) ⌝ }
+    ensures { λ r. ⌜ Searched (now (need .entry)) (now (row .entry)) (k .0) (length (now (ea .entry))) (allFrom (now (ea .entry)) (now (eb .entry)) (now (el .entry)) (now (need .entry)) (k .0)) r (now (need .exit)) (now (row .exit)) ⌝ }
+{
+    let mut last = [0usize; MAX_ATOMS];
+    fill_lasts(ea, eb, el, need, &mut last);
+    seek_any(ea, eb, el, need, row, &last, k)
+}
+
 // The first matching of the bonds from k on that comes after the row, written over it; zeros where there is none.
 fn later(
     ea: &[u16],

@@ -37,7 +37,7 @@ fn later(
             return true;
         }
         row[at] = 0;
-        return matching_certified::seek(ea, eb, el, need, row, BondId(next));
+        return matching_engine::seek_from(ea, eb, el, need, row, BondId(next));
     }
     later(ea, eb, el, need, row, BondId(next), to)
 }

@@ -13,7 +13,7 @@ use borrow.Fn.PlainCycle.{Measures, is, falls, and}
 use Rattle.matching_skip.proofs.later.Reads as later
 use Rattle.matching_skip.proofs.later.Kinds as later-kinds
 use Rattle.matching_skip.proofs.+later.Lts-later as later-lts
-use Rattle.matching_certified.proofs.seek.Reads as seek-reads
+use Rattle.matching_engine.proofs.seek_from.Reads as seek-from-reads
 use Rattle.matching_search.proofs.blank.Reads as blank-reads
 use Rattle.matching_search.proofs.mark.Reads as mark-reads
 use Rattle.matching_skip.proofs.+later.{statement}
@@ -30,7 +30,7 @@ later-below t = and 5 later-kinds.ps (falls 5 later-kinds.ps _<_ μ-later t) lat
 
 -- what the calls of later ask and give, below t
 abbrev later-claims : ℕ → later-lts.Claims
-later-claims t = (blank-reads.Asked, blank-reads.Learnt, mark-reads.Asked, mark-reads.Learnt, later-below t, later.Post, seek-reads.Asked, seek-reads.Learnt)
+later-claims t = (blank-reads.Asked, blank-reads.Learnt, mark-reads.Asked, mark-reads.Learnt, later-below t, later.Post, seek-from-reads.Asked, seek-from-reads.Learnt)
 
 later-blank-requires : (t : ℕ) → later-lts.Need-blank-requires (later-claims t) (later-at t) later.Post
 later-blank-requires t c κs = (c .before .before .before .before .before .before .before .before .pre .1 .0 .upto, c .before .before .before .before .before .before .before .before .pre .1 .0 .room)
@@ -74,17 +74,17 @@ later-returns-2 t c = later-found (c .before .before .before .before .before .be
 later-slice-write-row : (t : ℕ) → later-lts.Need-slice-write-row (later-claims t) (later-at t) later.Post
 later-slice-write-row t c = search needs
 
-later-seek-requires : (t : ℕ) → later-lts.Need-seek-requires (later-claims t) (later-at t) later.Post
-later-seek-requires t c κs = shape-next (c .before .before .before .before .before .before .before .before .before .before .before .before .before .before .before .before .before .before .before .before .before .before .before .before .before .before .before .pre .1 .0) (in-front (c .before .before .before .before .before .before .before .before .before .before .before .before .before .before .before .before .before .before .before .before .before .before .before .before .before .before .before .pre .1 .1 .1) (c .before .before .before .before .before .before .before .before .before .before .before .before .before .before .before .before .before .before .before .before .before .before .before .before .before .before .before .pre .1 .1 .2) (c .before .before .before .before .before .before .before .before .before .before .before .before .before .before .before .before .before .before .before .before .if1 .left)) (c .before .before .before .before .before .mark2 .kept .1 .1 .0 ∙ c .before .before .before .before .before .before .before .before .before .before .before .later .kept .1 .1 .1 .0 ∙ c .before .before .before .before .before .before .before .before .before .before .before .before .before .before .before .before .mark .kept .1 .1 .0) (simp length-set (c .before .before .before .before .before .before .before .before .before .before .before .later .kept .1 .1 .1 .1 .0))
+later-seek-from-requires : (t : ℕ) → later-lts.Need-seek-from-requires (later-claims t) (later-at t) later.Post
+later-seek-from-requires t c κs = shape-next (c .before .before .before .before .before .before .before .before .before .before .before .before .before .before .before .before .before .before .before .before .before .before .before .before .before .before .before .pre .1 .0) (in-front (c .before .before .before .before .before .before .before .before .before .before .before .before .before .before .before .before .before .before .before .before .before .before .before .before .before .before .before .pre .1 .1 .1) (c .before .before .before .before .before .before .before .before .before .before .before .before .before .before .before .before .before .before .before .before .before .before .before .before .before .before .before .pre .1 .1 .2) (c .before .before .before .before .before .before .before .before .before .before .before .before .before .before .before .before .before .before .before .before .if1 .left)) (c .before .before .before .before .before .mark2 .kept .1 .1 .0 ∙ c .before .before .before .before .before .before .before .before .before .before .before .later .kept .1 .1 .1 .0 ∙ c .before .before .before .before .before .before .before .before .before .before .before .before .before .before .before .before .mark .kept .1 .1 .0) (simp length-set (c .before .before .before .before .before .before .before .before .before .before .before .later .kept .1 .1 .1 .1 .0))
 
 later-same-length-4 : (t : ℕ) → later-lts.Need-same-length-4 (later-claims t) (later-at t) later.Post
 later-same-length-4 t c = search needs
 
 later-same-length-5 : (t : ℕ) → later-lts.Need-same-length-5 (later-claims t) (later-at t) later.Post
-later-same-length-5 t c = c .before .before .before .before .seek .kept .1 .1 .1 .1 .0 ∙ simp length-set (c .before .before .before .before .before .before .before .before .before .before .before .before .before .before .before .before .later .kept .1 .1 .1 .1 .0)
+later-same-length-5 t c = c .before .before .before .before .seek-from .kept .1 .1 .1 .1 .0 ∙ simp length-set (c .before .before .before .before .before .before .before .before .before .before .before .before .before .before .before .before .later .kept .1 .1 .1 .1 .0)
 
 later-returns-3 : (t : ℕ) → later-lts.Need-returns-3 (later-claims t) (later-at t) later.Post
-later-returns-3 t c = later-then (c .before .before .before .before .before .before .before .before .before .before .before .before .before .before .before .before .before .before .before .before .before .before .before .before .before .before .before .before .before .before .before .before .pre .1 .0) (c .before .before .before .before .before .before .before .before .before .before .before .before .before .before .before .before .before .before .before .before .before .before .before .before .before .before .before .before .before .before .before .before .pre .1 .1 .1) (c .before .before .before .before .before .before .before .before .before .before .before .before .before .before .before .before .before .before .before .before .before .before .before .before .before .before .before .before .before .before .before .before .pre .1 .1 .2) (c .before .before .before .before .before .before .before .before .before .before .before .before .before .before .before .before .before .before .before .before .before .before .before .before .before .if1 .left) (c .before .before .before .before .before .before .before .before .before .before .before .before .before .before .before .before .before .before .before .before .before .before .before .if2 .taken) (c .before .before .before .before .before .before .before .before .before .before .before .before .before .before .before .before .before .before .before .before .before .before .before .before .before .before .before .before .before .before .before .before .pre .1 .1 .0) (c .before .before .before .before .before .before .before .before .before .before .before .before .before .before .before .before .before .before .before .before .before .mark .ensures) (c .before .before .before .before .before .before .before .before .before .before .before .before .before .before .before .before .later .ensures) (c .before .before .before .before .before .before .before .before .before .before .mark2 .ensures) (c .before .before .before .before .before .before .before .if3 .left) (c .before .before .before .before .before .before .before .before .before .before .before .before .before .before .before .before .later .kept .1 .1 .1 .1 .0) (c .before .before .before .before .seek .ensures)
+later-returns-3 t c = later-then (c .before .before .before .before .before .before .before .before .before .before .before .before .before .before .before .before .before .before .before .before .before .before .before .before .before .before .before .before .before .before .before .before .pre .1 .0) (c .before .before .before .before .before .before .before .before .before .before .before .before .before .before .before .before .before .before .before .before .before .before .before .before .before .before .before .before .before .before .before .before .pre .1 .1 .1) (c .before .before .before .before .before .before .before .before .before .before .before .before .before .before .before .before .before .before .before .before .before .before .before .before .before .before .before .before .before .before .before .before .pre .1 .1 .2) (c .before .before .before .before .before .before .before .before .before .before .before .before .before .before .before .before .before .before .before .before .before .before .before .before .before .if1 .left) (c .before .before .before .before .before .before .before .before .before .before .before .before .before .before .before .before .before .before .before .before .before .before .before .if2 .taken) (c .before .before .before .before .before .before .before .before .before .before .before .before .before .before .before .before .before .before .before .before .before .before .before .before .before .before .before .before .before .before .before .before .pre .1 .1 .0) (c .before .before .before .before .before .before .before .before .before .before .before .before .before .before .before .before .before .before .before .before .before .mark .ensures) (c .before .before .before .before .before .before .before .before .before .before .before .before .before .before .before .before .later .ensures) (c .before .before .before .before .before .before .before .before .before .before .mark2 .ensures) (c .before .before .before .before .before .before .before .if3 .left) (c .before .before .before .before .before .before .before .before .before .before .before .before .before .before .before .before .later .kept .1 .1 .1 .1 .0) (c .before .before .before .before .seek-from .ensures)
 
 later-later-requires-2 : (t : ℕ) → later-lts.Need-later-requires-2 (later-claims t) (later-at t) later.Post
 later-later-requires-2 t c κs = (
@@ -120,7 +120,7 @@ pub +later-spec : {M : Type 1} → statement M
     (later-same-length-3 t)
     (later-returns-2 t)
     (later-slice-write-row t)
-    (later-seek-requires t)
+    (later-seek-from-requires t)
     (later-same-length-4 t)
     (later-same-length-5 t)
     (later-returns-3 t)
