@@ -22,7 +22,7 @@ pub record Marked (allowed cand : List ℕ) (n v d : ℕ) (dead₀ : List ℕ) (
   pub marked : (p : List ℕ) → Gone p allowed cand n v d → AllGone p allowed cand n v dead₀ → AllGone p allowed cand n v dead
 
 module _ {allowed cand : List ℕ} {n v d : ℕ} {dead₀ : List ℕ} {budget : ℕ} where
-  pub mark-start : d < n → Marked allowed cand n v d dead₀ budget dead₀ budget d
+  pub mark-start : d < n → Marked allowed cand n v d dead₀ budget dead₀ budget (d + 1)
   mark-start i = record { within = omega arith; paid = omega arith; marked = λ p g a. a }
 
   module _ {dead : List ℕ} {left e : ℕ} (w : Marked allowed cand n v d dead₀ budget dead left e) (i : e < n) where

@@ -12,6 +12,9 @@ Inv-loop q allowed cand n ren placed v d dead₀ budget left₀ e₀ dead left e
 abbrev μ-loop : tie.MeasureT-loop
 μ-loop q allowed cand n ren placed v d dead₀ budget left₀ e₀ dead left e = n - e
 
+add-e : tie.Need-add-e Inv-loop μ-loop
+add-e c = omega (arith, c .pre .0, c .pre .2)
+
 loop-holds : tie.Need-loop-holds Inv-loop μ-loop
 loop-holds c = mark-start (c .pre .2)
 
@@ -39,8 +42,8 @@ is-alike-requires c κs =
 element-write-dead : tie.Need-element-write-dead Inv-loop μ-loop
 element-write-dead c = omega (arith, c .before .before .before .before .before .before .loop-test .taken, c .before .before .before .before .before .before .before .before .pre .0)
 
-add-e : tie.Need-add-e Inv-loop μ-loop
-add-e c = omega arith
+add-e-2 : tie.Need-add-e-2 Inv-loop μ-loop
+add-e-2 c = omega arith
 
 loop-less : tie.Need-loop-less Inv-loop μ-loop
 loop-less c = omega arith
@@ -65,6 +68,7 @@ mark-spec =
     (tie.spec
     Inv-loop
     μ-loop
+    add-e
     loop-holds
     mul-if1
     element-copy-out-if1
@@ -73,7 +77,7 @@ mark-spec =
     pay-requires
     is-alike-requires
     element-write-dead
-    add-e
+    add-e-2
     loop-less
     loop-again
     returns)
