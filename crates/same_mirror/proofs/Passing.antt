@@ -2,13 +2,13 @@
 use mathlib.Core.Path.{_≡_, refl, sym, ap, _∙_, subst}
 use mathlib.Core.Bool.{Bool, true, false, _&&_, not}
 use mathlib.Core.List.{List}
-use Prim.Native.Nat.{ℕ, zero, suc, _+_, _/_, _%_, _^_, _<_, _≤_}
+use Prim.Native.Nat.{ℕ, _+_, _/_, _%_, _^_, _<_, _≤_}
 use native.Mathlib.Omega.{arith}
 use lib.Dec.{eqb, ltb}
 use lib.ListN.{getD, set, replicate}
 use lib.Seq.{getD-set-other}
 use borrow.Author.Tests.{eqb-true, eqb-false, ltb-true, not-false}
-use Rattle.loops.proofs.Loops.{and-left}
+use Rattle.loops.proofs.Loops.{and-left, repeated-at}
 use Rattle.same_model.specs.Same.{image}
 use Rattle.same_open.specs.Open.{bit, Among}
 use Rattle.same_open.proofs.Masks.{by-equal}
@@ -51,14 +51,9 @@ by-and : {A : Type 0} (a b : Bool) → (a && b) ≡ false → (a ≡ false → A
 by-and true b e f g = g e
 by-and false b e f g = f refl
 
-zero-at : (m x : ℕ) → _≡_ {A = ℕ} (getD (replicate m 0) x 0) 0
-zero-at zero x = refl
-zero-at (suc m) zero = refl
-zero-at (suc m) (suc x) = zero-at m x
-
 -- none is marked at the start
 pub none-marked : {n : ℕ} (x : ℕ) → x < n → _≡_ {A = ℕ} (getD (replicate 64 0) x 0) 1 → ⊥
-none-marked x i h = omega (arith, sym (zero-at 64 x) ∙ h)
+none-marked x i h = omega (arith, sym (repeated-at {A = ℕ} 64 x 0) ∙ h)
 
 -- the code's test of what is left
 pub some-left : (l : ℕ) (b : Bool) → (ltb 0 l && b) ≡ true → 0 < l
