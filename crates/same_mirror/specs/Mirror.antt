@@ -49,3 +49,7 @@ Gone p allowed cand n v x = (t : List ℕ) → Among p allowed cand n t → imag
 -- nor to any that is marked
 abbrev pub AllGone : List ℕ → List ℕ → List ℕ → ℕ → ℕ → List ℕ → Type 0
 AllGone p allowed cand n v dead = (x : ℕ) → x < n → getD dead x 0 ≡ 1 → Gone p allowed cand n v x
+
+-- where those that are marked are gone, so are those that are marked after, if the list sends atoms to like atoms
+pub record Spreads (n : ℕ) (l dead dead′ : List ℕ) : Type 0 where
+  pub spread : (p allowed cand : List ℕ) (v : ℕ) → v < n → Like allowed cand n l → AllGone p allowed cand n v dead → AllGone p allowed cand n v dead′

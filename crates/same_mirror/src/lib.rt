@@ -5,7 +5,7 @@ ghost use mathlib.Core.List.{List};
 ghost use Prim.Native.Nat.{ℕ, _<_, _≤_};
 ghost use Rattle.same_model.specs.Same.{maxSame, image};
 ghost use Rattle.same_open.specs.Open.{bit, Goes, Faces, Among};
-ghost use Rattle.same_mirror.specs.Mirror.{Onto, SameFaces, SameCandidates, Like, Gone, AllGone, allowedMasks, Repeated, FacedAfter};
+ghost use Rattle.same_mirror.specs.Mirror.{Onto, SameFaces, SameCandidates, Like, Gone, AllGone, Spreads, allowedMasks, Repeated, FacedAfter};
 use same_open::ALLOWED;
 use same_open::Tried;
 use same_place::CELLS;
@@ -248,7 +248,7 @@ fn is_like(allowed: &[u64; ALLOWED], cand: &[u64; SIDE], like: &[u8; SIDE], n: u
     has_same_faces(allowed, like, n)
 }
 
-// Whether e is like d, as far as a guess shows it.
+// Whether a guess of a list that sends d to e is right; the list.
 fn is_alike(
     q: &[u16; CELLS],
     allowed: &[u64; ALLOWED],
@@ -259,18 +259,30 @@ fn is_alike(
     v: usize,
     d: usize,
     e: usize,
+    like: &mut [u8; SIDE],
 ) -> bool
-    requires { ⌜ (n ≤ maxSame) × (v < n) × (d < n) × (e < n) ⌝ }
-    ensures { λ r. ⌜ (r ≡ true → (p : List ℕ) → Gone p (now (allowed .entry)) (now (cand .entry)) n v d → Gone p (now (allowed .entry)) (now (cand .entry)) n v e) ⌝ }
+    requires { ⌜ (n ≤ maxSame) × (d < n) × (e < n) ⌝ }
+    ensures { λ r. ⌜ (r ≡ true → Like (now (allowed .entry)) (now (cand .entry)) n (now (like .exit))) ⌝ }
 {
-    let mut like = [0u8; SIDE];
-    if !guess(q, allowed, n, ren, placed, v, d, e, &mut like) {
+    if !guess(q, allowed, n, ren, placed, v, d, e, like) {
         return false;
     }
-    if widened(like[d]) != e {
-        return false;
+    is_like(allowed, cand, like, n)
+}
+
+// Marks each atom to which one with a mark goes.
+fn spread(like: &[u8; SIDE], n: usize, dead: &mut [u8; SIDE])
+    requires { ⌜ n ≤ maxSame ⌝ }
+    ensures { λ _. ⌜ Spreads n (now (like .entry)) (now (dead .entry)) (now (dead .exit)) ⌝ }
+{
+    let mut x = 0;
+    while x < n {
+        if dead[x] == 1 {
+            let to = widened(like[x]) % SIDE;
+            dead[to] = 1;
+        }
+        x += 1;
     }
-    is_like(allowed, cand, &like, n)
 }
 
 // What is left after a cost.
@@ -283,7 +295,7 @@ fn pay(left: u32, cost: u32) -> u32
     0
 }
 
-// Marks the candidates of v behind d that are like d; what is left of a budget then.
+// Marks d and the candidates of v behind it that are shown to be like it, with what goes with them; what is left of a budget then.
 fn mark(
     q: &[u16; CELLS],
     allowed: &[u64; ALLOWED],
@@ -300,13 +312,15 @@ fn mark(
     ensures { λ r. ⌜ r ≤ budget ⌝ }
     ensures { λ _. ⌜ ((p : List ℕ) → Gone p (now (allowed .entry)) (now (cand .entry)) n v d → AllGone p (now (allowed .entry)) (now (cand .entry)) n v (now (dead .entry)) → AllGone p (now (allowed .entry)) (now (cand .entry)) n v (now (dead .exit))) ⌝ }
 {
+    dead[d] = 1;
     let mut left = budget;
     let mut e = d + 1;
     while e < n {
         if ((cand[v] >> e) % 2 == 1) & (dead[e] != 1) {
             left = pay(left, COST);
-            if is_alike(q, allowed, cand, n, ren, placed, v, d, e) {
-                dead[e] = 1;
+            let mut like = [0u8; SIDE];
+            if is_alike(q, allowed, cand, n, ren, placed, v, d, e, &mut like) {
+                spread(&like, n, dead);
             }
         }
         e += 1;
