@@ -11,6 +11,7 @@ use lib.Dec.{eqb}
 use lib.ListN.{length, take, drop, getD, set, replicate, drop-of-length-le, length-set, length-replicate}
 use lib.Seq.{drop-cons, getD-set-same, getD-set-other}
 use borrow.Author.Tests.{eq-eqb, ne-eqb}
+use Rattle.loops.proofs.Loops.{repeated-at}
 use Rattle.loops.specs.Loop.{pick, run}
 use Rattle.matching.specs.Graph.{countIf}
 use Rattle.matching.specs.Cut.{cnt, odd?, odds, flips, marks}
@@ -117,12 +118,7 @@ parity-run need lab (suc m) v odd e l p i k =
 -- the marks after all atoms, from none
 parities : (need lab : List ℕ) (m i : ℕ) → length need ≤ length lab → i < m → getD (run (flips need lab) 0 (length need) (replicate m false)) i false ≡ odd? (cnt need lab i)
 unfolding cnt odd?
-parities need lab m i l h = parity-run need lab (length need) 0 (replicate m false) (zero-add (length need)) l (λ j k. getD-replicate m j) i (rw length-replicate h)
-  where
-    getD-replicate : (m j : ℕ) → getD (replicate m false) j false ≡ false
-    getD-replicate zero j = refl
-    getD-replicate (suc m) zero = refl
-    getD-replicate (suc m) (suc j) = getD-replicate m j
+parities need lab m i l h = parity-run need lab (length need) 0 (replicate m false) (zero-add (length need)) l (λ j k. repeated-at m j false) i (rw length-replicate h)
 
 marks-odds : (need lab : List ℕ) (odd : List Bool) (n : ℕ) → ((i : ℕ) → i ≤ n → getD odd i false ≡ odd? (cnt need lab i)) → marks odd n ≡ odds need lab n
 unfolding marks odds

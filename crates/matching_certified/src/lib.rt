@@ -1,10 +1,11 @@
-// A search for matchings that asks at every bond for a reason why nothing is left (`matching_blossom`), and checks it. It is never
-// slow: a branch without a matching is left at once. Every function here is internal, for `matching_engine`.
+// A search for matchings that asks at every bond that can be chosen for a reason why nothing is left (`matching_blossom`), and
+// checks it. It is never slow: a branch without a matching is left at the next such bond. Every function here is internal, for
+// `matching_engine`.
 use ids::AtomId;
 use ids::BondId;
 use ids::MAX_ATOMS;
+use matching_blossom::EMPTY;
 use matching_blossom::LABELS;
-use matching_blossom::NONE;
 use matching_blossom::OUTSIDE;
 ghost use mathlib.Core.Path.{_≡_};
 ghost use mathlib.Core.Bool.{Bool, true, false, _&&_, _||_, not};
@@ -176,7 +177,7 @@ fn hopeless(
     el: &[u8],
     need: &[u8],
     k: BondId,
-    mate: &mut [usize; MAX_ATOMS],
+    mate: &mut [u16; MAX_ATOMS],
 ) -> bool
     requires { ⌜ BondTables (now ea) (now eb) (now el) (now need) (k .0) ⌝ }
     ensures { λ r. ⌜ (r ≡ true → allFrom (now (ea .entry)) (now (eb .entry)) (now (el .entry)) (now (need .entry)) (k .0) ≡ []) ⌝ }
@@ -196,18 +197,18 @@ fn seek_from(
     need: &mut [u8],
     row: &mut [u8],
     k: BondId,
-    mate: &mut [usize; MAX_ATOMS],
+    mate: &mut [u16; MAX_ATOMS],
 ) -> bool
     requires { ⌜ Shape (now ea) (now eb) (now el) (now need) (now row) (k .0) ⌝ }
     ensures { λ r. ⌜ Searched (now (need .entry)) (now (row .entry)) (k .0) (length (now (ea .entry))) (allFrom (now (ea .entry)) (now (eb .entry)) (now (el .entry)) (now (need .entry)) (k .0)) r (now (need .exit)) (now (row .exit)) ⌝ }
 {
     let mut at = k.0;
     while at < ea.len() {
-        if hopeless(ea, eb, el, need, BondId(at), mate) {
-            matching_search::blank(row, BondId(at), BondId(ea.len()));
-            return false;
-        }
         if matching_search::choosable(ea, eb, el, need, BondId(at)) {
+            if hopeless(ea, eb, el, need, BondId(at), mate) {
+                matching_search::blank(row, BondId(at), BondId(ea.len()));
+                return false;
+            }
             matching_search::mark(ea, eb, need, BondId(at), 0);
             row[at] = 1;
             let found = seek_from(ea, eb, el, need, row, BondId(at + 1), mate);
@@ -227,6 +228,6 @@ pub fn seek(ea: &[u16], eb: &[u16], el: &[u8], need: &mut [u8], row: &mut [u8], 
     requires { ⌜ Shape (now ea) (now eb) (now el) (now need) (now row) (k .0) ⌝ }
     ensures { λ r. ⌜ Searched (now (need .entry)) (now (row .entry)) (k .0) (length (now (ea .entry))) (allFrom (now (ea .entry)) (now (eb .entry)) (now (el .entry)) (now (need .entry)) (k .0)) r (now (need .exit)) (now (row .exit)) ⌝ }
 {
-    let mut mate = [NONE; MAX_ATOMS];
+    let mut mate = [EMPTY; MAX_ATOMS];
     seek_from(ea, eb, el, need, row, k, &mut mate)
 }

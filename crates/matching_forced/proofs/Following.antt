@@ -9,7 +9,7 @@ use lib.ListN.{length, take, drop, getD, set, replicate, length-set, length-repl
 use lib.Seq.{ext-getD, getD-set-same, set-set, set-getD, set-append-left, take-set-lt, drop-set-lt, drop-at, getD-take}
 use borrow.Author.Tests.{eqb-true, eq-eqb, ne-eqb, lt-ltb, le-ltb}
 use Rattle.loops.specs.Loop.{pick}
-use Rattle.loops.proofs.Loops.{and-left, and-right}
+use Rattle.loops.proofs.Loops.{and-left, and-right, repeated-at}
 use Rattle.matching.specs.Enumeration.{Row, isRow, matchings, before, consIf}
 use Rattle.matching.specs.Graph.{Bond, isMatching, nthBond, setOf}
 use Rattle.matching.specs.Model.{Shape, BondTables, Searched, free, markAt, bondsOf, some?, headOr, written}
@@ -19,7 +19,6 @@ use Rattle.matching.proofs.Claims.{row-is-set}
 use Rattle.matching_forced.specs.Forced.{forces, forcedBond, forcedFrom, pairAt}
 use Rattle.matching_forced.specs.Steps.{ones, zeros, off, lowestFree, pairAll, allOf, takenOf, leftOf, laterOf, laterWith, isOf, Chosen, Filled, Roomy}
 use Rattle.matching_forced.proofs.Counts.{lowest-least}
-use Rattle.matching_forced.proofs.Tallies.{zeros-at}
 use Rattle.matching_forced.proofs.Forced.{forced-below, forced-free, forced-in}
 use Rattle.matching_forced.proofs.Turns.{turn, left, by-turns, forced-pair, forced-none}
 use Rattle.matching_forced.proofs.Rows.{At, matchings-at, matchings-same, matchings-never, and-true, and-false, cell-zero, set-row, row-long, paired-same}
@@ -122,7 +121,7 @@ module _ (bs : List Bond) (need : List ℕ) (b : ℕ) (lb : b < length bs) (r : 
 module _ (bs : List Bond) (need : List ℕ) (h : length bs ≤ lowestFree bs need) where
   all-zero : (s : Row) → isRow (length bs) s ≡ true → isMatching need bs s ≡ true → s ≡ replicate (length bs) 0
   unfolding lowestFree
-  all-zero s i t = ext-getD 0 s (replicate (length bs) 0) (row-length (length bs) s i ∙ sym (length-replicate (length bs) 0)) (λ j l. cell j (omega (arith, row-length (length bs) s i)) ∙ sym (zeros-at (length bs) j))
+  all-zero s i t = ext-getD 0 s (replicate (length bs) 0) (row-length (length bs) s i ∙ sym (length-replicate (length bs) 0)) (λ j l. cell j (omega (arith, row-length (length bs) s i)) ∙ sym (repeated-at (length bs) j 0))
     where
       cell : (j : ℕ) → j < length bs → getD s j 0 ≡ 0
       cell j l = cell-zero (length bs) s j i

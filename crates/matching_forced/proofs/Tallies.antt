@@ -2,12 +2,12 @@
 use mathlib.Core.Path.{_≡_, refl, sym, ap, _∙_}
 use mathlib.Core.Bool.{Bool, true, false, _&&_, _||_, not}
 use mathlib.Core.List.{List}
-use Prim.Native.Nat.{ℕ, zero, suc, _+_, _<_, _≤_}
+use Prim.Native.Nat.{ℕ, _+_, _<_, _≤_}
 use native.Mathlib.Omega.{arith}
 use native.Mathlib.Numerals.{add-one}
 use native.Mathlib.Decide.{ℕ-discrete}
 use lib.Dec.{eqb, ltb}
-use lib.ListN.{length, getD, set, replicate, length-set}
+use lib.ListN.{length, getD, set, length-set}
 use lib.Seq.{getD-set-same, getD-set-other}
 use borrow.Author.Tests.{eq-eqb, ne-eqb, eqb-true, lt-ltb, le-ltb}
 use Rattle.loops.specs.Loop.{pick}
@@ -135,12 +135,6 @@ module _ (counts : List ℕ) {counts1 : List ℕ} {x y b : ℕ} where
 
   pub raised-same : {a : ℕ} → x ≡ a → y ≡ b → x ≡ y → counts1 ≡ bumped counts x → counts1 ≡ raised a b counts
   raised-same {a} p q n e = e ∙ rw (p, eq-eqb a b (sym p ∙ n ∙ q))
-
--- counts that are all 0
-pub zeros-at : (n v : ℕ) → _≡_ {A = ℕ} (getD (replicate n 0) v 0) 0
-zeros-at zero v = refl
-zeros-at (suc n) zero = refl
-zeros-at (suc n) (suc v) = zeros-at n v
 
 -- the test of an atom, by its flag as it was read
 pub counted-as : (need counts : List ℕ) (d v : ℕ) {r b : Bool} → r ≡ flagged need v → (r && eqb (getD counts v 0) d) ≡ b → withCount need counts d v ≡ b

@@ -8,6 +8,7 @@ use mathlib.Core.List.{List, _++_}
 use lib.ListN.{length, getD, take, replicate, length-append, length-replicate, List·getD-append}
 use lib.Seq.{length-take-le, getD-take, getD-append-add, ext-getD}
 use lib.IntN.{ℤ, pos}
+use Rattle.loops.proofs.Loops.{repeated-at}
 use Rattle.loops.specs.Loop.{run}
 use Rattle.table.specs.declared.Atom.{Atom}
 use Rattle.table.specs.declared.Bond.{Bond}
@@ -20,11 +21,6 @@ use Rattle.mixture.specs.Mixed.{raisedBond, raisedBonds, sideBySide}
 use Rattle.mixture.proofs.Rows.{other-bond}
 
 -- ---- one table from two
-zeros-at : (n k : ℕ) → getD (replicate n (pos 0)) k (pos 0) ≡ pos 0
-zeros-at zero k = refl
-zeros-at (suc n) zero = refl
-zeros-at (suc n) (suc k) = zeros-at n k
-
 module _ (first second : List ℤ) (x y : ℕ) (long : x ≤ length first) (long₂ : y ≤ length second) where
   front : length (take x first) ≡ x
   front = length-take-le x first long
@@ -56,7 +52,7 @@ module _ (first second : List ℤ) (x y : ℕ) (long : x ≤ length first) (long
       at-later p (y + k)
       ∙ ap (λ (z : ℕ). getD (take y second ++ replicate (p - (x + y)) (pos 0)) (z + k) (pos 0)) (sym middle)
       ∙ getD-append-add (take y second) (replicate (p - (x + y)) (pos 0)) k (pos 0)
-      ∙ zeros-at (p - (x + y)) k
+      ∙ repeated-at (p - (x + y)) k (pos 0)
 
   pub side-by-side : (l : List ℤ) → x + y ≤ length l → ((k : ℕ) → k < x → getD l k (pos 0) ≡ getD first k (pos 0)) → ((k : ℕ) → k < y → getD l (x + k) (pos 0) ≡ getD second k (pos 0)) → ((k : ℕ) → x + y ≤ k → getD l k (pos 0) ≡ pos 0)
       → l ≡ sideBySide x first y second (length l)

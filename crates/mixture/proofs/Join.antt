@@ -8,6 +8,7 @@ use lib.ListN.{getD, replicate, length-map, List·getD-map, length-replicate}
 use lib.Seq.{ext-getD}
 use lib.IntN.{ℤ}
 use lib.Dec.{eqb}
+use Rattle.loops.proofs.Loops.{repeated-at}
 use Rattle.element.specs.Symbols.{among, letters}
 use Rattle.element.specs.Lookup.{letterOf, selectedOf}
 use Rattle.reading_grammar.specs.Grammar.{nonzero, bondSymbols}
@@ -27,7 +28,6 @@ use Rattle.reading.specs.Act.{atomAct, modeAct, act}
 use Rattle.reading.specs.Read.{zeros, beginning}
 use Rattle.reading.proofs.Sane.{Sane}
 use Rattle.reading.proofs.Dispatch.{Second}
-use Rattle.reading.proofs.Steering.{replicate-0}
 use Rattle.reading.proofs.Atoms.{Ready, ready, ready-start, held-of}
 use Rattle.reading.proofs.Step.{sane-beginning, sane-going}
 use Rattle.mixture.proofs.Behind.{raised, Grounded, Clear, Grown, Room, Both}
@@ -80,7 +80,7 @@ module _ (A₁ B₁ A B : List ℤ) (long₁ : enough A₁ B₁ ≡ true) (long 
         symbol = λ r l. refl;
         offset = λ r l. omega arith;
         front = λ c l. absurd (omega arith);
-        keys = λ c. replicate-0 keyCount (2 * 0 + c) ∙ sym (ap (raised 0) (replicate-0 keyCount c));
+        keys = λ c. repeated-at {A = ℕ} keyCount (2 * 0 + c) 0 ∙ sym (ap (raised 0) (repeated-at {A = ℕ} keyCount c 0));
         outside = λ a l. absurd (omega arith);
         atom-rows = λ a l. absurd (omega arith);
         bond-rows = record { inside = λ b l. absurd (omega arith); first-bonds = λ b l. refl; second-bonds = λ b l. absurd (omega arith) };
@@ -105,7 +105,7 @@ module _ (A₁ B₁ A B : List ℤ) (long₁ : enough A₁ B₁ ≡ true) (long 
   pub read-clear : (b : ℕ) (s : List ℕ) {τ : MachineState} {ν : Memory} → read act 0 (going start (beginning (zeros A₁) (zeros B₁))) (b ∷ s) ≡ going τ ν → Clear ν
   unfolding started
   read-clear b s e =
-      start-grown b s (sane-beginning A₁ B₁ long₁) (sane-beginning A B long) (ready-start (sane-beginning A B long)) started-alike jointly-started refl (started-act b (beginning (zeros A) (zeros B))) e .clear (λ c l. replicate-0 keyCount c)
+      start-grown b s (sane-beginning A₁ B₁ long₁) (sane-beginning A B long) (ready-start (sane-beginning A B long)) started-alike jointly-started refl (started-act b (beginning (zeros A) (zeros B))) e .clear (λ c l. repeated-at {A = ℕ} keyCount c 0)
 
 -- ---- the dot
 pub ends-sequence : (σ : MachineState) → accepting σ ≡ true → (σ ≡ start → ⊥) → (x : Last) × (σ ≡ at (seq x) 0)
@@ -167,10 +167,10 @@ module _ {p q j : ℕ} {x : Last} {ν : Memory} (k : Sane p q (at (seq x) 0) j �
         depth = k .stands .depth;
         stack = λ i l. absurd (omega arith);
         opener = no-openers;
-        symbol = λ r l. absurd (omega (arith, replicate-0 bridges r));
-        offset = λ r l. absurd (omega (arith, replicate-0 bridges r));
+        symbol = λ r l. absurd (omega (arith, repeated-at {A = ℕ} bridges r 0));
+        offset = λ r l. absurd (omega (arith, repeated-at {A = ℕ} bridges r 0));
         front = λ c l. refl;
-        keys = λ c. clear (2 * ν .st .bonds + c) (omega arith) ∙ sym (ap (raised (suc j)) (replicate-0 keyCount c));
+        keys = λ c. clear (2 * ν .st .bonds + c) (omega arith) ∙ sym (ap (raised (suc j)) (repeated-at {A = ℕ} keyCount c 0));
         outside = λ a l. absurd (omega arith);
         atom-rows = λ a l. absurd (omega arith);
         bond-rows = record { inside = λ b l. let w = k .tables .bond-rows b l in (omega (arith, w .order, w .second), w .second); first-bonds = λ b l. refl; second-bonds = λ b l. absurd (omega arith) };
@@ -179,7 +179,7 @@ module _ {p q j : ℕ} {x : Last} {ν : Memory} (k : Sane p q (at (seq x) 0) j �
       no-openers : ν .st .opener ≡ map (raised (ν .st .atoms)) (replicate bridges 0)
       no-openers =
           ext-getD 0 (ν .st .opener) (map (raised (ν .st .atoms)) (replicate bridges 0)) (k .steering .opener-length ∙ sym (length-map (replicate bridges 0) (raised (ν .st .atoms)) ∙ length-replicate {A = ℕ} bridges 0))
-          (λ r l. shut r ∙ sym (List·getD-map (raised (ν .st .atoms)) (replicate bridges 0) r 0 ∙ ap (raised (ν .st .atoms)) (replicate-0 bridges r)))
+          (λ r l. shut r ∙ sym (List·getD-map (raised (ν .st .atoms)) (replicate bridges 0) r 0 ∙ ap (raised (ν .st .atoms)) (repeated-at {A = ℕ} bridges r 0)))
 
   jointly-dot : Jointly (ν .st .atoms) (beginning (zeros A) (zeros B)) (awaiting dotted ν)
   unfolding started

@@ -1,12 +1,13 @@
 -- The reading state keeps naming atoms that were read. Assumes nothing.
-use Prim.Native.Nat.{ℕ, zero, suc, _+_, _*_, _-_, _≤_, _<_}
+use Prim.Native.Nat.{ℕ, suc, _+_, _*_, _-_, _≤_, _<_}
 use native.Mathlib.Omega.{arith}
 use native.Mathlib.Decide.{ℕ-discrete}
-use mathlib.Core.Path.{_≡_, refl, _∙_}
+use mathlib.Core.Path.{_≡_, _∙_}
 use mathlib.Core.List.{List}
-use lib.ListN.{length, getD, set, replicate, length-set, length-replicate}
+use lib.ListN.{length, getD, set, length-set, length-replicate}
 use lib.Seq.{getD-set-same, getD-set-other}
 use lib.Dec.{ltb}
+use Rattle.loops.proofs.Loops.{repeated-at}
 use Rattle.kinds.specs.Kind.{maxKind}
 use Rattle.table.specs.Limits.{maxAtoms, maxBonds}
 use Rattle.ids.specs.Limits.{maxDepth, bridges}
@@ -23,11 +24,6 @@ set-each P l i v h pv pl k = split (ℕ-discrete k i)
     split (yes e) = rw (e, getD-set-same l i v 0 h) pv
     split (no n) = rw (getD-set-other l i k v 0 n) (pl k)
 
-pub replicate-0 : (n k : ℕ) → _≡_ {A = ℕ} (getD (replicate n 0) k 0) 0
-replicate-0 zero k = refl
-replicate-0 (suc n) zero = refl
-replicate-0 (suc n) (suc k) = replicate-0 n k
-
 pub started-steering : Steers 0 started
 unfolding started
 started-steering =
@@ -40,10 +36,10 @@ started-steering =
       keys-length = length-replicate {A = ℕ} keyCount 0;
       depth = omega arith;
       stack = λ k l. absurd (omega arith);
-      opener = λ r. omega (arith, replicate-0 bridges r);
-      symbol = λ r. omega (arith, replicate-0 bridges r);
-      offset = λ r l. absurd (omega (arith, replicate-0 bridges r));
-      keys = λ k. omega (arith, replicate-0 keyCount k);
+      opener = λ r. omega (arith, repeated-at {A = ℕ} bridges r 0);
+      symbol = λ r. omega (arith, repeated-at {A = ℕ} bridges r 0);
+      offset = λ r l. absurd (omega (arith, repeated-at {A = ℕ} bridges r 0));
+      keys = λ k. omega (arith, repeated-at {A = ℕ} keyCount k 0);
     }
 
 module _ {i : ℕ} {s : Steering} (w : Steers i s) where

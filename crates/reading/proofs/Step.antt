@@ -1,16 +1,16 @@
 -- The memory stays sane at every byte, in every state of the machine, and over every text. Assumes nothing.
-use Prim.Native.Nat.{ℕ, zero, suc, _+_, _*_, _≤_}
+use Prim.Native.Nat.{ℕ, suc, _+_, _*_, _≤_}
 use native.Mathlib.Omega.{arith}
 use native.Mathlib.Nat.{add-zero}
 use mathlib.Core.Path.{_≡_, refl, subst}
 use mathlib.Core.Bool.{Bool, true, false}
 use mathlib.Core.List.{List, [], _∷_}
-use lib.ListN.{length, getD, replicate, length-replicate}
+use lib.ListN.{length, length-replicate}
 use lib.IntN.{ℤ, pos}
 use lib.Dec.{eqb, leb}
 use borrow.Author.Tests.{leb-true}
 use Rattle.loops.specs.Loop.{pick}
-use Rattle.loops.proofs.Loops.{and-left, and-right}
+use Rattle.loops.proofs.Loops.{and-left, and-right, repeated-at}
 use Rattle.reading_grammar.specs.declared.Last.the-variants.{Plain as plain}
 use Rattle.reading_grammar.specs.declared.Mode.{Mode}
 use Rattle.reading_grammar.specs.declared.Mode.the-variants.{Seq as seq, Bond as bond, AtomNext as atomNext, Inside as inside, Percent as percent, Percent1 as percent1, LetterA as letterA, LetterT as letterT, Bracket as bracket, Isotope as isotope, Symbol1 as symbol1, Symbolled as symbolled, At1 as at1, At2 as at2, Hydrogen as hydrogen, Hydrogens as hydrogens, Sign as sign, Charged as charged, Colon as colon, Extension as extension}
@@ -112,11 +112,6 @@ pub sane-going : {p q i : ℕ} {σ τ : MachineState} {μ ν : Memory} (s : List
 sane-going {p} {q} {i} {σ} {τ} {μ} {ν} s w e = subst (SaneReading p q (i + length s)) e (sane-read p q s i (going σ μ) w)
 
 -- ---- from the beginning
-zeros-clear : (n k : ℕ) → getD (replicate n (pos 0)) k (pos 0) ≡ pos 0
-zeros-clear zero k = refl
-zeros-clear (suc n) zero = refl
-zeros-clear (suc n) (suc k) = zeros-clear n k
-
 pub sane-beginning : (atoms bonds : List ℤ) → enough atoms bonds ≡ true → Sane (length atoms) (length bonds) start 0 (beginning (zeros atoms) (zeros bonds))
 unfolding enough started
 sane-beginning atoms bonds e =
@@ -131,8 +126,8 @@ sane-beginning atoms bonds e =
         atom-rows = λ a l. absurd (omega arith);
         bond-rows = λ b l. absurd (omega arith);
         apart = λ i j l k. absurd (omega arith);
-        atoms-clear = λ k l. zeros-clear (length atoms) k;
-        bonds-clear = λ k l. zeros-clear (length bonds) k;
+        atoms-clear = λ k l. repeated-at (length atoms) k (pos 0);
+        bonds-clear = λ k l. repeated-at (length bonds) k (pos 0);
       };
       steering = started-steering;
       kind = omega arith;

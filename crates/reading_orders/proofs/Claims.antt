@@ -8,6 +8,7 @@ use mathlib.Core.List.{List}
 use lib.ListN.{length, getD}
 use lib.IntN.{ℤ}
 use lib.Dec.{eqb}
+use Rattle.loops.proofs.Loops.{repeated-at}
 use Rattle.loops.specs.Loop.{pick}
 use Rattle.parity.specs.Parity.{Swaps, oddNumber}
 use Rattle.parity.specs.Mark.{markIf}
@@ -23,7 +24,6 @@ use Rattle.reading.specs.Memory.{Memory}
 use Rattle.reading.specs.Read.{ReadResult, zeros, beginning, textRank, readOf}
 use Rattle.reading.specs.Conditions.{bytesRead, Fits}
 use Rattle.reading.specs.Claims.{Accepted}
-use Rattle.reading.proofs.Steering.{replicate-0}
 use Rattle.reading.proofs.Step.{sane-beginning}
 use Rattle.reading.proofs.Accepted.{read-sane, read-accepted}
 use Rattle.reading_orders.specs.Neighbours.{storedOrder, textOrder, TurnedBySwaps}
@@ -39,12 +39,12 @@ reach-beginning atoms bonds =
     record {
       every = (
         record {
-          behind = λ k. omega (arith, replicate-0 keyCount k);
-          opened = λ r l. absurd (omega (arith, replicate-0 bridges r));
-          once = λ j k n l. absurd (omega (arith, replicate-0 keyCount j));
-          waiting = λ r k l. absurd (omega (arith, replicate-0 bridges r));
-          others = λ r c n l. absurd (omega (arith, replicate-0 bridges r));
-          unwritten = λ k l. replicate-0 keyCount k;
+          behind = λ k. omega (arith, repeated-at {A = ℕ} keyCount k 0);
+          opened = λ r l. absurd (omega (arith, repeated-at {A = ℕ} bridges r 0));
+          once = λ j k n l. absurd (omega (arith, repeated-at {A = ℕ} keyCount j 0));
+          waiting = λ r k l. absurd (omega (arith, repeated-at {A = ℕ} bridges r 0));
+          others = λ r c n l. absurd (omega (arith, repeated-at {A = ℕ} bridges r 0));
+          unwritten = λ k l. repeated-at {A = ℕ} keyCount k 0;
         },
         λ b c x l g. absurd (omega arith),
       );

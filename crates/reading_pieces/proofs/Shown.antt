@@ -9,6 +9,7 @@ use lib.ListN.{length}
 use lib.IntN.{ℤ}
 use lib.Dec.{ltb}
 use borrow.Author.Tests.{ltb-true}
+use Rattle.loops.proofs.Loops.{repeated-at}
 use Rattle.loops.specs.Loop.{pick}
 use Rattle.ids.specs.Limits.{maxText, bridges}
 use Rattle.table.specs.Valid.{enough}
@@ -28,7 +29,6 @@ use Rattle.reading.specs.Act.{Acts, act}
 use Rattle.reading.specs.Read.{zeros, beginning}
 use Rattle.reading.proofs.Sane.{Sane, SaneAct}
 use Rattle.reading.proofs.Step.{sane-step, sane-beginning}
-use Rattle.reading.proofs.Steering.{replicate-0}
 use Rattle.reading_pieces.specs.Bounded.{bounded, readOn}
 use Rattle.reading_pieces.specs.State.{modeOf, modeNumber, modeLetter, extensionIn}
 use Rattle.reading_pieces.specs.Safe.{Bounded, Half, Safe}
@@ -163,8 +163,8 @@ started-bounded =
       depth = omega arith;
       hub = omega arith;
       stack = λ k l. absurd (omega arith);
-      opener = λ r. omega (arith, replicate-0 bridges r);
-      offset = λ r. omega (arith, replicate-0 bridges r);
+      opener = λ r. omega (arith, repeated-at {A = ℕ} bridges r 0);
+      offset = λ r. omega (arith, repeated-at {A = ℕ} bridges r 0);
     }
 
 pub kept-beginning : (atoms bonds : List ℤ) → enough atoms bonds ≡ true → Kept (length atoms) (length bonds) 0 (going start (beginning (zeros atoms) (zeros bonds)))

@@ -1,14 +1,15 @@
 -- Reading into tables with a row for each byte gives what reading into tables of full length gives. Assumes nothing.
-use Prim.Native.Nat.{ℕ, zero, suc, _+_, _*_, _≤_, _<_}
+use Prim.Native.Nat.{ℕ, _+_, _*_, _≤_, _<_}
 use native.Mathlib.Omega.{arith}
 use mathlib.Core.Path.{_≡_, refl, sym, subst, subst⁻¹, _∙_}
 use mathlib.Core.Bool.{Bool, true, false}
 use mathlib.Core.List.{List, [], _∷_}
-use lib.ListN.{length, take, getD, set, replicate, length-set}
+use lib.ListN.{length, take, getD, set, length-set, List·getD-eq-default}
 use lib.Seq.{getD-take, length-take-le}
 use lib.IntN.{ℤ, pos}
 use lib.Dec.{eqb, leb, ltb}
 use borrow.Author.Tests.{le-leb, leb-true, leb-false}
+use Rattle.loops.proofs.Loops.{repeated-at}
 use Rattle.loops.specs.Loop.{pick, run}
 use Rattle.ids.specs.Limits.{maxText}
 use Rattle.valence.specs.Valence.{implied, overfull}
@@ -35,25 +36,15 @@ use Rattle.reading_short.proofs.Cut.{cut-read, few-read}
 
 -- ---- a table, and what is left of it when its zeros at the end are cut
 
-past-end : (t : List ℤ) (k : ℕ) → length t ≤ k → getD t k (pos 0) ≡ pos 0
-past-end [] k l = refl
-past-end (x ∷ t) zero l = absurd (omega arith)
-past-end (x ∷ t) (suc k) l = past-end t k (omega arith)
-
 cut-alike : (t : List ℤ) (p : ℕ) → p ≤ length t → ((k : ℕ) → p ≤ k → getD t k (pos 0) ≡ pos 0) → Alike (take p t) t
 cut-alike t p l clear = record { cell = λ k. split k (leb p k) refl }
   where
     split : (k : ℕ) (x : Bool) → leb p k ≡ x → getD (take p t) k (pos 0) ≡ getD t k (pos 0)
-    split k true e = past-end (take p t) k (omega (arith, length-take-le p t l, leb-true p k e)) ∙ sym (clear k (leb-true p k e))
+    split k true e = List·getD-eq-default (take p t) (pos 0) {n = k} (omega (arith, length-take-le p t l, leb-true p k e)) ∙ sym (clear k (leb-true p k e))
     split k false e = getD-take p t k (pos 0) (leb-false p k e)
 
-zeros-clear : (n k : ℕ) → getD (replicate n (pos 0)) k (pos 0) ≡ pos 0
-zeros-clear zero k = refl
-zeros-clear (suc n) zero = refl
-zeros-clear (suc n) (suc k) = zeros-clear n k
-
 zeros-alike : (t u : List ℤ) → Alike (zeros t) (zeros u)
-zeros-alike t u = record { cell = λ k. zeros-clear (length t) k ∙ sym (zeros-clear (length u) k) }
+zeros-alike t u = record { cell = λ k. repeated-at (length t) k (pos 0) ∙ sym (repeated-at (length u) k (pos 0)) }
 
 -- ---- what comes after the last byte, in alike tables
 

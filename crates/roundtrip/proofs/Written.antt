@@ -5,10 +5,10 @@ use mathlib.Core.List.{List, [], _∷_, _++_}
 use Prim.Native.Nat.{ℕ, zero, suc, _+_, _*_, _<_, _≤_}
 use native.Mathlib.Omega.{arith}
 use lib.Dec.{eqb, ltb}
-use lib.ListN.{length, getD, replicate, length-append, length-replicate, getD-replicate, List·getD-eq-default}
+use lib.ListN.{length, getD, length-append, length-replicate, getD-replicate, List·getD-eq-default}
 use lib.IntN.{ℤ, pos}
 use borrow.Author.Tests.{eqb-true, ltb-true, ltb-false}
-use Rattle.loops.proofs.Loops.{and-left, and-right}
+use Rattle.loops.proofs.Loops.{and-left, and-right, repeated-at}
 use Rattle.reading_grammar.specs.declared.Last.{Last}
 use Rattle.reading_grammar.specs.declared.Mode.the-variants.{Seq as seq}
 use Rattle.reading_grammar.specs.declared.MachineState.{MachineState}
@@ -189,15 +189,8 @@ module _ (atoms bonds : List ℤ) (N m p q : ℕ) (fine-atoms : (v : ℕ) → v 
       past = none;
       opened = λ r u j l e. absurd (let z : _≡_ {A = ℕ} 0 1 = cc in omega arith);
       long = refl;
-      table = record { low = λ b l. absurd (omega arith); high = λ b l. absurd (omega arith); after = λ j l. zero-key j; long = refl };
+      table = record { low = λ b l. absurd (omega arith); high = λ b l. absurd (omega arith); after = λ j l. repeated-at {A = ℕ} keyCount j 0; long = refl };
     }
-      where
-        zero-key : (j : ℕ) → _≡_ {A = ℕ} (getD (replicate keyCount 0) j 0) 0
-        zero-key j = go (ltb j keyCount) refl
-          where
-            go : (x : Bool) → ltb j keyCount ≡ x → _≡_ {A = ℕ} (getD (replicate keyCount 0) j 0) 0
-            go true e = getD-replicate keyCount j 0 0 (ltb-true j keyCount e)
-            go false e = List·getD-eq-default (replicate keyCount 0) 0 {n = j} (let w = ltb-false j keyCount e in let z = length-replicate {A = ℕ} keyCount 0 in omega arith)
 
     begins-timely : Timely startKeyed
     begins-timely = record { in-time = start-in-time; as-many = refl }

@@ -1,5 +1,5 @@
 -- auxiliary: keys of atoms that see the orders of two matrices and the atoms that were placed; no claim rests on how well they tell atoms apart
-use Prim.Native.Nat.{ℕ, _*_, _+_, _<_, _≤_, _/_, _%_}
+use Prim.Native.Nat.{ℕ, _*_, _+_, _^_, _<_, _≤_, _/_, _%_}
 use mathlib.Core.Path.{_≡_}
 use mathlib.Core.Bool.{Bool, true}
 use mathlib.Core.List.{List, [], _∷_, _++_}
@@ -10,6 +10,7 @@ use Rattle.matching.specs.Enumeration.{passing}
 use Rattle.same_model.specs.Same.{maxSame, image, words}
 use Rattle.same_place.specs.Place.{entry, goodFrom}
 use Rattle.same_keys.specs.Keys.{prime, mixed, at}
+use Rattle.same_open.specs.Open.{bit}
 
 -- what a bond weighs, by its order: a cell's remainder by four
 abbrev pub weightOf : ℕ → ℕ
@@ -32,6 +33,15 @@ timesLow x y = (x % 8192) * (y % 2147483648)
 
 abbrev pub addWeighed : List ℕ → List ℕ → ℕ → ℕ → ℕ → ℕ
 addWeighed w mx a b s = s + timesLow (entry w a b) (at mx b)
+
+-- a set of atoms below n, in bits, with each to which a has a bond that weighs
+pub record Near (w : List ℕ) (n a mask : ℕ) : Type 0 where
+  pub low : mask < 2 ^ n
+  pub held : (b : ℕ) → b < n → (entry w a b ≡ 0 → ⊥) → bit mask b ≡ 1
+
+-- such a set for each of n atoms
+abbrev pub Nears : List ℕ → ℕ → List ℕ → Type 0
+Nears w n near = (a : ℕ) → a < n → Near w n a (getD near a 0)
 
 -- one round: each of n atoms adds the mixed keys of all, by their weights
 unfoldable pub nextKey : List ℕ → ℕ → List ℕ → ℕ → ℕ

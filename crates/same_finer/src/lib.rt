@@ -6,7 +6,7 @@ ghost use lib.ListN.{length, getD, drop};
 ghost use Rattle.loops.specs.Loop.{run, upTo, each};
 ghost use Rattle.same_model.specs.Same.{maxSame};
 ghost use Rattle.same_keys.specs.Keys.{prime, keySum};
-ghost use Rattle.same_finer.specs.Finer.{weight, weightCell, mirror, timesLow, addWeighed, nextKey, finer, finerTold};
+ghost use Rattle.same_finer.specs.Finer.{weight, weightCell, mirror, timesLow, addWeighed, Near, Nears, nextKey, finer, finerTold};
 use same_place::CELLS;
 use same_place::SIDE;
 
@@ -77,30 +77,64 @@ fn times_low(x: u16, y: u64) -> u64
     (x % 8192) as u64 * (y % 2147483648)
 }
 
-// The next key of an atom, from all mixed keys.
-fn next_key(w: &[u16; CELLS], mixed: &[u64; SIDE], n: usize, a: usize, key: u64) -> u64
+// The atoms to which the atom a has a bond that weighs, as bits.
+fn weighty(w: &[u16; CELLS], n: usize, a: usize) -> u64
     requires { ⌜ (n ≤ maxSame) × (a < maxSame) ⌝ }
+    ensures { λ r. ⌜ Near (now (w .entry)) n a r ⌝ }
+{
+    let mut mask = 0u64;
+    let mut b = n;
+    while 0 < b {
+        b -= 1;
+        mask = 2 * mask;
+        if w[SIDE * a + b] != 0 {
+            mask += 1;
+        }
+    }
+    mask
+}
+
+// These for each of n atoms.
+fn fill_weighty(w: &[u16; CELLS], n: usize, near: &mut [u64; SIDE])
+    requires { ⌜ (n ≤ maxSame) × (n ≤ length (now near)) ⌝ }
+    ensures { λ _. ⌜ Nears (now (w .entry)) n (now (near .exit)) ⌝ }
+{
+    let mut a = 0;
+    while a < n {
+        near[a] = weighty(w, n, a);
+        a += 1;
+    }
+}
+
+// The next key of an atom, from the mixed keys of those whose bonds to it weigh.
+fn next_key(w: &[u16; CELLS], near: u64, mixed: &[u64; SIDE], n: usize, a: usize, key: u64) -> u64
+    requires { ⌜ (n ≤ maxSame) × (a < maxSame) × Near (now w) n a near ⌝ }
     ensures { λ r. ⌜ r ≡ run (addWeighed (now (w .entry)) (now (mixed .entry)) a) 0 n (key % prime) ⌝ }
 {
     let mut sum = key % PRIME;
+    let mut rest = near;
     let mut b = 0;
-    while b < n {
+    while rest != 0 {
+        let skip = u64::trailing_zeros(rest) as usize;
+        b += skip;
+        rest = rest >> skip;
         sum += times_low(w[SIDE * a + b], mixed[b]);
+        rest = rest / 2;
         b += 1;
     }
     sum
 }
 
 // One round, from old keys to new ones.
-fn round(w: &[u16; CELLS], n: usize, old: &[u64; SIDE], keys: &mut [u64; SIDE])
-    requires { ⌜ (n ≤ maxSame) × (n ≤ length (now keys)) × (n ≤ length (now old)) ⌝ }
+fn round(w: &[u16; CELLS], near: &[u64; SIDE], n: usize, old: &[u64; SIDE], keys: &mut [u64; SIDE])
+    requires { ⌜ (n ≤ maxSame) × (n ≤ length (now keys)) × (n ≤ length (now old)) × Nears (now w) n (now near) ⌝ }
     ensures { λ _. ⌜ now (keys .exit) ≡ upTo (nextKey (now (w .entry)) n (now (old .entry))) 0 n ++ drop n (now (keys .entry)) ⌝ }
 {
     let mut mixed = [0u64; SIDE];
     same_keys::mix_all(old, n, &mut mixed);
     let mut a = 0;
     while a < n {
-        keys[a] = next_key(w, &mixed, n, a, old[a]);
+        keys[a] = next_key(w, near[a], &mixed, n, a, old[a]);
         a += 1;
     }
 }
@@ -110,10 +144,12 @@ pub fn make_finer(w: &[u16; CELLS], n: usize, r: usize, keys: &mut [u64; SIDE])
     requires { ⌜ (n ≤ maxSame) × (n ≤ length (now keys)) ⌝ }
     ensures { λ _. ⌜ now (keys .exit) ≡ finer (now (w .entry)) n r (now (keys .entry)) ⌝ }
 {
+    let mut near = [0u64; SIDE];
+    fill_weighty(w, n, &mut near);
     let mut i = 0;
     while i < r {
         let old = *keys;
-        round(w, n, &old, keys);
+        round(w, &near, n, &old, keys);
         i += 1;
     }
 }

@@ -1,19 +1,19 @@
 -- Checks of one atom after the other, and what a checked list is. Assumes nothing.
-use mathlib.Core.Path.{_≡_, refl, sym, subst}
+use mathlib.Core.Path.{_≡_, refl, sym, ap, subst, _∙_}
 use mathlib.Core.Bool.{Bool, true, false, _&&_}
 use mathlib.Core.List.{List}
 use Prim.Native.Nat.{ℕ, _+_, _-_, _*_, _%_, _/_, _^_, _<_, _≤_}
 use native.Mathlib.Omega.{arith}
-use lib.Dec.{ltb}
+use lib.Dec.{eqb, ltb}
 use lib.ListN.{getD}
-use borrow.Author.Tests.{ltb-true, ltb-false}
-use Rattle.loops.proofs.Loops.{and-right}
+use borrow.Author.Tests.{eqb-true, ltb-true, ltb-false}
+use Rattle.loops.proofs.Loops.{and-left, and-right}
 use Rattle.matching.proofs.Graph.{never}
 use Rattle.same_model.specs.Same.{maxSame, image}
 use Rattle.same_open.specs.Open.{bit}
 use Rattle.same_open.proofs.Laws.{cases}
 use Rattle.same_open.proofs.Masks.{by-equal}
-use Rattle.same_mirror.specs.Mirror.{Onto, SameFaces}
+use Rattle.same_mirror.specs.Mirror.{Onto, SameFaces, Repeated, Carries, FacedAfter}
 
 -- all before i passed
 pub record All (P : ℕ → Type 0) (n i : ℕ) : Type 0 where
@@ -61,6 +61,31 @@ carried l x y e h = h
 -- the masks of what is allowed, one after the other
 abbrev pub Faced : List ℕ → ℕ → List ℕ → ℕ → Type 0
 Faced allowed n l i = i % maxSame < n → (e : ℕ) → e < n → Carried l (getD allowed i 0) (getD allowed (i - i % maxSame + image l (i % maxSame)) 0) e
+
+-- masks that are those of the class before
+pub repeated : (allowed : List ℕ) (i j : ℕ) → maxSame ≤ i → maxSame ≤ j → (eqb (getD allowed i 0) (getD allowed (i - maxSame) 0) && eqb (getD allowed j 0) (getD allowed (j - maxSame) 0)) ≡ true → Repeated allowed i j
+repeated allowed i j f g h =
+    let a = eqb (getD allowed i 0) (getD allowed (i - maxSame) 0) in
+    let b = eqb (getD allowed j 0) (getD allowed (j - maxSame) 0) in
+    record {
+      later = (f, g);
+      first = eqb-true (getD allowed i 0) (getD allowed (i - maxSame) 0) (and-left a b h);
+      second = eqb-true (getD allowed j 0) (getD allowed (j - maxSame) 0) (and-right a b h);
+    }
+
+-- go where these go
+pub faced-again : {allowed : List ℕ} {n i j : ℕ} (l : List ℕ) → Repeated allowed i j → FacedAfter allowed n l i j
+faced-again l r f e k = ap (λ (x : ℕ). bit x e) (r .first) ∙ f (r .later .0) (r .later .1) e k ∙ sym (ap (λ (x : ℕ). bit x (image l e)) (r .second))
+
+-- one mask more, from those before it
+pub faced-next : (allowed : List ℕ) {n : ℕ} (l : List ℕ) {i : ℕ} → All (Faced allowed n l) 384 i → i % maxSame < n → FacedAfter allowed n l i (i - i % maxSame + image l (i % maxSame)) → Faced allowed n l i
+faced-next allowed {n} l {i} w h f k =
+    f
+    (λ a b.
+    let s : (i - maxSame) % maxSame ≡ i % maxSame = omega arith in
+    let r : i - maxSame - i % maxSame + image l (i % maxSame) ≡ i - i % maxSame + image l (i % maxSame) - maxSame = omega arith in
+    let g : (d : ℕ) → d ≡ i % maxSame → d < n → Carries n l (getD allowed (i - maxSame) 0) (getD allowed (i - maxSame - d + image l d) 0) → Carries n l (getD allowed (i - maxSame) 0) (getD allowed (i - maxSame - i % maxSame + image l (i % maxSame)) 0) = λ d q j c. subst (λ (x : ℕ). Carries n l (getD allowed (i - maxSame) 0) (getD allowed (i - maxSame - x + image l x) 0)) q c in
+    subst (λ (x : ℕ). Carries n l (getD allowed (i - maxSame) 0) (getD allowed x 0)) r (g ((i - maxSame) % maxSame) s (rw s h) (w .all (i - maxSame) (omega arith) (rw s h))))
 
 pub faced-all : (allowed : List ℕ) {n : ℕ} (l : List ℕ) → n ≤ maxSame → ((i : ℕ) → i < 384 → Faced allowed n l i) → SameFaces allowed n l
 faced-all allowed l f g c d e i j k =

@@ -2,18 +2,19 @@
 use mathlib.Core.Path.{_≡_, refl, sym, ap, _∙_, subst}
 use mathlib.Core.Bool.{Bool, true, false, _&&_, not}
 use mathlib.Core.List.{List}
-use Prim.Native.Nat.{ℕ, zero, suc, _+_, _/_, _%_, _^_, _<_, _≤_}
+use Prim.Native.Nat.{ℕ, _+_, _/_, _%_, _^_, _<_, _≤_}
 use native.Mathlib.Omega.{arith}
 use lib.Dec.{eqb, ltb}
 use lib.ListN.{getD, set, replicate}
 use lib.Seq.{getD-set-other}
 use borrow.Author.Tests.{eqb-true, eqb-false, ltb-true, not-false}
-use Rattle.loops.proofs.Loops.{and-left}
-use Rattle.same_model.specs.Same.{image}
+use Rattle.loops.proofs.Loops.{and-left, repeated-at}
+use Rattle.same_model.specs.Same.{maxSame, image}
 use Rattle.same_open.specs.Open.{bit, Among}
 use Rattle.same_open.proofs.Masks.{by-equal}
 use Rattle.same_open.proofs.Seeking.{Searched, search-start, search-end}
-use Rattle.same_mirror.specs.Mirror.{Gone, AllGone}
+use Rattle.same_mirror.specs.Mirror.{Like, Gone, AllGone, Spreads}
+use Rattle.same_mirror.proofs.Likeness.{like-gone}
 
 -- where d leads nowhere, nor do those that are marked
 pub record Marked (allowed cand : List ℕ) (n v d : ℕ) (dead₀ : List ℕ) (budget : ℕ) (dead : List ℕ) (left e : ℕ) : Type 0 where
@@ -22,23 +23,48 @@ pub record Marked (allowed cand : List ℕ) (n v d : ℕ) (dead₀ : List ℕ) (
   pub marked : (p : List ℕ) → Gone p allowed cand n v d → AllGone p allowed cand n v dead₀ → AllGone p allowed cand n v dead
 
 module _ {allowed cand : List ℕ} {n v d : ℕ} {dead₀ : List ℕ} {budget : ℕ} where
-  pub mark-start : d < n → Marked allowed cand n v d dead₀ budget dead₀ budget d
+  pub mark-start : d < n → Marked allowed cand n v d dead₀ budget dead₀ budget (d + 1)
   mark-start i = record { within = omega arith; paid = omega arith; marked = λ p g a. a }
 
   module _ {dead : List ℕ} {left e : ℕ} (w : Marked allowed cand n v d dead₀ budget dead left e) (i : e < n) where
     pub mark-same : {dead′ : List ℕ} {left′ : ℕ} → dead′ ≡ dead → left′ ≤ left → Marked allowed cand n v d dead₀ budget dead′ left′ (e + 1)
     mark-same q l = rw q record { within = omega arith; paid = omega (arith, w .paid); marked = w .marked }
 
-    pub mark-more : {dead′ : List ℕ} {left′ : ℕ} → dead′ ≡ set dead e 1 → left′ ≤ left → ((p : List ℕ) → Gone p allowed cand n v d → Gone p allowed cand n v e) → Marked allowed cand n v d dead₀ budget dead′ left′ (e + 1)
-    mark-more q l f =
-        rw q record {
+    pub mark-more : {dead′ l : List ℕ} {dead″ : List ℕ} {left′ : ℕ} → dead″ ≡ dead′ → Spreads n l dead dead′ → v < n → Like allowed cand n l → left′ ≤ left → Marked allowed cand n v d dead₀ budget dead″ left′ (e + 1)
+    mark-more z q j k l = rw z record { within = omega arith; paid = omega (arith, w .paid); marked = λ p g a. q .spread p allowed cand v j k (w .marked p g a) }
+
+-- one that is gone may be marked
+pub mark-own : {p allowed cand : List ℕ} {n v d : ℕ} (dead : List ℕ) → Gone p allowed cand n v d → AllGone p allowed cand n v dead → AllGone p allowed cand n v (set dead d 1)
+mark-own {d = d} dead g a x j h t m k = by-equal x d (λ y. g t m (k ∙ y)) (λ y. a x j (sym (getD-set-other dead d x 1 0 y) ∙ h) t m k)
+
+-- the places before x are looked at, and what they are sent to is marked
+pub record Spreading (n : ℕ) (l dead₀ dead : List ℕ) (x : ℕ) : Type 0 where
+  pub within : x ≤ n
+  pub spreads : Spreads n l dead₀ dead
+
+module _ {n : ℕ} {l dead₀ : List ℕ} where
+  pub spread-start : Spreading n l dead₀ dead₀ 0
+  spread-start = record { within = omega arith; spreads = record { spread = λ p allowed cand v j w a. a } }
+
+  module _ {dead : List ℕ} {x : ℕ} (s : Spreading n l dead₀ dead x) (i : x < n) where
+    pub spread-same : {dead′ : List ℕ} → dead′ ≡ dead → Spreading n l dead₀ dead′ (x + 1)
+    spread-same q = rw q record { within = omega arith; spreads = s .spreads }
+
+    -- where x is marked, what it is sent to is marked too
+    pub spread-more : {dead′ : List ℕ} {to : ℕ} → n ≤ maxSame → getD dead x 0 ≡ 1 → to ≡ image l x → dead′ ≡ set dead (to % maxSame) 1 → Spreading n l dead₀ dead′ (x + 1)
+    spread-more b h u q =
+        rw (q, u) record {
           within = omega arith;
-          paid = omega (arith, w .paid);
-          marked =
-              λ p g a x j h t m k.
-              by-equal x e
-              (λ y. f p g t m (k ∙ y))
-              (λ y. w .marked p g a x j (sym (getD-set-other dead e x 1 0 y) ∙ h) t m k);
+          spreads =
+              record {
+                spread =
+                    λ p allowed cand v j w a y k g t m r.
+                    let z : image l x % maxSame ≡ image l x = omega (arith, w .onto .below x i) in
+                    let f = s .spreads .spread p allowed cand v j w a in
+                    by-equal y (image l x % maxSame)
+                    (λ e. like-gone w j i (sym (e ∙ z)) (f x i h) t m r)
+                    (λ e. f y k (sym (getD-set-other dead (image l x % maxSame) y 1 0 e) ∙ g) t m r);
+              };
         }
 
 -- nothing goes from v to a place before d, while some of the budget is left, nor to one that is marked
@@ -51,14 +77,9 @@ by-and : {A : Type 0} (a b : Bool) → (a && b) ≡ false → (a ≡ false → A
 by-and true b e f g = g e
 by-and false b e f g = f refl
 
-zero-at : (m x : ℕ) → _≡_ {A = ℕ} (getD (replicate m 0) x 0) 0
-zero-at zero x = refl
-zero-at (suc m) zero = refl
-zero-at (suc m) (suc x) = zero-at m x
-
 -- none is marked at the start
 pub none-marked : {n : ℕ} (x : ℕ) → x < n → _≡_ {A = ℕ} (getD (replicate 64 0) x 0) 1 → ⊥
-none-marked x i h = omega (arith, sym (zero-at 64 x) ∙ h)
+none-marked x i h = omega (arith, sym (repeated-at {A = ℕ} 64 x 0) ∙ h)
 
 -- the code's test of what is left
 pub some-left : (l : ℕ) (b : Bool) → (ltb 0 l && b) ≡ true → 0 < l

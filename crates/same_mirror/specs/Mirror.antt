@@ -1,5 +1,5 @@
 -- auxiliary: lists that send the atoms of a matrix to like atoms: where an atom cannot go to one of two that are alike, it cannot go to the other
-use Prim.Native.Nat.{ℕ, _*_, _+_, _<_}
+use Prim.Native.Nat.{ℕ, _*_, _+_, _-_, _<_, _≤_}
 use mathlib.Core.Path.{_≡_}
 use mathlib.Core.List.{List}
 use lib.ListN.{getD}
@@ -14,6 +14,24 @@ pub record Onto (n : ℕ) (l : List ℕ) : Type 0 where
 -- what is allowed beside an atom is allowed beside the one it goes to
 abbrev pub SameFaces : List ℕ → ℕ → List ℕ → Type 0
 SameFaces allowed n l = (c d e : ℕ) → c < classes → d < n → e < n → bit (getD allowed (maxSame * c + d) 0) e ≡ bit (getD allowed (maxSame * c + image l d) 0) (image l e)
+
+-- as many masks as classes have atoms
+abbrev pub allowedMasks : ℕ
+allowedMasks = maxSame * classes
+
+-- the bits of a mask go to those of another
+abbrev pub Carries : ℕ → List ℕ → ℕ → ℕ → Type 0
+Carries n l x y = (e : ℕ) → e < n → bit x e ≡ bit y (image l e)
+
+-- two masks are those of the class before
+pub record Repeated (allowed : List ℕ) (i j : ℕ) : Type 0 where
+  pub later : (maxSame ≤ i) × (maxSame ≤ j)
+  pub first : getD allowed i 0 ≡ getD allowed (i - maxSame) 0
+  pub second : getD allowed j 0 ≡ getD allowed (j - maxSame) 0
+
+-- the bits of a mask go to those of another, where those of the class before do
+abbrev pub FacedAfter : List ℕ → ℕ → List ℕ → ℕ → ℕ → Type 0
+FacedAfter allowed n l i j = (maxSame ≤ i → maxSame ≤ j → Carries n l (getD allowed (i - maxSame) 0) (getD allowed (j - maxSame) 0)) → Carries n l (getD allowed i 0) (getD allowed j 0)
 
 -- the candidates of each atom go to its candidates
 abbrev pub SameCandidates : List ℕ → ℕ → List ℕ → Type 0
@@ -31,3 +49,7 @@ Gone p allowed cand n v x = (t : List ℕ) → Among p allowed cand n t → imag
 -- nor to any that is marked
 abbrev pub AllGone : List ℕ → List ℕ → List ℕ → ℕ → ℕ → List ℕ → Type 0
 AllGone p allowed cand n v dead = (x : ℕ) → x < n → getD dead x 0 ≡ 1 → Gone p allowed cand n v x
+
+-- where those that are marked are gone, so are those that are marked after, if the list sends atoms to like atoms
+pub record Spreads (n : ℕ) (l dead dead′ : List ℕ) : Type 0 where
+  pub spread : (p allowed cand : List ℕ) (v : ℕ) → v < n → Like allowed cand n l → AllGone p allowed cand n v dead → AllGone p allowed cand n v dead′

@@ -5,7 +5,7 @@ ghost use mathlib.Core.List.{List};
 ghost use Prim.Native.Nat.{ℕ, _<_, _≤_};
 ghost use Rattle.same_model.specs.Same.{maxSame, image};
 ghost use Rattle.same_open.specs.Open.{bit, Goes, Faces, Among};
-ghost use Rattle.same_mirror.specs.Mirror.{Onto, SameFaces, SameCandidates, Like, Gone, AllGone};
+ghost use Rattle.same_mirror.specs.Mirror.{Onto, SameFaces, SameCandidates, Like, Gone, AllGone, Spreads, allowedMasks, Repeated, FacedAfter};
 use same_open::ALLOWED;
 use same_open::Tried;
 use same_place::CELLS;
@@ -174,6 +174,32 @@ fn is_carried(x: u64, y: u64, like: &[u8; SIDE], n: usize) -> bool
     true
 }
 
+// Whether two masks are those of the class before.
+fn is_repeated(allowed: &[u64; ALLOWED], i: usize, j: usize) -> bool
+    requires { ⌜ (i < allowedMasks) × (j < allowedMasks) ⌝ }
+    ensures { λ r. ⌜ (r ≡ true → Repeated (now (allowed .entry)) i j) ⌝ }
+{
+    if i < SIDE {
+        return false;
+    }
+    if j < SIDE {
+        return false;
+    }
+    (allowed[i] == allowed[i - SIDE]) & (allowed[j] == allowed[j - SIDE])
+}
+
+// Whether the bits of the mask at i go to those of the mask at j, where those of the class before do.
+fn is_faced(allowed: &[u64; ALLOWED], like: &[u8; SIDE], n: usize, i: usize, j: usize) -> bool
+    requires { ⌜ (n ≤ maxSame) × ((e : ℕ) → e < n → image (now like) e < n) ⌝ }
+    requires { ⌜ (i < allowedMasks) × (j < allowedMasks) ⌝ }
+    ensures { λ r. ⌜ (r ≡ true → FacedAfter (now (allowed .entry)) n (now (like .entry)) i j) ⌝ }
+{
+    if is_repeated(allowed, i, j) {
+        return true;
+    }
+    is_carried(allowed[i], allowed[j], like, n)
+}
+
 // Whether what is allowed beside an atom is allowed beside the one it goes to.
 fn has_same_faces(allowed: &[u64; ALLOWED], like: &[u8; SIDE], n: usize) -> bool
     requires { ⌜ (n ≤ maxSame) × ((e : ℕ) → e < n → image (now like) e < n) ⌝ }
@@ -183,7 +209,8 @@ fn has_same_faces(allowed: &[u64; ALLOWED], like: &[u8; SIDE], n: usize) -> bool
     while i < ALLOWED {
         let d = i % SIDE;
         if d < n {
-            if !is_carried(allowed[i], allowed[i - d + like[d] as usize], like, n) {
+            let j = i - d + like[d] as usize;
+            if !is_faced(allowed, like, n, i, j) {
                 return false;
             }
         }
@@ -221,7 +248,7 @@ fn is_like(allowed: &[u64; ALLOWED], cand: &[u64; SIDE], like: &[u8; SIDE], n: u
     has_same_faces(allowed, like, n)
 }
 
-// Whether e is like d, as far as a guess shows it.
+// Whether a guess of a list that sends d to e is right; the list.
 fn is_alike(
     q: &[u16; CELLS],
     allowed: &[u64; ALLOWED],
@@ -232,18 +259,30 @@ fn is_alike(
     v: usize,
     d: usize,
     e: usize,
+    like: &mut [u8; SIDE],
 ) -> bool
-    requires { ⌜ (n ≤ maxSame) × (v < n) × (d < n) × (e < n) ⌝ }
-    ensures { λ r. ⌜ (r ≡ true → (p : List ℕ) → Gone p (now (allowed .entry)) (now (cand .entry)) n v d → Gone p (now (allowed .entry)) (now (cand .entry)) n v e) ⌝ }
+    requires { ⌜ (n ≤ maxSame) × (d < n) × (e < n) ⌝ }
+    ensures { λ r. ⌜ (r ≡ true → Like (now (allowed .entry)) (now (cand .entry)) n (now (like .exit))) ⌝ }
 {
-    let mut like = [0u8; SIDE];
-    if !guess(q, allowed, n, ren, placed, v, d, e, &mut like) {
+    if !guess(q, allowed, n, ren, placed, v, d, e, like) {
         return false;
     }
-    if widened(like[d]) != e {
-        return false;
+    is_like(allowed, cand, like, n)
+}
+
+// Marks each atom to which one with a mark goes.
+fn spread(like: &[u8; SIDE], n: usize, dead: &mut [u8; SIDE])
+    requires { ⌜ n ≤ maxSame ⌝ }
+    ensures { λ _. ⌜ Spreads n (now (like .entry)) (now (dead .entry)) (now (dead .exit)) ⌝ }
+{
+    let mut x = 0;
+    while x < n {
+        if dead[x] == 1 {
+            let to = widened(like[x]) % SIDE;
+            dead[to] = 1;
+        }
+        x += 1;
     }
-    is_like(allowed, cand, &like, n)
 }
 
 // What is left after a cost.
@@ -256,7 +295,7 @@ fn pay(left: u32, cost: u32) -> u32
     0
 }
 
-// Marks the candidates of v from d on that are like d; what is left of a budget then.
+// Marks d and the candidates of v behind it that are shown to be like it, with what goes with them; what is left of a budget then.
 fn mark(
     q: &[u16; CELLS],
     allowed: &[u64; ALLOWED],
@@ -273,13 +312,15 @@ fn mark(
     ensures { λ r. ⌜ r ≤ budget ⌝ }
     ensures { λ _. ⌜ ((p : List ℕ) → Gone p (now (allowed .entry)) (now (cand .entry)) n v d → AllGone p (now (allowed .entry)) (now (cand .entry)) n v (now (dead .entry)) → AllGone p (now (allowed .entry)) (now (cand .entry)) n v (now (dead .exit))) ⌝ }
 {
+    dead[d] = 1;
     let mut left = budget;
-    let mut e = d;
+    let mut e = d + 1;
     while e < n {
         if ((cand[v] >> e) % 2 == 1) & (dead[e] != 1) {
             left = pay(left, COST);
-            if is_alike(q, allowed, cand, n, ren, placed, v, d, e) {
-                dead[e] = 1;
+            let mut like = [0u8; SIDE];
+            if is_alike(q, allowed, cand, n, ren, placed, v, d, e, &mut like) {
+                spread(&like, n, dead);
             }
         }
         e += 1;

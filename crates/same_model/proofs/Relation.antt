@@ -1,15 +1,14 @@
 -- Being the same compound: symmetric, reflexive where there is a placement, and a molecule is the same as each of its kekulized forms. Assumes nothing.
 use mathlib.Core.Path.{_≡_, refl, sym, ap, _∙_, subst}
-use mathlib.Core.Bool.{Bool, true, false, _&&_}
+use mathlib.Core.Bool.{true, false, _&&_}
 use mathlib.Core.List.{List, [], _∷_}
 use Prim.Native.Nat.{ℕ, zero, suc, _+_, _<_, _≤_}
 use native.Mathlib.Omega.{arith}
 use lib.IntN.{ℤ}
-use lib.Dec.{eqb, ltb}
-use lib.ListN.{length, getD, replicate, length-replicate, getD-replicate, List·getD-eq-default}
-use borrow.Author.Tests.{ltb-true, ltb-false}
+use lib.Dec.{eqb}
+use lib.ListN.{length, replicate}
 use Rattle.loops.specs.Loop.{pick, run, upTo}
-use Rattle.loops.proofs.Loops.{upTo-at, and-left, and-right}
+use Rattle.loops.proofs.Loops.{upTo-at, and-left, and-right, repeated-at}
 use Rattle.table.specs.Valid.{Valid}
 use Rattle.table.specs.Edits.{doubled, doubledBy, doubledBonds}
 use Rattle.table.proofs.Valid.{Enough}
@@ -89,17 +88,10 @@ same-sym {x} {y} w =
     }
 
 -- a row of zeros doubles nothing
-zeros-at : (m b : ℕ) → getD (replicate {A = ℕ} m 0) b 0 ≡ 0
-zeros-at m b = go (ltb b m) refl
-  where
-    go : (z : Bool) → ltb b m ≡ z → getD (replicate {A = ℕ} m 0) b 0 ≡ 0
-    go true e = getD-replicate m b 0 0 (ltb-true b m e)
-    go false e = List·getD-eq-default (replicate m 0) 0 (omega (arith, length-replicate {A = ℕ} m 0, ltb-false b m e))
-
 zeros-run : (m k j : ℕ) (t : List ℤ) → run (doubledBy (replicate m 0)) k j t ≡ t
 unfolding run doubled
 zeros-run m k zero t = refl
-zeros-run m k (suc j) t = rw (zeros-at m k) (zeros-run m (suc k) j t)
+zeros-run m k (suc j) t = rw (repeated-at {A = ℕ} m k 0) (zeros-run m (suc k) j t)
 
 pub zeros-double : (m : ℕ) (t : List ℤ) → doubledBonds (replicate m 0) m t ≡ t
 unfolding doubledBonds

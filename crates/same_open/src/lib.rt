@@ -128,7 +128,7 @@ pub fn narrow(
     live
 }
 
-// internal: the atom with the fewest candidates of those that are not placed; among equals the one with the lowest mark. 1 marks a placed atom.
+// internal: the atom with the fewest candidates of those that are not placed, the first that has only one; among equals the one with the lowest mark. 1 marks a placed atom.
 pub fn choose(cand: &[u64; SIDE], n: usize, placed: &[u8; SIDE]) -> usize
     requires { ⌜ (0 < n) × (n ≤ maxSame) ⌝ }
     ensures { λ r. ⌜ r < n ⌝ }
@@ -141,6 +141,9 @@ pub fn choose(cand: &[u64; SIDE], n: usize, placed: &[u8; SIDE]) -> usize
         let mark = placed[b];
         if mark != 1 {
             let count = u64::count_ones(cand[b]);
+            if count < 2 {
+                return b;
+            }
             if (count < fewest) | ((count == fewest) & (mark < lowest)) {
                 fewest = count;
                 lowest = mark;

@@ -55,7 +55,7 @@ bit-suc : (n j : ℕ) → bit n (suc j) ≡ bit (n / 2) j
 bit-suc n j = ap (bit n) (sym (one-add j)) ∙ sym (bit-past n 1 j)
 
 -- no digit is set below the lowest set one
-none-below : (k n j : ℕ) → j < trailingZeros k n → bit n j ≡ 1 → ⊥
+pub none-below : (k n j : ℕ) → j < trailingZeros k n → bit n j ≡ 1 → ⊥
 unfolding trailingZeros
 none-below zero n j h b = omega arith
 none-below (suc k) n j h b = go (none-below k (n / 2)) (n % 2) refl j h b
@@ -66,7 +66,7 @@ none-below (suc k) n j h b = go (none-below k (n / 2)) (n % 2) refl j h b
     go f (suc r) e j i b = omega arith
 
 -- what is left of a number without the zeros at its end is not 0
-some-left : (k n : ℕ) → 0 < n → 0 < n / 2 ^ trailingZeros k n
+pub some-left : (k n : ℕ) → 0 < n → 0 < n / 2 ^ trailingZeros k n
 unfolding trailingZeros
 some-left zero n h = rw (div-one n) h
 some-left (suc k) n h = go (some-left k (n / 2)) (n % 2) refl
@@ -83,7 +83,7 @@ digit-low : (m d : ℕ) → m < 2 ^ 64 → 0 < m / 2 ^ d → d < 64
 digit-low m d h p = cases (ltb d 64) (λ e. ltb-true d 64 e) (λ e. let z : m / 2 ^ d ≡ 0 = div-eq-of-lt (lt-of-lt-of-le h (pow-mono {i = 64} {j = d} (ltb-false d 64 e))) in absurd (omega (arith, z, p)))
 
 -- of the digits of a mask those from d on are left
-among-left : (mask d rest : ℕ) → rest ≡ mask / 2 ^ d → (x : ℕ) → d ≤ x → bit mask x ≡ 1 → bit rest (x - d) ≡ 1
+pub among-left : (mask d rest : ℕ) → rest ≡ mask / 2 ^ d → (x : ℕ) → d ≤ x → bit mask x ≡ 1 → bit rest (x - d) ≡ 1
 among-left mask d rest l x i b = let z : d + (x - d) ≡ x = omega arith in ap (λ (y : ℕ). bit y (x - d)) l ∙ bit-past mask d (x - d) ∙ ap (bit mask) z ∙ b
 
 -- a set holds what is allowed beside those of a mask that are below d

@@ -1,12 +1,13 @@
 -- A molecule in alike tables is kekulized and written the same, and tables of any length can be made longer. Assumes nothing.
 use Prim.Native.Nat.{ℕ, zero, suc, _+_, _*_, _≤_}
 use native.Mathlib.Omega.{arith}
-use mathlib.Core.Path.{_≡_, refl, ap, _∙_}
+use mathlib.Core.Path.{_≡_, refl, sym, ap, _∙_}
 use mathlib.Core.Bool.{Bool, true, false}
 use mathlib.Core.List.{List, [], _∷_, _++_}
 use lib.ListN.{length, getD, set, replicate, length-replicate, length-set, length-append}
 use lib.IntN.{ℤ, pos}
 use lib.Dec.{eqb}
+use Rattle.loops.proofs.Loops.{repeated-at}
 use Rattle.loops.specs.Loop.{pick, run}
 use Rattle.kinds.specs.Kind.{double}
 use Rattle.table.specs.Limits.{maxAtoms, maxBonds, atomCells, bondCells, SELECTED, KIND}
@@ -31,13 +32,8 @@ padded k t = t ++ replicate k (pos 0)
 pub padded-length : (k : ℕ) (t : List ℤ) → length (padded k t) ≡ length t + k
 padded-length k t = length-append t (replicate k (pos 0)) ∙ ap (λ (x : ℕ). length t + x) (length-replicate {A = ℤ} k (pos 0))
 
-zeros-clear : (k i : ℕ) → pos 0 ≡ getD (replicate k (pos 0)) i (pos 0)
-zeros-clear zero i = refl
-zeros-clear (suc k) zero = refl
-zeros-clear (suc k) (suc i) = zeros-clear k i
-
 padded-cell : (k : ℕ) (t : List ℤ) (i : ℕ) → getD t i (pos 0) ≡ getD (padded k t) i (pos 0)
-padded-cell k [] i = zeros-clear k i
+padded-cell k [] i = sym (repeated-at k i (pos 0))
 padded-cell k (x ∷ t) zero = refl
 padded-cell k (x ∷ t) (suc i) = padded-cell k t i
 

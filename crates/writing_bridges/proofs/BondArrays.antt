@@ -1,5 +1,5 @@
 -- Laws of the arrays of unused bonds. Assumes nothing.
-use Prim.Native.Nat.{ℕ, zero, suc, _+_, _-_, _<_, _≤_}
+use Prim.Native.Nat.{ℕ, suc, _+_, _-_, _<_, _≤_}
 use native.Mathlib.Omega.{arith}
 use native.Mathlib.Numerals.{add-one}
 use mathlib.Core.Path.{_≡_, refl, sym, ap, _∙_}
@@ -9,6 +9,7 @@ use lib.ListN.{length, getD, set, replicate, length-set}
 use lib.Seq.{getD-set-same, getD-set-other}
 use lib.Dec.{eqb}
 use borrow.Author.Tests.{eq-eqb, ne-eqb, eqb-true, eqb-false, lt-ltb, le-ltb}
+use Rattle.loops.proofs.Loops.{repeated-at}
 use Rattle.kinds.specs.Kind.{turned}
 use Rattle.loops.specs.Loop.{pick, upTo}
 use Rattle.writing_walk.specs.Token.{Bond, bond}
@@ -93,17 +94,12 @@ strictly x y h l = go (eqb x y) refl
     go false e = let z = eqb-false x y e in omega arith
 
 -- the marks: none yet
-zeros : (n x : ℕ) → _≡_ {A = ℕ} (getD (replicate n 0) x 0) 0
-zeros zero x = refl
-zeros (suc n) zero = refl
-zeros (suc n) (suc x) = zeros n x
-
 pub marked-start : {marks l h : List ℕ} → marks ≡ replicate (length marks) 0 → Marked marks l h 0
 marked-start {marks} e =
     record {
       los = λ i a. absurd (omega arith);
       his = λ i a. absurd (omega arith);
-      single = λ x a. absurd (let z : getD marks x 0 ≡ 0 = ap (λ (t : List ℕ). getD t x 0) e ∙ zeros (length marks) x in omega arith);
+      single = λ x a. absurd (let z : getD marks x 0 ≡ 0 = ap (λ (t : List ℕ). getD t x 0) e ∙ repeated-at (length marks) x 0 in omega arith);
     }
 
 -- a mark after one end more

@@ -7,6 +7,7 @@ use mathlib.Core.Bool.{Bool, true, false, cond}
 use mathlib.Core.List.{List, [], _∷_, _++_, append-assoc, append-nil}
 use lib.ListN.{length, getD, set, replicate, length-append, length-set}
 use lib.Seq.{getD-set-same, getD-set-other}
+use Rattle.loops.proofs.Loops.{repeated-at}
 use Rattle.loops.specs.Loop.{pick, upTo}
 use Rattle.writing_walk.specs.Token.{Bond}
 use Rattle.writing_walk.specs.Emit.{Forest, leaf, node, size, pre}
@@ -102,11 +103,6 @@ module _ {bonds : ℕ → Bond} {n m : ℕ} (fit : BondsFit bonds n m) where
             up = λ c. (let z : c + suc (size f + 0) ≡ suc c + size f = omega arith in rw (e, z, append-nil (ups f (suc c) (suc c))));
           }
 
-  unmark : (a k : ℕ) → _≡_ {A = ℕ} (getD (replicate k 0) a 0) 0
-  unmark a zero = refl
-  unmark zero (suc k) = refl
-  unmark (suc a) (suc k) = unmark a k
-
   pub sofar-start : (o v u k : List ℕ) → v ≡ replicate (length v) 0 → Sofar bonds n m (walkArrays o v u k 0) 0 (walkArrays o v u k 0)
   unfolding forestOf walkMark
   sofar-start o v u k e =
@@ -114,7 +110,7 @@ module _ {bonds : ℕ → Bond} {n m : ℕ} (fit : BondsFit bonds n m) where
       record {
         within = omega arith;
         seen = [];
-        stands = record { once = λ w. omega arith; inside = none; long = refl; marks = λ a h. ap (λ (l : List ℕ). getD l a 0) e ∙ unmark a (length v) };
+        stands = record { once = λ w. omega arith; inside = none; long = refl; marks = λ a h. ap (λ (l : List ℕ). getD l a 0) e ∙ repeated-at (length v) a 0 };
         whole = rw z;
         order = rw z;
         kind = rw z;

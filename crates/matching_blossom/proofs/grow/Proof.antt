@@ -1,12 +1,14 @@
 -- `matching_blossom::grow` is safe and ends. Assumes nothing.
 use Prim.Native.Nat.{_≤_, _-_}
+use mathlib.Core.Path.{_≡_}
+use lib.ListN.{length}
 use borrow.Author.Needs.{needs}
 use Rattle.matching.specs.Limits.{maxAtoms}
 use Rattle.matching_blossom.proofs.grow.Statement.{statement}
 use Rattle.matching_blossom.proofs.grow.Tie as tie
 
 abbrev Inv-loop : tie.InvT-loop
-Inv-loop ea eb head link mate up₀ base₀ outer₀ queue₀ count₀ at₀ up base outer queue count at = at ≤ maxAtoms
+Inv-loop ea eb head link mate up₀ base₀ outer₀ queue₀ count₀ at₀ up base outer queue count at = (at ≤ maxAtoms) × ((length up ≡ length up₀) × ((length base ≡ length base₀) × (length outer ≡ length outer₀)))
 
 abbrev μ-loop : tie.MeasureT-loop
 μ-loop ea eb head link mate up₀ base₀ outer₀ queue₀ count₀ at₀ up base outer queue count at = maxAtoms - at
@@ -20,14 +22,26 @@ push-requires c κs = search needs
 loop-holds : tie.Need-loop-holds Inv-loop μ-loop
 loop-holds c = search needs
 
-mul-t23 : tie.Need-mul-t23 Inv-loop μ-loop
-mul-t23 c = search needs
+mul-wide : tie.Need-mul-wide Inv-loop μ-loop
+mul-wide c = search needs
 
-array-read-t26 : tie.Need-array-read-t26 Inv-loop μ-loop
-array-read-t26 c = search needs
+array-read-wide : tie.Need-array-read-wide Inv-loop μ-loop
+array-read-wide c = search needs
+
+wide-requires : tie.Need-wide-requires Inv-loop μ-loop
+wide-requires c κs = search needs
 
 spread-requires : tie.Need-spread-requires Inv-loop μ-loop
 spread-requires c κs = search needs
+
+same-length : tie.Need-same-length Inv-loop μ-loop
+same-length c = search needs
+
+same-length-2 : tie.Need-same-length-2 Inv-loop μ-loop
+same-length-2 c = search needs
+
+same-length-3 : tie.Need-same-length-3 Inv-loop μ-loop
+same-length-3 c = search needs
 
 returns : tie.Need-returns Inv-loop μ-loop
 returns c = search needs
@@ -41,8 +55,26 @@ loop-less c = search needs
 loop-again : tie.Need-loop-again Inv-loop μ-loop
 loop-again c = search needs
 
+same-length-4 : tie.Need-same-length-4 Inv-loop μ-loop
+same-length-4 c = search needs
+
+same-length-5 : tie.Need-same-length-5 Inv-loop μ-loop
+same-length-5 c = search needs
+
+same-length-6 : tie.Need-same-length-6 Inv-loop μ-loop
+same-length-6 c = search needs
+
 returns-2 : tie.Need-returns-2 Inv-loop μ-loop
 returns-2 c = search needs
+
+same-length-7 : tie.Need-same-length-7 Inv-loop μ-loop
+same-length-7 c = search needs
+
+same-length-8 : tie.Need-same-length-8 Inv-loop μ-loop
+same-length-8 c = search needs
+
+same-length-9 : tie.Need-same-length-9 Inv-loop μ-loop
+same-length-9 c = search needs
 
 returns-3 : tie.Need-returns-3 Inv-loop μ-loop
 returns-3 c = search needs
@@ -56,12 +88,22 @@ grow-spec =
     reset-requires
     push-requires
     loop-holds
-    mul-t23
-    array-read-t26
+    mul-wide
+    array-read-wide
+    wide-requires
     spread-requires
+    same-length
+    same-length-2
+    same-length-3
     returns
     add-at
     loop-less
     loop-again
+    same-length-4
+    same-length-5
+    same-length-6
     returns-2
+    same-length-7
+    same-length-8
+    same-length-9
     returns-3)

@@ -1,15 +1,17 @@
 -- `matching_blossom::label` is safe and ends. Assumes nothing.
 use Prim.Native.Nat.{_≤_, _-_}
 use borrow.Author.Needs.{needs}
-use Rattle.matching.specs.Limits.{maxAtoms}
 use Rattle.matching_blossom.proofs.label.Statement.{statement}
 use Rattle.matching_blossom.proofs.label.Tie as tie
 
 abbrev Inv-loop : tie.InvT-loop
-Inv-loop up base outer lab₀ v₀ lab v = v ≤ maxAtoms
+Inv-loop up base outer lab₀ n v₀ lab v = v ≤ n
 
 abbrev μ-loop : tie.MeasureT-loop
-μ-loop up base outer lab₀ v₀ lab v = maxAtoms - v
+μ-loop up base outer lab₀ n v₀ lab v = n - v
+
+fewer-requires : tie.Need-fewer-requires Inv-loop μ-loop
+fewer-requires c κs = search needs
 
 loop-holds : tie.Need-loop-holds Inv-loop μ-loop
 loop-holds c = search needs
@@ -41,6 +43,7 @@ label-spec =
     (tie.spec
     Inv-loop
     μ-loop
+    fewer-requires
     loop-holds
     label-of-requires
     mul-lab

@@ -11,6 +11,9 @@ Inv-loop mate up base seen b₀ counter₀ b counter = counter ≤ maxAtoms
 abbrev μ-loop : tie.MeasureT-loop
 μ-loop mate up base seen b₀ counter₀ b counter = maxAtoms - counter
 
+slice-aggregate-climb : tie.Need-slice-aggregate-climb Inv-loop μ-loop
+slice-aggregate-climb c = search needs
+
 climb-requires : tie.Need-climb-requires Inv-loop μ-loop
 climb-requires c κs = search needs
 
@@ -19,6 +22,9 @@ loop-holds c = search needs
 
 get-requires : tie.Need-get-requires Inv-loop μ-loop
 get-requires c κs = search needs
+
+slice-aggregate-marked : tie.Need-slice-aggregate-marked Inv-loop μ-loop
+slice-aggregate-marked c = search needs
 
 marked-requires : tie.Need-marked-requires Inv-loop μ-loop
 marked-requires c κs = search needs
@@ -50,9 +56,11 @@ meet-spec =
     (tie.spec
     Inv-loop
     μ-loop
+    slice-aggregate-climb
     climb-requires
     loop-holds
     get-requires
+    slice-aggregate-marked
     marked-requires
     get-requires-2
     get-requires-3

@@ -1,36 +1,22 @@
 -- `matching_blossom::rebase` is safe and ends. Assumes nothing.
 use Prim.Native.Nat.{_≤_, _-_}
+use mathlib.Core.Path.{_≡_}
+use lib.ListN.{length}
 use borrow.Author.Needs.{needs}
-use Rattle.matching.specs.Limits.{maxAtoms}
 use Rattle.matching_blossom.proofs.rebase.Statement.{statement}
 use Rattle.matching_blossom.proofs.rebase.Tie as tie
 
 abbrev Inv-loop : tie.InvT-loop
-Inv-loop base₀ inside r outer₀ queue₀ count₀ v₀ base outer queue count v = v ≤ maxAtoms
+Inv-loop base₀ inside r outer₀ queue₀ count₀ n v₀ base outer queue count v = (v ≤ n) × ((length base ≡ length base₀) × (length outer ≡ length outer₀))
 
 abbrev μ-loop : tie.MeasureT-loop
-μ-loop base₀ inside r outer₀ queue₀ count₀ v₀ base outer queue count v = maxAtoms - v
+μ-loop base₀ inside r outer₀ queue₀ count₀ n v₀ base outer queue count v = n - v
 
 loop-holds : tie.Need-loop-holds Inv-loop μ-loop
 loop-holds c = search needs
 
-mul-t10 : tie.Need-mul-t10 Inv-loop μ-loop
-mul-t10 c = search needs
-
-element-copy-out-t13 : tie.Need-element-copy-out-t13 Inv-loop μ-loop
-element-copy-out-t13 c = search needs
-
-marked-requires : tie.Need-marked-requires Inv-loop μ-loop
-marked-requires c κs = search needs
-
-mul-base : tie.Need-mul-base Inv-loop μ-loop
-mul-base c = search needs
-
-element-write-base : tie.Need-element-write-base Inv-loop μ-loop
-element-write-base c = search needs
-
-push-requires : tie.Need-push-requires Inv-loop μ-loop
-push-requires c κs = search needs
+rebase-atom-requires : tie.Need-rebase-atom-requires Inv-loop μ-loop
+rebase-atom-requires c κs = search needs
 
 add-v : tie.Need-add-v Inv-loop μ-loop
 add-v c = search needs
@@ -40,6 +26,12 @@ loop-less c = search needs
 
 loop-again : tie.Need-loop-again Inv-loop μ-loop
 loop-again c = search needs
+
+same-length : tie.Need-same-length Inv-loop μ-loop
+same-length c = search needs
+
+same-length-2 : tie.Need-same-length-2 Inv-loop μ-loop
+same-length-2 c = search needs
 
 returns : tie.Need-returns Inv-loop μ-loop
 returns c = search needs
@@ -51,13 +43,10 @@ rebase-spec =
     Inv-loop
     μ-loop
     loop-holds
-    mul-t10
-    element-copy-out-t13
-    marked-requires
-    mul-base
-    element-write-base
-    push-requires
+    rebase-atom-requires
     add-v
     loop-less
     loop-again
+    same-length
+    same-length-2
     returns)

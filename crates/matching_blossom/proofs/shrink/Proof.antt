@@ -1,12 +1,14 @@
 -- `matching_blossom::shrink` is safe and ends. Assumes nothing.
 use Prim.Native.Nat.{_≤_, _-_}
+use mathlib.Core.Path.{_≡_}
+use lib.ListN.{length}
 use borrow.Author.Needs.{needs}
 use Rattle.matching.specs.Limits.{maxAtoms}
 use Rattle.matching_blossom.proofs.shrink.Statement.{statement}
 use Rattle.matching_blossom.proofs.shrink.Tie as tie
 
 abbrev Inv-loop : tie.InvT-loop
-Inv-loop mate up₀ base inside₀ r a₀ below₀ counter₀ up inside a below counter = counter ≤ maxAtoms
+Inv-loop mate up₀ base inside₀ r a₀ below₀ counter₀ up inside a below counter = (counter ≤ maxAtoms) × ((length up ≡ length up₀) × (length inside ≡ length inside₀))
 
 abbrev μ-loop : tie.MeasureT-loop
 μ-loop mate up₀ base inside₀ r a₀ below₀ counter₀ up inside a below counter = maxAtoms - counter
@@ -44,8 +46,20 @@ loop-less c = search needs
 loop-again : tie.Need-loop-again Inv-loop μ-loop
 loop-again c = search needs
 
+same-length : tie.Need-same-length Inv-loop μ-loop
+same-length c = search needs
+
+same-length-2 : tie.Need-same-length-2 Inv-loop μ-loop
+same-length-2 c = search needs
+
 returns : tie.Need-returns Inv-loop μ-loop
 returns c = search needs
+
+same-length-3 : tie.Need-same-length-3 Inv-loop μ-loop
+same-length-3 c = search needs
+
+same-length-4 : tie.Need-same-length-4 Inv-loop μ-loop
+same-length-4 c = search needs
 
 returns-2 : tie.Need-returns-2 Inv-loop μ-loop
 returns-2 c = search needs
@@ -67,5 +81,9 @@ shrink-spec =
     add-counter
     loop-less
     loop-again
+    same-length
+    same-length-2
     returns
+    same-length-3
+    same-length-4
     returns-2)

@@ -1,27 +1,26 @@
 -- `matching_blossom::tidy` is safe and ends. Assumes nothing.
 use Prim.Native.Nat.{_≤_, _-_}
+use mathlib.Core.Logic.{⊎-elim}
+use mathlib.Core.Path.{_≡_}
+use lib.ListN.{length}
 use borrow.Author.Needs.{needs}
-use Rattle.matching.specs.Limits.{maxAtoms}
 use Rattle.matching_blossom.proofs.tidy.Statement.{statement}
 use Rattle.matching_blossom.proofs.tidy.Tie as tie
 
 abbrev Inv-loop : tie.InvT-loop
-Inv-loop mate₀ ok v₀ mate v = v ≤ maxAtoms
+Inv-loop mate₀ ok n v₀ mate v = (v ≤ n) × (length mate ≡ length mate₀)
 
 abbrev μ-loop : tie.MeasureT-loop
-μ-loop mate₀ ok v₀ mate v = maxAtoms - v
+μ-loop mate₀ ok n v₀ mate v = n - v
 
 loop-holds : tie.Need-loop-holds Inv-loop μ-loop
 loop-holds c = search needs
 
-element-copy-out-if1 : tie.Need-element-copy-out-if1 Inv-loop μ-loop
-element-copy-out-if1 c = search needs
+marked-requires : tie.Need-marked-requires Inv-loop μ-loop
+marked-requires c κs = search needs
 
-mul-mate : tie.Need-mul-mate Inv-loop μ-loop
-mul-mate c = search needs
-
-element-write-mate : tie.Need-element-write-mate Inv-loop μ-loop
-element-write-mate c = search needs
+put-requires : tie.Need-put-requires Inv-loop μ-loop
+put-requires c κs = search needs
 
 add-v : tie.Need-add-v Inv-loop μ-loop
 add-v c = search needs
@@ -30,7 +29,10 @@ loop-less : tie.Need-loop-less Inv-loop μ-loop
 loop-less c = search needs
 
 loop-again : tie.Need-loop-again Inv-loop μ-loop
-loop-again c = search needs
+loop-again c = ⊎-elim (λ w. search needs) (λ w. search needs) (c .if1 .came)
+
+same-length : tie.Need-same-length Inv-loop μ-loop
+same-length c = search needs
 
 returns : tie.Need-returns Inv-loop μ-loop
 returns c = search needs
@@ -42,10 +44,10 @@ tidy-spec =
     Inv-loop
     μ-loop
     loop-holds
-    element-copy-out-if1
-    mul-mate
-    element-write-mate
+    marked-requires
+    put-requires
     add-v
     loop-less
     loop-again
+    same-length
     returns)

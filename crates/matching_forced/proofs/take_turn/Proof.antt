@@ -4,8 +4,9 @@ use Prim.Native.Nat.{ℕ}
 use native.Mathlib.Omega.{arith}
 use borrow.Author.Needs.{needs}
 use lib.ListN.{replicate, length-replicate}
+use Rattle.loops.proofs.Loops.{repeated-at}
 use Rattle.matching.specs.Limits.{maxAtoms}
-use Rattle.matching_forced.proofs.Tallies.{zeros-at, said-stuck, said-pair, said-rests}
+use Rattle.matching_forced.proofs.Tallies.{said-stuck, said-pair, said-rests}
 use Rattle.matching_forced.proofs.take_turn.Statement.{statement}
 use Rattle.matching_forced.proofs.take_turn.Tie as tie
 
@@ -13,7 +14,7 @@ slice-aggregate-fill-counts : tie.Need-slice-aggregate-fill-counts
 slice-aggregate-fill-counts c = search needs
 
 fill-counts-requires : tie.Need-fill-counts-requires
-fill-counts-requires c κs = (c .before .before .before .before .before .pre .0, ((omega (arith, c .before .before .before .before .before .pre .1 .0), c .before .before .before .before .before .pre .1 .1), zeros-at maxAtoms))
+fill-counts-requires c κs = (c .before .before .before .before .before .pre .0, ((omega (arith, c .before .before .before .before .before .pre .1 .0), c .before .before .before .before .before .pre .1 .1), λ v. repeated-at maxAtoms v 0))
 
 slice-aggregate-lowest-with : tie.Need-slice-aggregate-lowest-with
 slice-aggregate-lowest-with c = search needs

@@ -11,10 +11,10 @@ use Rattle.same_finer.proofs.round.Statement.{statement}
 use Rattle.same_finer.proofs.round.Tie as tie
 
 abbrev Inv-loop : tie.InvT-loop
-Inv-loop w n old keys₀ mixed a₀ keys a = Edited (fills (nextKey w n old)) keys₀ n a keys
+Inv-loop w near n old keys₀ mixed a₀ keys a = Edited (fills (nextKey w n old)) keys₀ n a keys
 
 abbrev μ-loop : tie.MeasureT-loop
-μ-loop w n old keys₀ mixed a₀ keys a = n - a
+μ-loop w near n old keys₀ mixed a₀ keys a = n - a
 
 slice-aggregate-mix-all : tie.Need-slice-aggregate-mix-all Inv-loop μ-loop
 slice-aggregate-mix-all c = search needs
@@ -31,8 +31,14 @@ mul-next-key c = omega arith
 element-copy-out-next-key : tie.Need-element-copy-out-next-key Inv-loop μ-loop
 element-copy-out-next-key c = omega arith
 
+mul-next-key-2 : tie.Need-mul-next-key-2 Inv-loop μ-loop
+mul-next-key-2 c = omega arith
+
+element-copy-out-next-key-2 : tie.Need-element-copy-out-next-key-2 Inv-loop μ-loop
+element-copy-out-next-key-2 c = omega arith
+
 next-key-requires : tie.Need-next-key-requires Inv-loop μ-loop
-next-key-requires c κs = let s = c .before .before .before .before .before .before .before .before in (s .pre .0, omega (arith, s .pre .0, c .before .before .loop-test .taken))
+next-key-requires c κs = let s = c .before .before .before .before .before .before .before .before .before in let i = c .before .before .before .loop-test .taken in (s .pre .0, omega (arith, s .pre .0, i), s .pre .3 (c .before .before .before .before .loop .a) i)
 
 mul-keys : tie.Need-mul-keys Inv-loop μ-loop
 mul-keys c = omega arith
@@ -48,9 +54,9 @@ loop-less c = omega arith
 
 loop-again : tie.Need-loop-again Inv-loop μ-loop
 loop-again c =
-    let s = c .before .before .before .before .before .before .before .before .before in
-    let v = c .before .before .before .before .loop in
-    filled-step (v .inv) _ (c .before .before .before .loop-test .taken) (as-next-key (s .args .w .now) (s .args .old .now) (s .args .n) (v .a) _ (c .before .before .before .before .before .before .mix-all .ensures) refl (c .next-key .ensures))
+    let s = c .before .before .before .before .before .before .before .before .before .before in
+    let v = c .before .before .before .before .before .loop in
+    filled-step (v .inv) _ (c .before .before .before .before .loop-test .taken) (as-next-key (s .args .w .now) (s .args .old .now) (s .args .n) (v .a) _ (c .before .before .before .before .before .before .before .mix-all .ensures) refl (c .next-key .ensures))
 
 returns : tie.Need-returns Inv-loop μ-loop
 returns c = filled-end (c .before .loop .inv) (c .before .before .before .before .before .before .pre .1) (c .loop-test .left)
@@ -66,6 +72,8 @@ round-spec =
     loop-holds
     mul-next-key
     element-copy-out-next-key
+    mul-next-key-2
+    element-copy-out-next-key-2
     next-key-requires
     mul-keys
     element-write-keys

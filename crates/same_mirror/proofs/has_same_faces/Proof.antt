@@ -3,7 +3,7 @@ use Prim.Native.Nat.{_-_, _%_}
 use mathlib.Core.Logic.{⊎-elim}
 use borrow.Author.Tests.{not-false}
 use native.Mathlib.Omega.{arith}
-use Rattle.same_mirror.proofs.Checking.{All, all-start, all-step, all-end, refused, Faced, faced-all}
+use Rattle.same_mirror.proofs.Checking.{All, all-start, all-step, all-end, refused, Faced, faced-next, faced-all}
 use Rattle.same_mirror.proofs.has_same_faces.Statement.{statement}
 use Rattle.same_mirror.proofs.has_same_faces.Tie as tie
 
@@ -16,32 +16,20 @@ abbrev μ-loop : tie.MeasureT-loop
 loop-holds : tie.Need-loop-holds Inv-loop μ-loop
 loop-holds c = all-start
 
-mul-is-carried : tie.Need-mul-is-carried Inv-loop μ-loop
-mul-is-carried c = omega arith
+sub-j : tie.Need-sub-j Inv-loop μ-loop
+sub-j c = omega arith
 
-element-copy-out-is-carried : tie.Need-element-copy-out-is-carried Inv-loop μ-loop
-element-copy-out-is-carried c = omega arith
+element-copy-out-j : tie.Need-element-copy-out-j Inv-loop μ-loop
+element-copy-out-j c = omega arith
 
-sub-is-carried : tie.Need-sub-is-carried Inv-loop μ-loop
-sub-is-carried c = omega arith
+cast-j : tie.Need-cast-j Inv-loop μ-loop
+cast-j c = omega (arith, c .before .before .before .before .pre .0, c .before .before .before .before .pre .1 (c .before .before .before .loop .i % 64) (c .before .if1 .taken), c .before .before .loop-test .taken)
 
-element-copy-out-is-carried-2 : tie.Need-element-copy-out-is-carried-2 Inv-loop μ-loop
-element-copy-out-is-carried-2 c = omega arith
+add-j : tie.Need-add-j Inv-loop μ-loop
+add-j c = omega (arith, c .before .before .before .before .pre .0, c .before .before .before .before .pre .1 (c .before .before .before .loop .i % 64) (c .before .if1 .taken), c .before .before .loop-test .taken)
 
-cast-is-carried : tie.Need-cast-is-carried Inv-loop μ-loop
-cast-is-carried c = omega (arith, c .before .before .before .before .before .pre .0, c .before .before .before .before .before .pre .1 (c .before .before .before .before .loop .i % 64) (c .before .before .if1 .taken), c .before .before .before .loop-test .taken)
-
-add-is-carried : tie.Need-add-is-carried Inv-loop μ-loop
-add-is-carried c = omega (arith, c .before .before .before .before .before .pre .0, c .before .before .before .before .before .pre .1 (c .before .before .before .before .loop .i % 64) (c .before .before .if1 .taken), c .before .before .before .loop-test .taken)
-
-mul-is-carried-2 : tie.Need-mul-is-carried-2 Inv-loop μ-loop
-mul-is-carried-2 c = omega (arith, c .before .before .before .before .before .pre .0, c .before .before .before .before .before .pre .1 (c .before .before .before .before .loop .i % 64) (c .before .before .if1 .taken), c .before .before .before .loop-test .taken)
-
-element-copy-out-is-carried-3 : tie.Need-element-copy-out-is-carried-3 Inv-loop μ-loop
-element-copy-out-is-carried-3 c = omega (arith, c .before .before .before .before .before .pre .0, c .before .before .before .before .before .pre .1 (c .before .before .before .before .loop .i % 64) (c .before .before .if1 .taken), c .before .before .before .loop-test .taken)
-
-is-carried-requires : tie.Need-is-carried-requires Inv-loop μ-loop
-is-carried-requires c κs = c .before .before .before .before .before .before .pre
+is-faced-requires : tie.Need-is-faced-requires Inv-loop μ-loop
+is-faced-requires c κs = (c .before .before .before .before .pre, omega (arith, c .before .before .before .before .pre .0, c .before .before .before .before .pre .1 (c .before .before .before .loop .i % 64) (c .before .if1 .taken), c .before .before .loop-test .taken))
 
 returns : tie.Need-returns Inv-loop μ-loop
 returns c = refused
@@ -54,9 +42,10 @@ loop-less c = omega arith
 
 loop-again : tie.Need-loop-again Inv-loop μ-loop
 loop-again c =
+    let g = c .before .before .before .args in
     all-step (c .before .before .loop .inv) (omega (arith, c .before .loop-test .taken))
     (⊎-elim
-    (λ w i. w .4 .ensures (not-false (w .4 .result) (w .5 .left)))
+    (λ w. faced-next (g .allowed .now) (g .like .now) (c .before .before .loop .inv) (w .0 .taken) (w .2 .ensures (not-false (w .2 .result) (w .3 .left))))
     (λ w i. absurd (omega (arith, w .left)))
     (c .if1 .came))
 
@@ -72,15 +61,11 @@ has-same-faces-spec =
     Inv-loop
     μ-loop
     loop-holds
-    mul-is-carried
-    element-copy-out-is-carried
-    sub-is-carried
-    element-copy-out-is-carried-2
-    cast-is-carried
-    add-is-carried
-    mul-is-carried-2
-    element-copy-out-is-carried-3
-    is-carried-requires
+    sub-j
+    element-copy-out-j
+    cast-j
+    add-j
+    is-faced-requires
     returns
     add-i
     loop-less

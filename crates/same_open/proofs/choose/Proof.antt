@@ -23,6 +23,9 @@ mul-count c = omega arith
 element-copy-out-count : tie.Need-element-copy-out-count Inv-loop μ-loop
 element-copy-out-count c = omega arith
 
+returns : tie.Need-returns Inv-loop μ-loop
+returns c = omega arith
+
 add-b : tie.Need-add-b Inv-loop μ-loop
 add-b c = omega arith
 
@@ -32,8 +35,8 @@ loop-less c = omega arith
 loop-again : tie.Need-loop-again Inv-loop μ-loop
 loop-again c = ⊎-elim (λ w. omega arith) (⊎-elim (λ w. omega arith) (λ w. omega arith)) (c .if1 .came)
 
-returns : tie.Need-returns Inv-loop μ-loop
-returns c = omega arith
+returns-2 : tie.Need-returns-2 Inv-loop μ-loop
+returns-2 c = omega arith
 
 pub choose-spec : {M : Type 1} → statement M
 choose-spec =
@@ -45,7 +48,8 @@ choose-spec =
     element-copy-out-mark
     mul-count
     element-copy-out-count
+    returns
     add-b
     loop-less
     loop-again
-    returns)
+    returns-2)

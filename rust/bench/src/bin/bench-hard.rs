@@ -1,10 +1,12 @@
 //! Measures the pairs of `compare::hard`: for each family the slowest pair, in CPU time. Each pair is
 //! asked in a process of its own, which is ended when it takes longer than a limit.
-//! `bench-hard [SECONDS]`, or `bench-hard FAMILY PAIR` for one pair.
+//! `bench-hard [SECONDS]`, `bench-hard FAMILY PAIR` for one pair, or `bench-hard texts` for the pairs as
+//! texts, which `peers/peers.py` hands to other libraries.
 
 #[path = "../clock.rs"]
 mod clock;
 
+use balsa_reference::write;
 use compare::buffers::Buffers;
 use compare::hard::families;
 use compare::implementation::{Answer, Implementation};
@@ -16,6 +18,9 @@ use std::time::{Duration, Instant};
 
 fn main() {
     let words: Vec<String> = env::args().skip(1).collect();
+    if words == ["texts"] {
+        return texts();
+    }
     let numbers: Vec<usize> = words.iter().filter_map(|word| word.parse().ok()).collect();
     match numbers[..] {
         [family, pair] => one(family, pair),
@@ -33,6 +38,19 @@ fn one(family: usize, pair: usize) {
     let time = clock::time(|| answer = Proved.same(&mut first, &mut second));
     assert_eq!(answer, Answer::of(usize::from(*is_same)), "a wrong answer");
     println!("{}", time.as_secs_f64() * 1e3);
+}
+
+/// Prints each pair as a line: the family, the answer and both texts. A pair that cannot be written is left out.
+fn texts() {
+    for family in families() {
+        for (one, other, is_same) in &family.pairs {
+            let answer = if *is_same { "same" } else { "different" };
+            if let (Ok(one), Ok(other)) = (write(one), write(other)) {
+                let [one, other] = [one, other].map(|w| String::from_utf8(w.text).expect("ASCII"));
+                println!("{}\t{answer}\t{one}\t{other}", family.name);
+            }
+        }
+    }
 }
 
 /// The slowest pairs of each family, "yes" and "no", and how many took over 50 milliseconds.
