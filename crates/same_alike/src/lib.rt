@@ -7,7 +7,7 @@ ghost use lib.ListN.{take, getD, length};
 ghost use Rattle.loops.specs.Loop.{each};
 ghost use Rattle.same_model.specs.Same.{maxSame};
 ghost use Rattle.same_place.specs.Place.{Prefix};
-ghost use Rattle.same_finer.specs.Finer.{waysBy, Hopeless};
+ghost use Rattle.same_finer.specs.Finer.{waysBy, Hopeless, Nears};
 ghost use Rattle.same_alike.specs.Alike.{likePair, likeRow, isInside, isFixed, Like};
 use same_place::CELLS;
 use same_place::SIDE;
@@ -179,20 +179,28 @@ fn is_shared(keys: &[u64; SIDE], n: usize, v: usize) -> bool
 }
 
 // A guess of a list that sends e to d: keys are made finer with e told apart, and with d.
-fn guess(w2: &[u16; CELLS], k2: &[u64; SIDE], n: usize, e: usize, d: usize, tau: &mut [u8; SIDE])
-    requires { ⌜ (n ≤ maxSame) × (e < n) × (d < n) × (n ≤ length (now k2)) ⌝ }
+fn guess(
+    w2: &[u16; CELLS],
+    near2: &[u64; SIDE],
+    k2: &[u64; SIDE],
+    n: usize,
+    e: usize,
+    d: usize,
+    tau: &mut [u8; SIDE],
+)
+    requires { ⌜ (n ≤ maxSame) × (e < n) × (d < n) × (n ≤ length (now k2)) × Nears (now w2) n (now near2) ⌝ }
 {
     let mut ka = *k2;
-    same_finer::tell(w2, n, e, &mut ka);
+    same_finer::tell(w2, near2, n, e, &mut ka);
     let mut kb = *k2;
-    same_finer::tell(w2, n, d, &mut kb);
+    same_finer::tell(w2, near2, n, d, &mut kb);
     let mut v = 0;
     while v < n {
         let w = partner(&ka, &kb, n, v);
         tau[v] = w as u8;
         if (v != w) & is_shared(&ka, n, v) {
-            same_finer::tell(w2, n, v, &mut ka);
-            same_finer::tell(w2, n, w, &mut kb);
+            same_finer::tell(w2, near2, n, v, &mut ka);
+            same_finer::tell(w2, near2, n, w, &mut kb);
         }
         v += 1;
     }
@@ -204,6 +212,7 @@ fn mark_like(
     o2: &[u16; CELLS],
     ok: &[u8; CELLS],
     w2: &[u16; CELLS],
+    near2: &[u64; SIDE],
     k2: &[u64; SIDE],
     n: usize,
     ren: &[u8; SIDE],
@@ -212,12 +221,12 @@ fn mark_like(
     e: usize,
     dead: &mut [u8; SIDE],
 ) -> bool
-    requires { ⌜ Prefix n (now ren) from × (from < n) × (d < n) × (e < n) × (n ≤ length (now k2)) ⌝ }
+    requires { ⌜ Prefix n (now ren) from × (from < n) × (d < n) × (e < n) × (n ≤ length (now k2)) × Nears (now w2) n (now near2) ⌝ }
     requires { ⌜ Hopeless (now o1) (now o2) (now ok) n (take from (now ren)) (n - (from + 1)) (now dead) ⌝ }
     ensures { λ _. ⌜ Hopeless (now (o1 .entry)) (now (o2 .entry)) (now (ok .entry)) n (take from (now (ren .entry))) (n - (from + 1)) (now (dead .exit)) ⌝ }
 {
     let mut tau = [0u8; SIDE];
-    guess(w2, k2, n, e, d, &mut tau);
+    guess(w2, near2, k2, n, e, d, &mut tau);
     if !is_like(o2, ok, &tau, n, ren, from) {
         return false;
     }
@@ -253,6 +262,7 @@ pub fn mark(
     o2: &[u16; CELLS],
     ok: &[u8; CELLS],
     w2: &[u16; CELLS],
+    near2: &[u64; SIDE],
     k2: &[u64; SIDE],
     n: usize,
     ren: &[u8; SIDE],
@@ -261,7 +271,7 @@ pub fn mark(
     luck: &mut [u32; 2],
     dead: &mut [u8; SIDE],
 )
-    requires { ⌜ Prefix n (now ren) from × (from < n) × (d < n) × (n ≤ length (now k2)) ⌝ }
+    requires { ⌜ Prefix n (now ren) from × (from < n) × (d < n) × (n ≤ length (now k2)) × Nears (now w2) n (now near2) ⌝ }
     requires { ⌜ waysBy (now o1) (now o2) (now ok) n (take from (now ren)) (n - (from + 1)) d ≡ [] ⌝ }
     requires { ⌜ Hopeless (now o1) (now o2) (now ok) n (take from (now ren)) (n - (from + 1)) (now dead) ⌝ }
     ensures { λ _. ⌜ Hopeless (now (o1 .entry)) (now (o2 .entry)) (now (ok .entry)) n (take from (now (ren .entry))) (n - (from + 1)) (now (dead .exit)) ⌝ }
@@ -271,7 +281,7 @@ pub fn mark(
     while e < n {
         let lucky = is_lucky(luck);
         if lucky & (dead[e] != 1) & (k2[e] == k2[d]) {
-            let right = mark_like(o1, o2, ok, w2, k2, n, ren, from, d, e, dead);
+            let right = mark_like(o1, o2, ok, w2, near2, k2, n, ren, from, d, e, dead);
             count(luck, right);
         }
         e += 1;

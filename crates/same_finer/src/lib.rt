@@ -94,8 +94,8 @@ fn weighty(w: &[u16; CELLS], n: usize, a: usize) -> u64
     mask
 }
 
-// These for each of n atoms.
-fn fill_weighty(w: &[u16; CELLS], n: usize, near: &mut [u64; SIDE])
+// internal: these for each of n atoms.
+pub fn fill_weighty(w: &[u16; CELLS], n: usize, near: &mut [u64; SIDE])
     requires { ⌜ (n ≤ maxSame) × (n ≤ length (now near)) ⌝ }
     ensures { λ _. ⌜ Nears (now (w .entry)) n (now (near .exit)) ⌝ }
 {
@@ -140,27 +140,25 @@ fn round(w: &[u16; CELLS], near: &[u64; SIDE], n: usize, old: &[u64; SIDE], keys
 }
 
 // internal: r rounds.
-pub fn make_finer(w: &[u16; CELLS], n: usize, r: usize, keys: &mut [u64; SIDE])
-    requires { ⌜ (n ≤ maxSame) × (n ≤ length (now keys)) ⌝ }
+pub fn make_finer(w: &[u16; CELLS], near: &[u64; SIDE], n: usize, r: usize, keys: &mut [u64; SIDE])
+    requires { ⌜ (n ≤ maxSame) × (n ≤ length (now keys)) × Nears (now w) n (now near) ⌝ }
     ensures { λ _. ⌜ now (keys .exit) ≡ finer (now (w .entry)) n r (now (keys .entry)) ⌝ }
 {
-    let mut near = [0u64; SIDE];
-    fill_weighty(w, n, &mut near);
     let mut i = 0;
     while i < r {
         let old = *keys;
-        round(w, &near, n, &old, keys);
+        round(w, near, n, &old, keys);
         i += 1;
     }
 }
 
 // internal: an atom told apart, and three rounds; answers the sum of the keys then.
-pub fn tell(w: &[u16; CELLS], n: usize, v: usize, keys: &mut [u64; SIDE]) -> u64
-    requires { ⌜ (n ≤ maxSame) × (v < n) × (n ≤ length (now keys)) ⌝ }
+pub fn tell(w: &[u16; CELLS], near: &[u64; SIDE], n: usize, v: usize, keys: &mut [u64; SIDE]) -> u64
+    requires { ⌜ (n ≤ maxSame) × (v < n) × (n ≤ length (now keys)) × Nears (now w) n (now near) ⌝ }
     ensures { λ _. ⌜ now (keys .exit) ≡ finerTold (now (w .entry)) n (now (keys .entry)) v ⌝ }
     ensures { λ r. ⌜ r ≡ keySum (finerTold (now (w .entry)) n (now (keys .entry)) v) n ⌝ }
 {
     keys[v] = keys[v] % PRIME + 1000003;
-    make_finer(w, n, 3, keys);
+    make_finer(w, near, n, 3, keys);
     same_keys::key_sum(keys, n)
 }

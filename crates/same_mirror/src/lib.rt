@@ -328,7 +328,7 @@ fn mark(
     left
 }
 
-// Tries the candidates of one atom after the other, but those like one that led nowhere at some cost.
+// Tries the candidates of one atom after the other, but those like one that led nowhere at some cost. What was seen of the candidates only saves time.
 fn search(
     p: &[u16; CELLS],
     near: &[u8; CELLS],
@@ -337,6 +337,7 @@ fn search(
     cand: &[u64; SIDE],
     n: usize,
     rest: usize,
+    seen: &[u64; SIDE],
     placed: &mut [u8; SIDE],
     ren: &mut [u8; SIDE],
     budget: u32,
@@ -366,9 +367,33 @@ fn search(
         if ((cand[v] >> d) % 2 == 1) & (dead[d] != 1) {
             left -= 1;
             let mut next = [0u64; SIDE];
-            if same_support::narrow_near(p, near, allowed, cand, n, v, d, placed, &mut next) {
+            let mut told = *seen;
+            if same_support::narrow_near(
+                p,
+                near,
+                allowed,
+                cand,
+                n,
+                v,
+                d,
+                placed,
+                &mut told,
+                &mut next,
+            ) {
                 ren[v] = d as u8;
-                let tried = search(p, near, q, allowed, &next, n, rest - 1, placed, ren, left);
+                let tried = search(
+                    p,
+                    near,
+                    q,
+                    allowed,
+                    &next,
+                    n,
+                    rest - 1,
+                    &told,
+                    placed,
+                    ren,
+                    left,
+                );
                 if tried.found {
                     return tried;
                 }
@@ -407,5 +432,24 @@ pub fn seek(
     let mut placed = *marks;
     let mut near = [0u8; CELLS];
     same_support::fill_near(p, n, &mut near);
-    search(p, &near, q, allowed, &cand, n, n, &mut placed, ren, budget)
+    let mut seen = [0u64; SIDE];
+    if !same_support::settle_all(p, &near, allowed, n, &placed, &mut seen, &mut cand) {
+        return Tried {
+            found: false,
+            left: budget,
+        };
+    }
+    search(
+        p,
+        &near,
+        q,
+        allowed,
+        &cand,
+        n,
+        n,
+        &seen,
+        &mut placed,
+        ren,
+        budget,
+    )
 }

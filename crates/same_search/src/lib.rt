@@ -6,6 +6,7 @@ ghost use Rattle.loops.specs.Loop.{each};
 ghost use lib.ListN.{take, getD, length};
 ghost use Rattle.same_model.specs.Same.{maxSame};
 ghost use Rattle.same_place.specs.Place.{goods, Prefix, Solved};
+ghost use Rattle.same_finer.specs.Finer.{Nears};
 ghost use Rattle.same_search.specs.Search.{Trial, Level, hopeful, agreeing};
 use same_place::CELLS;
 use same_place::SIDE;
@@ -93,6 +94,8 @@ fn search(
     ok: &[u8; CELLS],
     w1: &[u16; CELLS],
     w2: &[u16; CELLS],
+    near1: &[u64; SIDE],
+    near2: &[u64; SIDE],
     k1: &[u64; SIDE],
     k2: &[u64; SIDE],
     n: usize,
@@ -102,6 +105,7 @@ fn search(
 ) -> bool
     requires { ⌜ Prefix n (now ren) from ⌝ }
     requires { ⌜ Level (now o1) (now o2) (now ok) (now w1) (now w2) (now k1) (now k2) n (now ren) from ⌝ }
+    requires { ⌜ Nears (now w1) n (now near1) × Nears (now w2) n (now near2) ⌝ }
     ensures { λ r. ⌜ Solved (goods (now (o1 .entry)) (now (o2 .entry)) (now (ok .entry)) n (take from (now (ren .entry))) (n - from)) n from (now (ren .entry)) r (now (ren .exit)) ⌝ }
 {
     if from == n {
@@ -109,18 +113,32 @@ fn search(
     }
     let next = from + 1;
     let mut told1 = *k1;
-    let sum1 = same_finer::tell(w1, n, from, &mut told1);
+    let sum1 = same_finer::tell(w1, near1, n, from, &mut told1);
     let mut dead = [0u8; SIDE];
     let mut d = 0;
     while d < n {
         if is_hopeful(o1, o2, ok, k1, k2, &dead, ren, from, d) {
             let mut told2 = *k2;
-            if same_finer::tell(w2, n, d, &mut told2) == sum1 {
+            if same_finer::tell(w2, near2, n, d, &mut told2) == sum1 {
                 ren[from] = d as u8;
-                if search(o1, o2, ok, w1, w2, &told1, &told2, n, ren, next, luck) {
+                if search(
+                    o1,
+                    o2,
+                    ok,
+                    w1,
+                    w2,
+                    near1,
+                    near2,
+                    &told1,
+                    &told2,
+                    n,
+                    ren,
+                    next,
+                    luck,
+                ) {
                     return true;
                 }
-                same_alike::mark(o1, o2, ok, w2, k2, n, ren, from, d, luck, &mut dead);
+                same_alike::mark(o1, o2, ok, w2, near2, k2, n, ren, from, d, luck, &mut dead);
             }
         }
         d += 1;
@@ -221,10 +239,28 @@ fn search_finely(
     if !(fair1 & fair2 & fair) {
         return same_place::solve(o1, o2, ok, n, ren, 0);
     }
-    same_finer::make_finer(&w1, n, 4, &mut k1);
-    same_finer::make_finer(&w2, n, 4, &mut k2);
+    let mut near1 = [0u64; SIDE];
+    same_finer::fill_weighty(&w1, n, &mut near1);
+    let mut near2 = [0u64; SIDE];
+    same_finer::fill_weighty(&w2, n, &mut near2);
+    same_finer::make_finer(&w1, &near1, n, 4, &mut k1);
+    same_finer::make_finer(&w2, &near2, n, 4, &mut k2);
     let mut luck = [0u32; 2];
-    search(o1, o2, ok, &w1, &w2, &k1, &k2, n, ren, 0, &mut luck)
+    search(
+        o1,
+        o2,
+        ok,
+        &w1,
+        &w2,
+        &near1,
+        &near2,
+        &k1,
+        &k2,
+        n,
+        ren,
+        0,
+        &mut luck,
+    )
 }
 
 // internal: the smallest renumbering, written to the list: first as it comes, and where that takes long with keys made finer.

@@ -1,17 +1,18 @@
 -- What the candidates of an atom leave to a neighbour: no renumbering among candidates is lost. Assumes nothing.
-use mathlib.Core.Path.{_≡_, refl, sym, subst}
-use mathlib.Core.Bool.{Bool, true, false, not}
+use mathlib.Core.Path.{_≡_, refl, sym, _∙_, subst}
+use mathlib.Core.Bool.{Bool, false, not}
 use mathlib.Core.List.{List}
 use Prim.Native.Nat.{ℕ, _<_}
+use native.Mathlib.Omega.{arith}
 use lib.Dec.{eqb}
 use lib.ListN.{length, getD, set}
 use lib.Seq.{getD-set-same, getD-set-other}
 use lib.Bits.{bitAnd}
 use borrow.Author.Tests.{eqb-true, not-false}
-use Rattle.matching.proofs.Graph.{never}
 use Rattle.same_model.specs.Same.{image}
 use Rattle.same_place.specs.Place.{entry}
-use Rattle.same_open.specs.Open.{classOf, bit, Among}
+use Rattle.same_open.specs.Open.{classes, classOf, bit, Among}
+use Rattle.same_open.proofs.Laws.{class-told}
 use Rattle.same_open.proofs.Masks.{bit-both, bit-none, by-equal}
 use Rattle.same_support.specs.Support.{Supported, Reaches, Leaves}
 
@@ -24,18 +25,9 @@ leaves-kept next b mask h g =
       none = λ f e i j. bit-none (bitAnd (getD next b 0) mask) e (eqb-true (bitAnd (getD next b 0) mask) 0 (not-false (eqb (bitAnd (getD next b 0) mask) 0) f)) (bit-both (getD next b 0) mask e i j);
     }
 
--- where nothing is changed, whatever is asked for is left
-pub leaves-all : {next : List ℕ} {b : ℕ} {P : ℕ → Type 0} → Leaves next b P true next
-leaves-all = record { at = λ e i j. i; others = λ a f. refl; none = λ f. absurd (never true refl f) }
-
 -- a mask that holds all that is supported leaves all that is supported
-pub leaves-supported : (allowed : List ℕ) (n mask s : ℕ) {k c b : ℕ} {next next′ : List ℕ} {r : Bool} → c ≡ k → Reaches allowed n mask k s → Leaves next b (λ e. bit s e ≡ 1) r next′ → Leaves next b (Supported allowed n mask c) r next′
-leaves-supported allowed n mask s q f l =
-    rw q record {
-      at = λ e i j. l .at e i (f e j);
-      others = l .others;
-      none = λ g e i j. l .none g e i (f e j);
-    }
+leaves-supported : (allowed : List ℕ) (n mask c s : ℕ) {b : ℕ} {next next′ : List ℕ} {r : Bool} → Reaches allowed n mask c s → Leaves next b (λ e. bit s e ≡ 1) r next′ → Leaves next b (Supported allowed n mask c) r next′
+leaves-supported allowed n mask c s f l = record { at = λ e i j. l .at e i (f e j); others = l .others; none = λ g e i j. l .none g e i (f e j) }
 
 -- no renumbering among candidates is lost from one list of candidates to another
 pub record Follows (p allowed : List ℕ) (n : ℕ) (next₀ next : List ℕ) : Type 0 where
@@ -77,5 +69,42 @@ module _ {p allowed : List ℕ} {n : ℕ} where
       }
 
   -- where nothing is left to a neighbour there is no renumbering
-  pub follows-none : {next₀ next next′ : List ℕ} {w b k : ℕ} {r : Bool} → Follows p allowed n next₀ next → w < n → b < n → (b ≡ w → ⊥) → k ≡ classOf (entry p w b) → Leaves next b (Supported allowed n (getD next₀ w 0) k) r next′ → r ≡ false → (t : List ℕ) → Among p allowed next₀ n t → ⊥
+  follows-none : {next₀ next next′ : List ℕ} {w b k : ℕ} {r : Bool} → Follows p allowed n next₀ next → w < n → b < n → (b ≡ w → ⊥) → k ≡ classOf (entry p w b) → Leaves next b (Supported allowed n (getD next₀ w 0) k) r next′ → r ≡ false → (t : List ℕ) → Among p allowed next₀ n t → ⊥
   follows-none {b = b} v i j f q l e t a = l .none e (image t b) (v .among t a .kept b j) (supported t i j f q a)
+
+-- beside this, the candidates of w stay, and a set holds what they support by a class
+pub record Spreads (p allowed : List ℕ) (n w : ℕ) (next₀ next : List ℕ) (c side : ℕ) : Type 0 where
+  pub follows : Follows p allowed n next₀ next
+  pub kept : getD next w 0 ≡ getD next₀ w 0
+  pub told : c < classes → Reaches allowed n (getD next₀ w 0) c side
+
+module _ {p allowed : List ℕ} {n w : ℕ} where
+  -- so it is at first, for no class
+  pub spreads-start : {next : List ℕ} → Spreads p allowed n w next next classes 0
+  spreads-start = record { follows = follows-start; kept = refl; told = λ h. absurd (omega arith) }
+
+  module _ {next₀ next : List ℕ} {c side : ℕ} (v : Spreads p allowed n w next₀ next c side) where
+    -- and where nothing is changed
+    pub spreads-same : {next′ : List ℕ} {c′ side′ : ℕ} → next′ ≡ next → c′ ≡ c → side′ ≡ side → Spreads p allowed n w next₀ next′ c′ side′
+    spreads-same e f g = rw (e, f, g) v
+
+    -- the class of a neighbour is another, and the set is gathered for it: then it is the class that is kept
+    pub spreads-new : {x k r c′ side′ : ℕ} → k ≡ x → c′ ≡ k → side′ ≡ r → Reaches allowed n (getD next w 0) k r → (c′ ≡ x) × Spreads p allowed n w next₀ next c′ side′
+    spreads-new {k = k} {r} q e f g = (e ∙ q, record { follows = v .follows; kept = v .kept; told = λ h. rw (e, f) (subst (λ (m : ℕ). Reaches allowed n m k r) (v .kept) g) })
+
+    -- or it is the one that was kept
+    pub spreads-old : {x k c′ side′ : ℕ} → k ≡ x → k ≡ c → c′ ≡ c → side′ ≡ side → (c′ ≡ x) × Spreads p allowed n w next₀ next c′ side′
+    spreads-old q z e f = (e ∙ sym z ∙ q, spreads-same refl e f)
+
+  module _ {next₀ next next′ : List ℕ} {b c side : ℕ} {r : Bool} (v : (c ≡ classOf (entry p w b)) × Spreads p allowed n w next₀ next c side) (i : w < n) (j : b < n) (f : b ≡ w → ⊥) (l : Leaves next b (λ e. bit side e ≡ 1) r next′) where
+    -- what the set leaves to the neighbour holds all that is supported
+    left : Leaves next b (Supported allowed n (getD next₀ w 0) c) r next′
+    left = leaves-supported allowed n (getD next₀ w 0) c side (v .1 .told (class-told c (entry p w b) (v .0))) l
+
+    -- so it keeps every renumbering
+    pub spreads-step : Spreads p allowed n w next₀ next′ c side
+    spreads-step = record { follows = follows-step (v .1 .follows) i j f (v .0) left; kept = l .others w (λ z. f (sym z)) ∙ v .1 .kept; told = v .1 .told }
+
+    -- and where nothing is left there is none
+    pub spreads-none : r ≡ false → (t : List ℕ) → Among p allowed next₀ n t → ⊥
+    spreads-none = follows-none (v .1 .follows) i j f (v .0) left

@@ -18,7 +18,7 @@ use Rattle.same_model.specs.Same.{maxSame}
 use Rattle.same_open.specs.Open.{bit}
 use Rattle.same_open.proofs.Laws.{cases}
 use Rattle.same_open.proofs.Masks.{bit-none, by-equal}
-use Rattle.same_support.specs.Support.{Reaches, Besides}
+use Rattle.same_support.specs.Support.{Reaches}
 
 -- the larger of 1 and a digit is 1
 one-top : (y : ℕ) → y < 2 → max 1 y ≡ 1
@@ -117,20 +117,17 @@ reached-end {allowed} {mask} {d} {c} {r} {rest} n l z f e s =
     (λ w. f .reached e (s .0) (ltb-true (s .0) d w) (s .2) (s .3))
     (λ w. let g = ltb-false (s .0) d w in absurd (bit-none rest (s .0 - d) (z (omega (arith, g, s .1))) (among-left mask d rest l (s .0) g (s .2))))
 
--- the digits of a mask from d on are left, and four sets hold what the others reach
-pub record Gone (allowed : List ℕ) (mask single double triple opened rest d : ℕ) : Type 0 where
+-- the digits of a mask from d on are left, and a set holds what the others reach
+pub record Gone (allowed : List ℕ) (mask c side rest d : ℕ) : Type 0 where
   pub low : mask < 2 ^ 64
   pub left : rest ≡ mask / 2 ^ d
-  pub at1 : Reached allowed mask d 1 single
-  pub at2 : Reached allowed mask d 2 double
-  pub at3 : Reached allowed mask d 3 triple
-  pub at4 : Reached allowed mask d 4 opened
+  pub at : Reached allowed mask d c side
 
 -- so it is at first
-pub gone-start : {allowed : List ℕ} {mask : ℕ} → mask < 2 ^ 64 → Gone allowed mask 0 0 0 0 mask 0
-gone-start {allowed} {mask} h = record { low = h; left = sym (div-one mask); at1 = none-reached; at2 = none-reached; at3 = none-reached; at4 = none-reached }
+pub gone-start : {allowed : List ℕ} {mask c : ℕ} → mask < 2 ^ 64 → Gone allowed mask c 0 mask 0
+gone-start {allowed} {mask} h = record { low = h; left = sym (div-one mask); at = none-reached }
 
-module _ {allowed : List ℕ} {mask single double triple opened rest d : ℕ} (w : Gone allowed mask single double triple opened rest d) where
+module _ {allowed : List ℕ} {mask c side rest d : ℕ} (w : Gone allowed mask c side rest d) where
   -- the next digit is one of the 64
   pub gone-low : (n : ℕ) → (ltb d n && not (eqb rest 0)) ≡ true → d + trailingZeros 64 rest < 64
   gone-low n h =
@@ -140,34 +137,15 @@ module _ {allowed : List ℕ} {mask single double triple opened rest d : ℕ} (w
       digit-low mask (d + t) (w .low) (subst (λ (x : ℕ). 0 < x) (ap (λ (x : ℕ). x / 2 ^ t) (w .left) ∙ shr-shr mask d t) (some-left 64 rest p))
 
   -- and after the next digit
-  pub gone-step :
-      Gone
-      allowed
-      mask
-      (bitOr single (getD allowed (64 + (d + trailingZeros 64 rest)) 0))
-      (bitOr double (getD allowed (128 + (d + trailingZeros 64 rest)) 0))
-      (bitOr triple (getD allowed (192 + (d + trailingZeros 64 rest)) 0))
-      (bitOr opened (getD allowed (256 + (d + trailingZeros 64 rest)) 0))
-      (rest / 2 ^ trailingZeros 64 rest / 2)
-      (d + trailingZeros 64 rest + 1)
+  pub gone-step : Gone allowed mask c (bitOr side (getD allowed (64 * c + (d + trailingZeros 64 rest)) 0)) (rest / 2 ^ trailingZeros 64 rest / 2) (d + trailingZeros 64 rest + 1)
   gone-step =
       let t = trailingZeros 64 rest in
       record {
         low = w .low;
         left = ap (λ (x : ℕ). x / 2 ^ t / 2) (w .left) ∙ ap (λ (x : ℕ). x / 2) (shr-shr mask d t) ∙ shr-shr mask (d + t) 1;
-        at1 = reached-step (w .left) (w .at1);
-        at2 = reached-step (w .left) (w .at2);
-        at3 = reached-step (w .left) (w .at3);
-        at4 = reached-step (w .left) (w .at4);
+        at = reached-step (w .left) (w .at);
       }
 
   -- where the loop ends, all are reached
-  pub gone-end : (n : ℕ) → (ltb d n && not (eqb rest 0)) ≡ false → Besides allowed n mask (record { single = single; double = double; triple = triple; opened = opened })
-  gone-end n h =
-      let z : d < n → rest ≡ 0 = λ i. eqb-true rest 0 (not-false (eqb rest 0) (subst (λ (b : Bool). (b && not (eqb rest 0)) ≡ false) (lt-ltb d n i) h)) in
-      record {
-        single = reached-end n (w .left) z (w .at1);
-        double = reached-end n (w .left) z (w .at2);
-        triple = reached-end n (w .left) z (w .at3);
-        opened = reached-end n (w .left) z (w .at4);
-      }
+  pub gone-end : (n : ℕ) → (ltb d n && not (eqb rest 0)) ≡ false → Reaches allowed n mask c side
+  gone-end n h = reached-end n (w .left) (λ i. eqb-true rest 0 (not-false (eqb rest 0) (subst (λ (b : Bool). (b && not (eqb rest 0)) ≡ false) (lt-ltb d n i) h))) (w .at)

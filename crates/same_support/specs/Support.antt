@@ -6,7 +6,6 @@ use mathlib.Core.List.{List}
 use lib.ListN.{getD}
 use Rattle.same_model.specs.Same.{maxSame}
 use Rattle.same_open.specs.Open.{bit}
-use Rattle.same_support.specs.declared.Beside.{Beside}
 
 -- the atom e is allowed beside some atom of a mask, by a class
 abbrev pub Supported : List ℕ → ℕ → ℕ → ℕ → ℕ → Type 0
@@ -15,13 +14,6 @@ Supported allowed n mask c e = (d : ℕ) × (d < n) × (bit mask d ≡ 1) × (bi
 -- a set holds all of these
 abbrev pub Reaches : List ℕ → ℕ → ℕ → ℕ → ℕ → Type 0
 Reaches allowed n mask c r = (e : ℕ) → Supported allowed n mask c e → bit r e ≡ 1
-
--- for each class of a bond
-pub record Besides (allowed : List ℕ) (n mask : ℕ) (s : Beside) : Type 0 where
-  pub single : Reaches allowed n mask 1 (s .single)
-  pub double : Reaches allowed n mask 2 (s .double)
-  pub triple : Reaches allowed n mask 3 (s .triple)
-  pub opened : Reaches allowed n mask 4 (s .opened)
 
 -- of the candidates of b those with a property are left, those of other atoms stay; where it is told that none is left there is none
 pub record Leaves (next : List ℕ) (b : ℕ) (P : ℕ → Type 0) (r : Bool) (next′ : List ℕ) : Type 0 where

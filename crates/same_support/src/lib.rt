@@ -4,8 +4,8 @@ ghost use mathlib.Core.Bool.{false};
 ghost use mathlib.Core.List.{List};
 ghost use Prim.Native.Nat.{ℕ, _<_, _≤_};
 ghost use Rattle.same_model.specs.Same.{maxSame, image};
-ghost use Rattle.same_open.specs.Open.{bit, Among};
-ghost use Rattle.same_support.specs.Support.{Supported, Besides, Leaves};
+ghost use Rattle.same_open.specs.Open.{classes, bit, Among};
+ghost use Rattle.same_support.specs.Support.{Reaches, Leaves};
 use same_open::ALLOWED;
 use same_open::class;
 use same_open::narrow;
@@ -13,48 +13,39 @@ use same_open::put;
 use same_place::CELLS;
 use same_place::SIDE;
 
-// How many candidates an atom may have for it to be worked out what they leave to its neighbours.
+// How many candidates an atom may have for it to be worked out what they leave to its neighbours: atoms with one come first, then those with some.
+const ONE: u32 = 1;
+
+const SOME: u32 = 6;
+
 const FEW: u32 = 12;
+
+// As many as an atom can have.
+const ALL: u32 = 64;
 
 // No neighbour.
 const NONE: u8 = 255;
 
-// The atoms that stand beside some atom of a set, by the class of the bond between them.
-struct Beside {
-    single: u64,
-    double: u64,
-    triple: u64,
-    opened: u64,
-}
+// No class.
+const NO_CLASS: usize = 6;
 
-// These for a set.
-fn stand_beside(allowed: &[u64; ALLOWED], n: usize, mask: u64) -> Beside
-    requires { ⌜ n ≤ maxSame ⌝ }
-    ensures { λ r. ⌜ Besides (now (allowed .entry)) n mask r ⌝ }
+// The atoms that stand beside some atom of a set, over a cell of a class.
+fn stand_beside(allowed: &[u64; ALLOWED], n: usize, c: usize, mask: u64) -> u64
+    requires { ⌜ (n ≤ maxSame) × (c < classes) ⌝ }
+    ensures { λ r. ⌜ Reaches (now (allowed .entry)) n mask c r ⌝ }
 {
-    let mut single = 0u64;
-    let mut double = 0u64;
-    let mut triple = 0u64;
-    let mut opened = 0u64;
+    let mut side = 0u64;
     let mut rest = mask;
     let mut d = 0;
     while (d < n) & (rest != 0) {
         let skip = u64::trailing_zeros(rest) as usize;
         d += skip;
         rest = rest >> skip;
-        single = single | allowed[SIDE + d];
-        double = double | allowed[2 * SIDE + d];
-        triple = triple | allowed[3 * SIDE + d];
-        opened = opened | allowed[4 * SIDE + d];
+        side = side | allowed[SIDE * c + d];
         rest = rest / 2;
         d += 1;
     }
-    Beside {
-        single,
-        double,
-        triple,
-        opened,
-    }
+    side
 }
 
 // Leaves b the candidates that are in a set too; whether there are any.
@@ -67,26 +58,6 @@ fn keep(next: &mut [u64; SIDE], b: usize, mask: u64) -> bool
     both != 0
 }
 
-// Leaves b the candidates that stand beside some candidate of w; whether there are any.
-fn support(c: usize, s: Beside, b: usize, next: &mut [u64; SIDE]) -> bool
-    requires { ⌜ b < maxSame ⌝ }
-    ensures { λ r. ⌜ ((allowed : List ℕ) (n mask : ℕ) → Besides allowed n mask s → Leaves (now (next .entry)) b (Supported allowed n mask c) r (now (next .exit))) ⌝ }
-{
-    if c == 1 {
-        return keep(next, b, s.single);
-    }
-    if c == 2 {
-        return keep(next, b, s.double);
-    }
-    if c == 3 {
-        return keep(next, b, s.triple);
-    }
-    if c == 4 {
-        return keep(next, b, s.opened);
-    }
-    true
-}
-
 // A byte as an index.
 fn wide(x: u8) -> usize
     ensures { λ r. ⌜ r ≡ x ⌝ }
@@ -94,7 +65,7 @@ fn wide(x: u8) -> usize
     x as usize
 }
 
-// The same for all neighbours of w.
+// Leaves each neighbour of w the candidates that stand beside some candidate of w; whether each has one.
 fn spread(
     p: &[u16; CELLS],
     near: &[u8; CELLS],
@@ -107,7 +78,8 @@ fn spread(
     ensures { λ _. ⌜ ((t : List ℕ) → Among (now (p .entry)) (now (allowed .entry)) (now (next .entry)) n t → Among (now (p .entry)) (now (allowed .entry)) (now (next .exit)) n t) ⌝ }
     ensures { λ r. ⌜ (r ≡ false → (t : List ℕ) → Among (now (p .entry)) (now (allowed .entry)) (now (next .entry)) n t → ⊥) ⌝ }
 {
-    let s = stand_beside(allowed, n, next[w]);
+    let mut c = NO_CLASS;
+    let mut side = 0;
     let mut i = 0;
     while i < n {
         let b = wide(near[SIDE * w + i]);
@@ -115,7 +87,12 @@ fn spread(
             return true;
         }
         if b != w {
-            if !support(class(p[SIDE * w + b]), s, b, next) {
+            let other = class(p[SIDE * w + b]);
+            if other != c {
+                c = other;
+                side = stand_beside(allowed, n, c, next[w]);
+            }
+            if !keep(next, b, side) {
                 return false;
             }
         }
@@ -124,13 +101,15 @@ fn spread(
     true
 }
 
-// The same for all atoms of few candidates that are not placed.
+// The same for each atom of few candidates that is not placed, unless it was done for these candidates already. No claim rests on what was seen.
 fn settle(
     p: &[u16; CELLS],
     near: &[u8; CELLS],
     allowed: &[u64; ALLOWED],
     n: usize,
+    few: u32,
     placed: &[u8; SIDE],
+    seen: &mut [u64; SIDE],
     next: &mut [u64; SIDE],
 ) -> bool
     requires { ⌜ n ≤ maxSame ⌝ }
@@ -139,16 +118,36 @@ fn settle(
 {
     let mut w = 0;
     while w < n {
-        if placed[w] != 1 {
-            if u64::count_ones(next[w]) <= FEW {
-                if !spread(p, near, allowed, n, w, next) {
-                    return false;
-                }
+        let fresh = (placed[w] != 1) & (next[w] != seen[w]);
+        if fresh && (u64::count_ones(next[w]) <= few) {
+            seen[w] = next[w];
+            if !spread(p, near, allowed, n, w, next) {
+                return false;
             }
         }
         w += 1;
     }
     true
+}
+
+// internal: what atoms that are not placed leave to their neighbours, however many candidates they have, twice; whether each has one.
+pub fn settle_all(
+    p: &[u16; CELLS],
+    near: &[u8; CELLS],
+    allowed: &[u64; ALLOWED],
+    n: usize,
+    placed: &[u8; SIDE],
+    seen: &mut [u64; SIDE],
+    next: &mut [u64; SIDE],
+) -> bool
+    requires { ⌜ n ≤ maxSame ⌝ }
+    ensures { λ _. ⌜ ((t : List ℕ) → Among (now (p .entry)) (now (allowed .entry)) (now (next .entry)) n t → Among (now (p .entry)) (now (allowed .entry)) (now (next .exit)) n t) ⌝ }
+    ensures { λ r. ⌜ (r ≡ false → (t : List ℕ) → Among (now (p .entry)) (now (allowed .entry)) (now (next .entry)) n t → ⊥) ⌝ }
+{
+    if !settle(p, near, allowed, n, ALL, placed, seen, next) {
+        return false;
+    }
+    settle(p, near, allowed, n, ALL, placed, seen, next)
 }
 
 // internal: as `narrow`, and what atoms of few candidates leave to their neighbours.
@@ -161,6 +160,7 @@ pub fn narrow_near(
     v: usize,
     d: usize,
     placed: &[u8; SIDE],
+    seen: &mut [u64; SIDE],
     next: &mut [u64; SIDE],
 ) -> bool
     requires { ⌜ (n ≤ maxSame) × (v < n) × (d < n) ⌝ }
@@ -170,21 +170,47 @@ pub fn narrow_near(
     if !narrow(p, allowed, cand, n, v, d, next) {
         return false;
     }
-    settle(p, near, allowed, n, placed, next)
+    if !settle(p, near, allowed, n, ONE, placed, seen, next) {
+        return false;
+    }
+    if !settle(p, near, allowed, n, SOME, placed, seen, next) {
+        return false;
+    }
+    settle(p, near, allowed, n, FEW, placed, seen, next)
 }
 
-// Lists the neighbours of an atom a, then NONE.
-fn list_near(p: &[u16; CELLS], n: usize, a: usize, near: &mut [u8; CELLS])
+// Lists the atoms to which the atom a has a cell of a class, behind others; how many are listed then.
+fn list_class(
+    p: &[u16; CELLS],
+    n: usize,
+    a: usize,
+    c: usize,
+    from: usize,
+    near: &mut [u8; CELLS],
+) -> usize
     requires { ⌜ (n ≤ maxSame) × (a < n) ⌝ }
 {
-    let mut count = 0;
+    let mut count = from;
     let mut b = 0;
     while b < n {
-        if p[SIDE * a + b] != 0 {
+        if (class(p[SIDE * a + b]) == c) & (count < SIDE) {
             near[SIDE * a + count] = b as u8;
             count += 1;
         }
         b += 1;
+    }
+    count
+}
+
+// Lists the neighbours of an atom a by the classes of their cells, then NONE.
+fn list_near(p: &[u16; CELLS], n: usize, a: usize, near: &mut [u8; CELLS])
+    requires { ⌜ (n ≤ maxSame) × (a < n) ⌝ }
+{
+    let mut count = 0;
+    let mut c = 1;
+    while c < NO_CLASS {
+        count = list_class(p, n, a, c, count, near);
+        c += 1;
     }
     if count < SIDE {
         near[SIDE * a + count] = NONE;

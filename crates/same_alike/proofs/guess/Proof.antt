@@ -9,16 +9,16 @@ use Rattle.same_alike.proofs.guess.Statement.{statement}
 use Rattle.same_alike.proofs.guess.Tie as tie
 
 abbrev Inv-loop : tie.InvT-loop
-Inv-loop w2 k2 n e d tau₀ ka₀ kb₀ v₀ tau ka kb v = (v ≤ n) × (n ≤ length ka) × (n ≤ length kb)
+Inv-loop w2 near2 k2 n e d tau₀ ka₀ kb₀ v₀ tau ka kb v = (v ≤ n) × (n ≤ length ka) × (n ≤ length kb)
 
 abbrev μ-loop : tie.MeasureT-loop
-μ-loop w2 k2 n e d tau₀ ka₀ kb₀ v₀ tau ka kb v = n - v
+μ-loop w2 near2 k2 n e d tau₀ ka₀ kb₀ v₀ tau ka kb v = n - v
 
 tell-requires : tie.Need-tell-requires Inv-loop μ-loop
-tell-requires c κs = (c .before .before .pre .0, c .before .before .pre .1, c .before .before .pre .3)
+tell-requires c κs = let s = c .before .before in (s .pre .0, s .pre .1, s .pre .3, s .pre .4)
 
 tell-requires-2 : tie.Need-tell-requires-2 Inv-loop μ-loop
-tell-requires-2 c κs = (c .before .before .before .before .before .pre .0, c .before .before .before .before .before .pre .2, c .before .before .before .before .before .pre .3)
+tell-requires-2 c κs = let s = c .before .before .before .before .before in (s .pre .0, s .pre .2, s .pre .3, s .pre .4)
 
 loop-holds : tie.Need-loop-holds Inv-loop μ-loop
 loop-holds c = let s = c .before .before .before .before .before .before in (omega arith, told-size (s .args .w2 .now) (s .args .n) (s .args .k2 .now) (s .args .e) refl (c .before .before .before .tell .ensures .0) (s .pre .3), told-size (s .args .w2 .now) (s .args .n) (s .args .k2 .now) (s .args .d) refl (c .tell2 .ensures .0) (s .pre .3))
@@ -36,10 +36,10 @@ is-shared-requires : tie.Need-is-shared-requires Inv-loop μ-loop
 is-shared-requires c κs = (c .before .before .before .before .before .before .before .before .before .before .before .before .pre .0, c .before .before .before .before .loop-test .taken)
 
 tell-requires-3 : tie.Need-tell-requires-3 Inv-loop μ-loop
-tell-requires-3 c κs = (c .before .before .before .before .before .before .before .before .before .before .before .before .before .before .before .pre .0, c .before .before .before .before .before .before .before .loop-test .taken, c .before .before .before .before .before .before .before .before .loop .inv .1)
+tell-requires-3 c κs = let s = c .before .before .before .before .before .before .before .before .before .before .before .before .before .before .before in (s .pre .0, c .before .before .before .before .before .before .before .loop-test .taken, c .before .before .before .before .before .before .before .before .loop .inv .1, s .pre .4)
 
 tell-requires-4 : tie.Need-tell-requires-4 Inv-loop μ-loop
-tell-requires-4 c κs = (c .before .before .before .before .before .before .before .before .before .before .before .before .before .before .before .before .before .pre .0, c .before .before .before .before .before .before .partner .ensures, c .before .before .before .before .before .before .before .before .before .before .loop .inv .2)
+tell-requires-4 c κs = let s = c .before .before .before .before .before .before .before .before .before .before .before .before .before .before .before .before .before in (s .pre .0, c .before .before .before .before .before .before .partner .ensures, c .before .before .before .before .before .before .before .before .before .before .loop .inv .2, s .pre .4)
 
 add-v : tie.Need-add-v Inv-loop μ-loop
 add-v c = omega arith

@@ -10,10 +10,10 @@ use Rattle.same_alike.proofs.mark.Statement.{statement}
 use Rattle.same_alike.proofs.mark.Tie as tie
 
 abbrev Inv-loop : tie.InvT-loop
-Inv-loop o1 o2 ok w2 k2 n ren from d luck₀ dead₀ e₀ luck dead e = Hopeless o1 o2 ok n (take from ren) (n - (from + 1)) dead
+Inv-loop o1 o2 ok w2 near2 k2 n ren from d luck₀ dead₀ e₀ luck dead e = Hopeless o1 o2 ok n (take from ren) (n - (from + 1)) dead
 
 abbrev μ-loop : tie.MeasureT-loop
-μ-loop o1 o2 ok w2 k2 n ren from d luck₀ dead₀ e₀ luck dead e = n - e
+μ-loop o1 o2 ok w2 near2 k2 n ren from d luck₀ dead₀ e₀ luck dead e = n - e
 
 element-write-dead : tie.Need-element-write-dead Inv-loop μ-loop
 element-write-dead c = omega (arith, c .pre .0 .0 .few, c .pre .0 .2)
@@ -43,7 +43,7 @@ element-copy-out-if1-3 : tie.Need-element-copy-out-if1-3 Inv-loop μ-loop
 element-copy-out-if1-3 c = omega (arith, c .before .before .before .before .before .before .pre .0 .0 .few, c .before .before .before .before .before .before .pre .0 .2)
 
 mark-like-requires : tie.Need-mark-like-requires Inv-loop μ-loop
-mark-like-requires c κs = let s = c .before .before .before .before .before .before .before .before .before in ((s .pre .0 .0, s .pre .0 .1, s .pre .0 .2, c .before .before .before .before .before .before .before .loop-test .taken, s .pre .0 .3), c .before .before .before .before .before .before .before .before .loop .inv)
+mark-like-requires c κs = let s = c .before .before .before .before .before .before .before .before .before in ((s .pre .0 .0, s .pre .0 .1, s .pre .0 .2, c .before .before .before .before .before .before .before .loop-test .taken, s .pre .0 .3, s .pre .0 .4), c .before .before .before .before .before .before .before .before .loop .inv)
 
 count-requires : tie.Need-count-requires Inv-loop μ-loop
 count-requires c κs = tt

@@ -4,7 +4,7 @@ use Rattle.same_alike.proofs.mark_like.Statement.{statement}
 use Rattle.same_alike.proofs.mark_like.Tie as tie
 
 guess-requires : tie.Need-guess-requires
-guess-requires c κs = let s = c .before in (s .pre .0 .0 .few, s .pre .0 .3, s .pre .0 .2, s .pre .0 .4)
+guess-requires c κs = let s = c .before in (s .pre .0 .0 .few, s .pre .0 .3, s .pre .0 .2, s .pre .0 .4, s .pre .0 .5)
 
 is-like-requires : tie.Need-is-like-requires
 is-like-requires c κs = c .before .before .before .pre .0 .0

@@ -1,8 +1,8 @@
 -- `same_finer::make_finer` meets its contract. Assumes nothing.
-use Prim.Native.Nat.{ℕ, _-_, _≤_}
+use Prim.Native.Nat.{_-_, _≤_}
 use native.Mathlib.Omega.{arith}
 use mathlib.Core.Path.{ap}
-use lib.ListN.{length, length-replicate}
+use lib.ListN.{length}
 use Rattle.loops.proofs.Loops.{Ran, ran-start, ran-step, ran-end}
 use Rattle.same_finer.specs.Finer.{roundedAgain, finer}
 use Rattle.same_finer.proofs.Keeping.{as-rounded, rounded-long}
@@ -10,19 +10,16 @@ use Rattle.same_finer.proofs.make_finer.Statement.{statement}
 use Rattle.same_finer.proofs.make_finer.Tie as tie
 
 abbrev Inv-loop : tie.InvT-loop
-Inv-loop w n r keys₀ near i₀ keys i = Ran (roundedAgain w n) keys₀ r i keys × (n ≤ length keys)
+Inv-loop w near n r keys₀ i₀ keys i = Ran (roundedAgain w n) keys₀ r i keys × (n ≤ length keys)
 
 abbrev μ-loop : tie.MeasureT-loop
-μ-loop w n r keys₀ near i₀ keys i = r - i
-
-fill-weighty-requires : tie.Need-fill-weighty-requires Inv-loop μ-loop
-fill-weighty-requires c κs = let s = c .before in (s .pre .0, let l = length-replicate {A = ℕ} 64 0 in omega (arith, s .pre .0))
+μ-loop w near n r keys₀ i₀ keys i = r - i
 
 loop-holds : tie.Need-loop-holds Inv-loop μ-loop
-loop-holds c = (ran-start, c .before .before .pre .1)
+loop-holds c = (ran-start, c .pre .1)
 
 round-requires : tie.Need-round-requires Inv-loop μ-loop
-round-requires c κs = let s = c .before .before .before .before .before .before .before .before in let v = c .before .before .before .before .before .loop .inv in (s .pre .0, v .1, v .1, c .before .before .before .before .before .before .fill-weighty .ensures)
+round-requires c κs = let s = c .before .before .before .before .before in let v = c .before .before .before .before .loop .inv in (s .pre .0, v .1, v .1, s .pre .2)
 
 add-i : tie.Need-add-i Inv-loop μ-loop
 add-i c = omega arith
@@ -32,10 +29,10 @@ loop-less c = omega arith
 
 loop-again : tie.Need-loop-again Inv-loop μ-loop
 loop-again c =
-    let s = c .before .before .before .before .before .before .before .before .before in
-    let v = c .before .before .before .before .before .before .loop in
+    let s = c .before .before .before .before .before .before in
+    let v = c .before .before .before .before .before .loop in
     let e = as-rounded (s .args .w .now) (s .args .n) (v .keys) (c .round .ensures) in
-    (ran-step (v .inv .0) _ (c .before .before .before .before .before .loop-test .taken) e, omega (arith, ap length e, rounded-long (s .args .w .now) (s .args .n) (v .keys)))
+    (ran-step (v .inv .0) _ (c .before .before .before .before .loop-test .taken) e, omega (arith, ap length e, rounded-long (s .args .w .now) (s .args .n) (v .keys)))
 
 returns : tie.Need-returns Inv-loop μ-loop
 unfolding finer
@@ -47,7 +44,6 @@ make-finer-spec =
     (tie.spec
     Inv-loop
     μ-loop
-    fill-weighty-requires
     loop-holds
     round-requires
     add-i

@@ -18,24 +18,24 @@ use Rattle.same_support.proofs.narrow_near.Reads as narrow-near-reads
 use Rattle.same_mirror.proofs.+search.{statement}
 use Rattle.same_mirror.proofs.+search.Tie.{close}
 
-abbrev μ-search : Measures 7 search-kinds.ps ℕ
+abbrev μ-search : Measures 8 search-kinds.ps ℕ
 μ-search κs a = a .1 .1 .1 .1 .1 .1 .0
 
-abbrev search-at : ℕ → In 7 search-kinds.ps
-search-at t = and 7 search-kinds.ps (is 7 search-kinds.ps μ-search t) search′.Pre
+abbrev search-at : ℕ → In 8 search-kinds.ps
+search-at t = and 8 search-kinds.ps (is 8 search-kinds.ps μ-search t) search′.Pre
 
-abbrev search-below : ℕ → In 7 search-kinds.ps
-search-below t = and 7 search-kinds.ps (falls 7 search-kinds.ps _<_ μ-search t) search′.Pre
+abbrev search-below : ℕ → In 8 search-kinds.ps
+search-below t = and 8 search-kinds.ps (falls 8 search-kinds.ps _<_ μ-search t) search′.Pre
 
 -- what the calls ask and give, below t
 abbrev search-claims : ℕ → search-lts.Claims
 search-claims t = (choose-reads.Asked, choose-reads.Learnt, narrow-near-reads.Asked, narrow-near-reads.Learnt, search-below t, search′.Post, mark-reads.Asked, mark-reads.Learnt)
 
 abbrev search-Inv-loop : search-lts.InvT-loop
-search-Inv-loop p near q allowed cand n rest placed₀ ren₀ budget v dead₀ left₀ d₀ placed ren dead left d = Passed p allowed cand n v budget dead left d
+search-Inv-loop p near q allowed cand n rest seen placed₀ ren₀ budget v dead₀ left₀ d₀ placed ren dead left d = Passed p allowed cand n v budget dead left d
 
 abbrev search-μ-loop : search-lts.MeasureT-loop
-search-μ-loop p near q allowed cand n rest placed₀ ren₀ budget v dead₀ left₀ d₀ placed ren dead left d = n - d
+search-μ-loop p near q allowed cand n rest seen placed₀ ren₀ budget v dead₀ left₀ d₀ placed ren dead left d = n - d
 
 search-returns : (t : ℕ) → search-lts.Need-returns (search-claims t) (search-at t) search′.Post search-Inv-loop search-μ-loop
 search-returns t c = (found-not {r = true} refl, omega arith)
@@ -68,31 +68,31 @@ search-sub-left : (t : ℕ) → search-lts.Need-sub-left (search-claims t) (sear
 search-sub-left t c = omega (arith, c .before .before .if2 .left)
 
 search-narrow-near-requires : (t : ℕ) → search-lts.Need-narrow-near-requires (search-claims t) (search-at t) search′.Post search-Inv-loop search-μ-loop
-search-narrow-near-requires t c κs = (c .before .before .before .before .before .before .before .before .before .before .pre .1 .0, c .before .before .before .before .before .before .before .choose .ensures, c .before .before .before .before .before .loop-test .taken)
+search-narrow-near-requires t c κs = (c .before .before .before .before .before .before .before .before .before .before .before .before .pre .1 .0, c .before .before .before .before .before .before .before .before .before .choose .ensures, c .before .before .before .before .before .before .before .loop-test .taken)
 
 search-cast-ren : (t : ℕ) → search-lts.Need-cast-ren (search-claims t) (search-at t) search′.Post search-Inv-loop search-μ-loop
-search-cast-ren t c = omega (arith, c .before .before .before .before .before .before .before .before .before .choose .ensures, c .before .before .before .before .before .before .before .before .before .before .before .before .pre .1 .0, c .before .before .before .before .before .before .before .loop-test .taken)
+search-cast-ren t c = omega (arith, c .before .before .before .before .before .before .before .before .before .before .before .choose .ensures, c .before .before .before .before .before .before .before .before .before .before .before .before .before .before .pre .1 .0, c .before .before .before .before .before .before .before .before .before .loop-test .taken)
 
 search-element-write-ren : (t : ℕ) → search-lts.Need-element-write-ren (search-claims t) (search-at t) search′.Post search-Inv-loop search-μ-loop
-search-element-write-ren t c = omega (arith, c .before .before .before .before .before .before .before .before .before .choose .ensures, c .before .before .before .before .before .before .before .before .before .before .before .before .pre .1 .0, c .before .before .before .before .before .before .before .loop-test .taken)
+search-element-write-ren t c = omega (arith, c .before .before .before .before .before .before .before .before .before .before .before .choose .ensures, c .before .before .before .before .before .before .before .before .before .before .before .before .before .before .pre .1 .0, c .before .before .before .before .before .before .before .before .before .loop-test .taken)
 
 search-sub-search : (t : ℕ) → search-lts.Need-sub-search (search-claims t) (search-at t) search′.Post search-Inv-loop search-μ-loop
-search-sub-search t c = omega (arith, c .before .before .before .before .before .before .before .before .before .before .before .before .if1 .left)
+search-sub-search t c = omega (arith, c .before .before .before .before .before .before .before .before .before .before .before .before .before .before .if1 .left)
 
 search-search-requires : (t : ℕ) → search-lts.Need-search-requires (search-claims t) (search-at t) search′.Post search-Inv-loop search-μ-loop
 search-search-requires t c κs =
-    let q = c .before .before .before .before .before .before .before .before .before .before .before .before .before .before .before .pre in
-    let l = c .before .before .before .before .before .before .before .before .before .before .before .before .before .before .if1 .left in
+    let q = c .before .before .before .before .before .before .before .before .before .before .before .before .before .before .before .before .before .before .pre in
+    let l = c .before .before .before .before .before .before .before .before .before .before .before .before .before .before .before .before .before .if1 .left in
     (omega (arith, q .0, l), (q .1 .0, omega (arith, q .1 .1)))
 
 search-returns-3 : (t : ℕ) → search-lts.Need-returns-3 (search-claims t) (search-at t) search′.Post search-Inv-loop search-μ-loop
-search-returns-3 t c = (λ h. found-not (c .if5 .taken) h, omega (arith, c .before .search .ensures .1, c .before .before .before .before .before .before .before .before .before .before .before .before .before .loop .inv .paid))
+search-returns-3 t c = (λ h. found-not (c .if5 .taken) h, omega (arith, c .before .search .ensures .1, c .before .before .before .before .before .before .before .before .before .before .before .before .before .before .before .before .loop .inv .paid))
 
 search-sub-spent : (t : ℕ) → search-lts.Need-sub-spent (search-claims t) (search-at t) search′.Post search-Inv-loop search-μ-loop
 search-sub-spent t c = omega (arith, c .before .before .search .ensures .1)
 
 search-mark-requires : (t : ℕ) → search-lts.Need-mark-requires (search-claims t) (search-at t) search′.Post search-Inv-loop search-μ-loop
-search-mark-requires t c κs = (c .before .before .before .before .before .before .before .before .before .before .before .before .before .before .before .before .before .before .before .before .before .before .pre .1 .0, c .before .before .before .before .before .before .before .before .before .before .before .before .before .before .before .before .before .before .before .choose .ensures, c .before .before .before .before .before .before .before .before .before .before .before .before .before .before .before .before .before .loop-test .taken)
+search-mark-requires t c κs = (c .before .before .before .before .before .before .before .before .before .before .before .before .before .before .before .before .before .before .before .before .before .before .before .before .before .pre .1 .0, c .before .before .before .before .before .before .before .before .before .before .before .before .before .before .before .before .before .before .before .before .before .before .choose .ensures, c .before .before .before .before .before .before .before .before .before .before .before .before .before .before .before .before .before .before .before .before .loop-test .taken)
 
 search-add-d : (t : ℕ) → search-lts.Need-add-d (search-claims t) (search-at t) search′.Post search-Inv-loop search-μ-loop
 search-add-d t c = omega (arith, c .before .before .before .before .before .before .before .before .pre .1 .0, c .before .before .before .loop-test .taken)
@@ -108,11 +108,11 @@ search-loop-again t c =
     let l = c .before .before .if2 .left in
     let g = c .before .before .before .before .before .before .before .before .args in
     ⊎-elim
-    (λ w. pass-marked v i l (omega (arith, w .19, w .15 .ensures .0, w .8 .ensures .1)) (w .18) (w .15 .ensures .1 (g .p .now)) (nowhere (w .3 .ensures .0) (w .8 .ensures .0) (w .9 .left) (some-left (w .8 .result .left) (ltb 300 (s .loop .left - 1 - w .8 .result .left)) (w .11 .taken))))
+    (λ w. pass-marked v i l (omega (arith, w .22, w .18 .ensures .0, w .11 .ensures .1)) (w .21) (w .18 .ensures .1 (g .p .now)) (nowhere (w .5 .ensures .0) (w .11 .ensures .0) (w .12 .left) (some-left (w .11 .result .left) (ltb 300 (s .loop .left - 1 - w .11 .result .left)) (w .14 .taken))))
     (⊎-elim
-    (λ w. pass-next v i l (omega (arith, w .15, w .8 .ensures .1)) (w .14) (λ k. nowhere (w .3 .ensures .0) (w .8 .ensures .0) (w .9 .left) (omega (arith, w .15, k))))
+    (λ w. pass-next v i l (omega (arith, w .18, w .11 .ensures .1)) (w .17) (λ k. nowhere (w .5 .ensures .0) (w .11 .ensures .0) (w .12 .left) (omega (arith, w .18, k))))
     (⊎-elim
-    (λ w. pass-dead v i l (omega (arith, w .8)) (w .7) (w .3 .ensures .1) (w .4 .left))
+    (λ w. pass-dead v i l (omega (arith, w .10)) (w .9) (w .5 .ensures .1) (w .6 .left))
     (λ w. pass-over v i l (omega (arith, w .4)) (w .3) (c .before .before .before .before .before .choose .ensures) (w .0 .left))))
     (c .if3 .came)
 

@@ -16,20 +16,20 @@ use Rattle.same_search.proofs.is_hopeful.Reads as is-hopeful-reads
 use Rattle.same_search.proofs.+search.{statement}
 use Rattle.same_search.proofs.+search.Tie.{close}
 
-abbrev μ-search : Measures 9 search-kinds.ps ℕ
-μ-search κs a = a .1 .1 .1 .1 .1 .1 .1 .0 - a .1 .1 .1 .1 .1 .1 .1 .1 .1 .0
+abbrev μ-search : Measures 11 search-kinds.ps ℕ
+μ-search κs a = a .1 .1 .1 .1 .1 .1 .1 .1 .1 .0 - a .1 .1 .1 .1 .1 .1 .1 .1 .1 .1 .1 .0
 
-abbrev search-at : ℕ → In 9 search-kinds.ps
-search-at t = and 9 search-kinds.ps (is 9 search-kinds.ps μ-search t) search′.Pre
+abbrev search-at : ℕ → In 11 search-kinds.ps
+search-at t = and 11 search-kinds.ps (is 11 search-kinds.ps μ-search t) search′.Pre
 
-abbrev search-below : ℕ → In 9 search-kinds.ps
-search-below t = and 9 search-kinds.ps (falls 9 search-kinds.ps _<_ μ-search t) search′.Pre
+abbrev search-below : ℕ → In 11 search-kinds.ps
+search-below t = and 11 search-kinds.ps (falls 11 search-kinds.ps _<_ μ-search t) search′.Pre
 
 abbrev search-Inv-loop : search-lts.InvT-loop
-search-Inv-loop o1 o2 ok w1 w2 k1 k2 n ren₀ from luck₀ next told1 sum1 dead₀ d₀ ren luck dead d = Searching o1 o2 ok n from ren₀ ren dead d
+search-Inv-loop o1 o2 ok w1 w2 near1 near2 k1 k2 n ren₀ from luck₀ next told1 sum1 dead₀ d₀ ren luck dead d = Searching o1 o2 ok n from ren₀ ren dead d
 
 abbrev search-μ-loop : search-lts.MeasureT-loop
-search-μ-loop o1 o2 ok w1 w2 k1 k2 n ren₀ from luck₀ next told1 sum1 dead₀ d₀ ren luck dead d = n - d
+search-μ-loop o1 o2 ok w1 w2 near1 near2 k1 k2 n ren₀ from luck₀ next told1 sum1 dead₀ d₀ ren luck dead d = n - d
 
 search-returns : (t : ℕ) → search-lts.Need-returns (
   tell-reads.Asked,
@@ -65,7 +65,7 @@ search-tell-requires : (t : ℕ) → search-lts.Need-tell-requires (
   mark-reads.Asked,
   mark-reads.Learnt,
 ) (search-at t) search′.Post search-Inv-loop search-μ-loop
-search-tell-requires t c κs = let s = c .before .before .before in (s .pre .1 .0 .few, omega (arith, s .pre .1 .0 .upto, c .before .before .if1 .left), s .pre .1 .1 .keeps .long1)
+search-tell-requires t c κs = let s = c .before .before .before in (s .pre .1 .0 .few, omega (arith, s .pre .1 .0 .upto, c .before .before .if1 .left), s .pre .1 .1 .0 .keeps .long1, s .pre .1 .1 .1 .0)
 
 search-loop-holds : (t : ℕ) → search-lts.Need-loop-holds (
   tell-reads.Asked,
@@ -77,7 +77,7 @@ search-loop-holds : (t : ℕ) → search-lts.Need-loop-holds (
   mark-reads.Asked,
   mark-reads.Learnt,
 ) (search-at t) search′.Post search-Inv-loop search-μ-loop
-search-loop-holds t c = let s = c .before .before .before .before in search-start (s .pre .1 .0) (s .pre .1 .1) (c .before .before .before .if1 .left)
+search-loop-holds t c = let s = c .before .before .before .before in search-start (s .pre .1 .0) (s .pre .1 .1 .0) (c .before .before .before .if1 .left)
 
 search-is-hopeful-requires : (t : ℕ) → search-lts.Need-is-hopeful-requires (
   tell-reads.Asked,
@@ -104,7 +104,7 @@ search-tell-requires-2 : (t : ℕ) → search-lts.Need-tell-requires-2 (
   mark-reads.Asked,
   mark-reads.Learnt,
 ) (search-at t) search′.Post search-Inv-loop search-μ-loop
-search-tell-requires-2 t c κs = let s = c .before .before .before .before .before .before .before .before .before .before .before .before in (s .pre .1 .0 .few, c .before .before .before .before .before .before .loop-test .taken, s .pre .1 .1 .keeps .long2)
+search-tell-requires-2 t c κs = let s = c .before .before .before .before .before .before .before .before .before .before .before .before in (s .pre .1 .0 .few, c .before .before .before .before .before .before .loop-test .taken, s .pre .1 .1 .0 .keeps .long2, s .pre .1 .1 .1 .1)
 
 search-cast-ren : (t : ℕ) → search-lts.Need-cast-ren (
   tell-reads.Asked,
@@ -145,7 +145,7 @@ search-search-requires t c κs =
     let l = c .before .before .before .before .before .before .before .before .before .before .before .before .before .before .before .before .before .if1 .left in
     let v = c .before .before .before .before .before .before .before .before .before .before .before .before .before .loop in
     let i = c .before .before .before .before .before .before .before .before .before .before .before .before .loop-test .taken in
-    (omega (arith, s .pre .0, s .pre .1 .0 .upto, l), (prefix-next _ _ _ (s .pre .1 .0) l (v .d) (v .inv .trying) i, level-next (s .pre .1 .0) (s .pre .1 .1) l (v .inv) i (c .before .before .before .before .before .before .before .before .before .is-hopeful .ensures) (c .before .before .before .before .before .before .before .before .if2 .taken) (c .before .before .before .before .before .before .before .before .before .before .before .before .before .before .tell .ensures .0) (c .before .before .before .before .before .tell2 .ensures .0)))
+    (omega (arith, s .pre .0, s .pre .1 .0 .upto, l), (prefix-next _ _ _ (s .pre .1 .0) l (v .d) (v .inv .trying) i, (level-next (s .pre .1 .0) (s .pre .1 .1 .0) l (v .inv) i (c .before .before .before .before .before .before .before .before .before .is-hopeful .ensures) (c .before .before .before .before .before .before .before .before .if2 .taken) (c .before .before .before .before .before .before .before .before .before .before .before .before .before .before .tell .ensures .0) (c .before .before .before .before .before .tell2 .ensures .0), s .pre .1 .1 .1)))
 
 search-returns-2 : (t : ℕ) → search-lts.Need-returns-2 (
   tell-reads.Asked,
@@ -159,7 +159,7 @@ search-returns-2 : (t : ℕ) → search-lts.Need-returns-2 (
 ) (search-at t) search′.Post search-Inv-loop search-μ-loop
 search-returns-2 t c =
     let s = c .before .before .before .before .before .before .before .before .before .before .before .before .before .before .before .before .before .before .before .before in
-    search-found (s .pre .1 .0) (s .pre .1 .1) (c .before .before .before .before .before .before .before .before .before .before .before .before .before .before .before .before .before .before .before .if1 .left) (c .before .before .before .before .before .before .before .before .before .before .before .before .before .before .before .loop .inv) (c .before .before .before .before .before .before .before .before .before .before .before .before .before .before .loop-test .taken) (c .before .before .before .before .before .before .before .before .before .before .before .is-hopeful .ensures) (c .before .before .before .before .before .before .before .before .before .before .if2 .taken) (c .before .search .ensures) (c .if4 .taken)
+    search-found (s .pre .1 .0) (s .pre .1 .1 .0) (c .before .before .before .before .before .before .before .before .before .before .before .before .before .before .before .before .before .before .before .if1 .left) (c .before .before .before .before .before .before .before .before .before .before .before .before .before .before .before .loop .inv) (c .before .before .before .before .before .before .before .before .before .before .before .before .before .before .loop-test .taken) (c .before .before .before .before .before .before .before .before .before .before .before .is-hopeful .ensures) (c .before .before .before .before .before .before .before .before .before .before .if2 .taken) (c .before .search .ensures) (c .if4 .taken)
 
 search-mark-requires : (t : ℕ) → search-lts.Need-mark-requires (
   tell-reads.Asked,
@@ -180,7 +180,7 @@ search-mark-requires t c κs =
     let y = c .before .before .before .before .before .before .before .before .before .before .before .before .before .if2 .taken in
     let r = c .before .before .before .before .search .ensures in
     let e = c .before .before .before .if4 .left in
-    ((prefix-after (s .pre .1 .0) (s .pre .1 .1) l (v .inv) i h y r e, omega (arith, s .pre .1 .0 .upto, l), i, s .pre .1 .1 .keeps .long2), marks-ask (s .pre .1 .0) (s .pre .1 .1) l (v .inv) i h y r e)
+    ((prefix-after (s .pre .1 .0) (s .pre .1 .1 .0) l (v .inv) i h y r e, omega (arith, s .pre .1 .0 .upto, l), i, s .pre .1 .1 .0 .keeps .long2, s .pre .1 .1 .1 .1), marks-ask (s .pre .1 .0) (s .pre .1 .1 .0) l (v .inv) i h y r e)
 
 search-add-d : (t : ℕ) → search-lts.Need-add-d (
   tell-reads.Asked,
@@ -222,8 +222,8 @@ search-loop-again t c =
     let v = c .before .before .before .before .before .loop .inv in
     let i = c .before .before .before .before .loop-test .taken in
     let h = c .before .is-hopeful .ensures in
-    ⊎-elim (λ w. search-next (s .pre .1 .0) (s .pre .1 .1) l v i h (w .0 .taken) (w .9 .ensures) (w .10 .left) (w .14 .ensures) (w .15) (w .17))
-    (⊎-elim (λ w. search-sums (s .pre .1 .0) (s .pre .1 .1) l v i (c .before .before .before .before .before .before .tell .ensures .1) (w .3 .ensures .1) (w .4 .left) (w .5) (w .7)) (λ w. search-not (s .pre .1 .0) (s .pre .1 .1) l v i h (w .0 .left) (w .1) (w .3))) (c .if2 .came)
+    ⊎-elim (λ w. search-next (s .pre .1 .0) (s .pre .1 .1 .0) l v i h (w .0 .taken) (w .9 .ensures) (w .10 .left) (w .14 .ensures) (w .15) (w .17))
+    (⊎-elim (λ w. search-sums (s .pre .1 .0) (s .pre .1 .1 .0) l v i (c .before .before .before .before .before .before .tell .ensures .1) (w .3 .ensures .1) (w .4 .left) (w .5) (w .7)) (λ w. search-not (s .pre .1 .0) (s .pre .1 .1 .0) l v i h (w .0 .left) (w .1) (w .3))) (c .if2 .came)
 
 search-returns-3 : (t : ℕ) → search-lts.Need-returns-3 (
   tell-reads.Asked,

@@ -37,24 +37,33 @@ solve-requires c κs = search needs
 returns : tie.Need-returns
 returns c = as-whole _ _ _ (c .solve .ensures)
 
+fill-weighty-requires : tie.Need-fill-weighty-requires
+fill-weighty-requires c κs = search needs
+
+fill-weighty-requires-2 : tie.Need-fill-weighty-requires-2
+fill-weighty-requires-2 c κs = search needs
+
 make-finer-requires : tie.Need-make-finer-requires
-make-finer-requires c κs = let l = length-replicate {A = ℕ} 64 0 in (c .before .before .before .before .before .before .before .before .before .before .before .before .before .before .before .before .before .before .before .pre .few, omega (arith, c .before .before .before .before .before .before .before .before .before .before .before .before .before .before .before .before .before .before .before .pre .few, c .before .before .before .before .before .before .before .before .before .before .before .before .before .guess-first .ensures))
+make-finer-requires c κs = let few = c .before .before .before .before .before .before .before .before .before .before .before .before .before .before .before .before .before .before .before .before .before .before .before .before .before .before .pre .few in let l = length-replicate {A = ℕ} 64 0 in (few, omega (arith, few, c .before .before .before .before .before .before .before .before .before .before .before .before .before .before .before .before .before .before .before .before .guess-first .ensures), c .before .before .before .before .before .before .fill-weighty .ensures)
 
 make-finer-requires-2 : tie.Need-make-finer-requires-2
-make-finer-requires-2 c κs = let l = length-replicate {A = ℕ} 64 0 in (c .before .before .before .before .before .before .before .before .before .before .before .before .before .before .before .before .before .before .before .before .before .before .pre .few, omega (arith, c .before .before .before .before .before .before .before .before .before .before .before .before .before .before .before .before .before .before .before .before .before .before .pre .few, c .before .before .before .before .before .before .before .before .before .before .before .before .before .guess-second .ensures))
+make-finer-requires-2 c κs = let few = c .before .before .before .before .before .before .before .before .before .before .before .before .before .before .before .before .before .before .before .before .before .before .before .before .before .before .before .before .before .before .pre .few in let l = length-replicate {A = ℕ} 64 0 in (few, omega (arith, few, c .before .before .before .before .before .before .before .before .before .before .before .before .before .before .before .before .before .before .before .before .before .guess-second .ensures), c .before .before .before .before .before .before .before .fill-weighty2 .ensures)
 
 search-requires : tie.Need-search-requires
 search-requires c κs =
-    let s = c .before .before .before .before .before .before .before .before .before .before .before .before .before .before .before .before .before .before .before .before .before .before .before .before .before .before .before .before .before in
+    let s = c .before .before .before .before .before .before .before .before .before .before .before .before .before .before .before .before .before .before .before .before .before .before .before .before .before .before .before .before .before .before .before .before .before .before .before .before .before .before .before in
     let few = s .pre .few in
     let l = length-replicate {A = ℕ} 64 0 in
-    let f = fair _ _ _ (c .before .before .before .before .before .before .before .before .before .before .before .before .if1 .left) in (
+    let f = fair _ _ _ (c .before .before .before .before .before .before .before .before .before .before .before .before .before .before .before .before .before .before .before .before .before .before .if1 .left) in (
       s .pre,
-      level-start (now (s .args .ren)) 4
-          (weighed (s .args .o1 .now) _ (s .args .n) _ few (c .before .before .before .before .before .before .before .before .before .before .before .before .before .before .before .before .before .before .before .before .before .before .before .before .before .before .before .fill-weights .ensures) (sym (c .before .before .before .before .before .before .before .before .before .before .before .before .before .before .before .before .before .before .is-mirrored .ensures) ∙ f .0))
-          (weighed (s .args .o2 .now) _ (s .args .n) _ few (c .before .before .before .before .before .before .before .before .before .before .before .before .before .before .before .before .before .before .before .before .before .before .before .before .before .fill-weights2 .ensures) (sym (c .before .before .before .before .before .before .before .before .before .before .before .before .before .before .before .before .is-mirrored2 .ensures) ∙ f .1))
-          (keeps-start (s .args .o1 .now) (s .args .o2 .now) (s .args .ok .now) (s .args .n) (now (s .args .ren)) _ _ few (omega (arith, few, c .before .before .before .before .before .before .before .before .before .before .before .before .before .before .before .before .before .before .before .before .before .before .before .guess-first .ensures)) (omega (arith, few, c .before .before .before .before .before .before .before .before .before .before .before .before .before .before .before .before .before .before .before .before .guess-second .ensures)) (sym (c .before .before .before .before .before .before .before .before .before .before .before .before .before .agree .ensures) ∙ f .2))
-          (c .before .before .before .before .before .before .before .before .before .make-finer .ensures) (c .before .before .before .before .before .before .make-finer2 .ensures),
+      (
+        level-start (now (s .args .ren)) 4
+            (weighed (s .args .o1 .now) _ (s .args .n) _ few (c .before .before .before .before .before .before .before .before .before .before .before .before .before .before .before .before .before .before .before .before .before .before .before .before .before .before .before .before .before .before .before .before .before .before .before .before .before .fill-weights .ensures) (sym (c .before .before .before .before .before .before .before .before .before .before .before .before .before .before .before .before .before .before .before .before .before .before .before .before .before .before .before .before .is-mirrored .ensures) ∙ f .0))
+            (weighed (s .args .o2 .now) _ (s .args .n) _ few (c .before .before .before .before .before .before .before .before .before .before .before .before .before .before .before .before .before .before .before .before .before .before .before .before .before .before .before .before .before .before .before .before .before .before .before .fill-weights2 .ensures) (sym (c .before .before .before .before .before .before .before .before .before .before .before .before .before .before .before .before .before .before .before .before .before .before .before .before .before .before .is-mirrored2 .ensures) ∙ f .1))
+            (keeps-start (s .args .o1 .now) (s .args .o2 .now) (s .args .ok .now) (s .args .n) (now (s .args .ren)) _ _ few (omega (arith, few, c .before .before .before .before .before .before .before .before .before .before .before .before .before .before .before .before .before .before .before .before .before .before .before .before .before .before .before .before .before .before .before .before .before .guess-first .ensures)) (omega (arith, few, c .before .before .before .before .before .before .before .before .before .before .before .before .before .before .before .before .before .before .before .before .before .before .before .before .before .before .before .before .before .before .guess-second .ensures)) (sym (c .before .before .before .before .before .before .before .before .before .before .before .before .before .before .before .before .before .before .before .before .before .before .before .agree .ensures) ∙ f .2))
+            (c .before .before .before .before .before .before .before .before .before .before .before .before .make-finer .ensures) (c .before .before .before .before .before .before .before .before .make-finer2 .ensures),
+        (c .before .before .before .before .before .before .before .before .before .before .before .before .before .before .before .before .before .before .before .fill-weighty .ensures, c .before .before .before .before .before .before .before .before .before .before .before .before .before .before .before .before .fill-weighty2 .ensures),
+      ),
     )
 
 returns-2 : tie.Need-returns-2
@@ -73,6 +82,8 @@ search-finely-spec =
     agree-requires
     solve-requires
     returns
+    fill-weighty-requires
+    fill-weighty-requires-2
     make-finer-requires
     make-finer-requires-2
     search-requires

@@ -9,10 +9,10 @@ use Rattle.same_support.proofs.stand_beside.Reads as reads
 use Rattle.same_support.proofs.stand_beside.Lts as lts
 
 abbrev Inv-loop : tie.InvT-loop
-Inv-loop allowed n mask single₀ double₀ triple₀ opened₀ rest₀ d₀ single double triple opened rest d = Gone allowed mask single double triple opened rest d
+Inv-loop allowed n c mask side₀ rest₀ d₀ side rest d = Gone allowed mask c side rest d
 
 abbrev μ-loop : tie.MeasureT-loop
-μ-loop allowed n mask single₀ double₀ triple₀ opened₀ rest₀ d₀ single double triple opened rest d = 64 - d
+μ-loop allowed n c mask side₀ rest₀ d₀ side rest d = 64 - d
 
 loop-holds : tie.Need-loop-holds Inv-loop μ-loop
 loop-holds c = gone-start (c .fits .mask .fits)
@@ -30,59 +30,26 @@ add-d c = omega (arith, low c)
 shr-rest : tie.Need-shr-rest Inv-loop μ-loop
 shr-rest c = omega (arith, low c)
 
-add-single : tie.Need-add-single Inv-loop μ-loop
-add-single c = omega (arith, low c)
+mul-side : tie.Need-mul-side Inv-loop μ-loop
+mul-side c = omega (arith, c .before .before .pre .1)
 
-mul-single : tie.Need-mul-single Inv-loop μ-loop
-mul-single c = omega (arith, low c)
+add-side : tie.Need-add-side Inv-loop μ-loop
+add-side c = omega (arith, low c, c .before .before .pre .1)
 
-element-copy-out-single : tie.Need-element-copy-out-single Inv-loop μ-loop
-element-copy-out-single c = omega (arith, low c)
+mul-side-2 : tie.Need-mul-side-2 Inv-loop μ-loop
+mul-side-2 c = omega (arith, low c, c .before .before .pre .1)
 
-mul-double : tie.Need-mul-double Inv-loop μ-loop
-mul-double c = omega arith
-
-add-double : tie.Need-add-double Inv-loop μ-loop
-add-double c = omega (arith, low (c .before))
-
-mul-double-2 : tie.Need-mul-double-2 Inv-loop μ-loop
-mul-double-2 c = omega (arith, low (c .before))
-
-element-copy-out-double : tie.Need-element-copy-out-double Inv-loop μ-loop
-element-copy-out-double c = omega (arith, low (c .before))
-
-mul-triple : tie.Need-mul-triple Inv-loop μ-loop
-mul-triple c = omega arith
-
-add-triple : tie.Need-add-triple Inv-loop μ-loop
-add-triple c = omega (arith, low (c .before .before))
-
-mul-triple-2 : tie.Need-mul-triple-2 Inv-loop μ-loop
-mul-triple-2 c = omega (arith, low (c .before .before))
-
-element-copy-out-triple : tie.Need-element-copy-out-triple Inv-loop μ-loop
-element-copy-out-triple c = omega (arith, low (c .before .before))
-
-mul-opened : tie.Need-mul-opened Inv-loop μ-loop
-mul-opened c = omega arith
-
-add-opened : tie.Need-add-opened Inv-loop μ-loop
-add-opened c = omega (arith, low (c .before .before .before))
-
-mul-opened-2 : tie.Need-mul-opened-2 Inv-loop μ-loop
-mul-opened-2 c = omega (arith, low (c .before .before .before))
-
-element-copy-out-opened : tie.Need-element-copy-out-opened Inv-loop μ-loop
-element-copy-out-opened c = omega (arith, low (c .before .before .before))
+element-copy-out-side : tie.Need-element-copy-out-side Inv-loop μ-loop
+element-copy-out-side c = omega (arith, low c, c .before .before .pre .1)
 
 add-d-2 : tie.Need-add-d-2 Inv-loop μ-loop
-add-d-2 c = omega (arith, low (c .before .before .before .before))
+add-d-2 c = omega (arith, low (c .before))
 
 loop-less : tie.Need-loop-less Inv-loop μ-loop
-loop-less c = omega (arith, low (c .before .before .before .before))
+loop-less c = omega (arith, low (c .before))
 
 loop-again : tie.Need-loop-again Inv-loop μ-loop
-loop-again c = gone-step (c .before .before .before .before .before .loop .inv)
+loop-again c = gone-step (c .before .before .loop .inv)
 
 returns : tie.Need-returns Inv-loop μ-loop
 returns c = gone-end (c .before .loop .inv) (c .before .before .args .n) (c .loop-test .left)
@@ -97,21 +64,10 @@ stand-beside-spec =
     cast-skip
     add-d
     shr-rest
-    add-single
-    mul-single
-    element-copy-out-single
-    mul-double
-    add-double
-    mul-double-2
-    element-copy-out-double
-    mul-triple
-    add-triple
-    mul-triple-2
-    element-copy-out-triple
-    mul-opened
-    add-opened
-    mul-opened-2
-    element-copy-out-opened
+    mul-side
+    add-side
+    mul-side-2
+    element-copy-out-side
     add-d-2
     loop-less
     loop-again
