@@ -329,6 +329,32 @@ impl Pairs {
         self.yes(&drawn);
     }
 
+    /// So many rings, each open or drawn in one of two ways, against as many: the same where each way is drawn on
+    /// no more rings than are drawn so or open on the other side.
+    fn mixed(&mut self, [open, one, other]: [&str; 3], rings: usize) {
+        let counts = [0; 2].map(|_| {
+            let opened = self.random.below(rings / 2 + 1);
+            let drawn = self.random.below(rings - opened + 1);
+            [opened, drawn, rings - opened - drawn]
+        });
+        let is_same = [1, 2].map(|way| counts[0][way] <= counts[1][way] + counts[1][0]);
+        let [first, second] = counts.map(|[a, b, c]| {
+            let parts = [vec![open; a], vec![one; b], vec![other; c]].concat();
+            renumbered(&mut self.random, &molecule(&parts.join(".")))
+        });
+        self.pairs.push((first, second, is_same == [true; 2]));
+    }
+
+    /// A molecule with some double bonds of its first matching drawn against itself with others of them drawn.
+    fn part_drawn(&mut self, molecule: &Molecule) {
+        let [one, other] = [0; 2].map(|_| {
+            let count = self.random.below(molecule.atoms.len() / 2);
+            let drawn = part_drawn(&mut self.random, molecule, count);
+            renumbered(&mut self.random, &drawn)
+        });
+        self.pairs.push((one, other, true));
+    }
+
     /// Two graphs that are not the same: `*` atoms, and delocalized atoms where these can be.
     fn told(&mut self, one: &Graph, other: &Graph) {
         self.yes(&one.plain());
@@ -441,6 +467,24 @@ fn mixtures() -> Vec<Family> {
             }
             all.pairs.push((mix(2, 3, 3), mix(3, 2, 3), true));
             all.pairs.push((mix(4, 6, 6), mix(5, 5, 6), true));
+        }),
+        family("labelled rings, open and drawn at random", |all| {
+            let squares = [
+                "[13cH]1[13cH]cc1",
+                "[13CH]=1[13CH]=CC1",
+                "[13CH]1=[13CH]C=C1",
+            ];
+            let hexagons = [
+                "[13cH]1[13cH]cccc1",
+                "[13CH]=1[13CH]=CC=CC1",
+                "[13CH]1=[13CH]C=CC=C1",
+            ];
+            let xylenes = ["Cc1c(C)cccc1", "CC=1C(C)=CC=CC1", "CC1=C(C)C=CC=C1"];
+            for _ in 0..20 {
+                all.mixed(squares, 16);
+                all.mixed(hexagons, 10);
+                all.mixed(xylenes, 8);
+            }
         }),
     ]
 }
@@ -617,6 +661,18 @@ fn delocalized() -> Vec<Family> {
         family("strongly regular graphs, delocalized", |all| {
             all.told_kept(&rook(), &shrikhande());
             all.told_kept(&rook().times(4), &rook().times(3).and(&shrikhande()));
+        }),
+        family("cubes, part drawn", |all| {
+            for dimensions in [5, 6] {
+                let whole = cube(dimensions).kept();
+                (0..20).for_each(|_| all.part_drawn(&whole));
+            }
+        }),
+        family("squares on a torus, part drawn", |all| {
+            for (rows, columns) in [(6, 6), (6, 8), (8, 8), (4, 16)] {
+                let whole = squares(rows, columns, 0).kept();
+                (0..5).for_each(|_| all.part_drawn(&whole));
+            }
         }),
         family("delocalized rings", |all| {
             let rings = |count: usize, size: usize| Graph::ring(size).times(count);

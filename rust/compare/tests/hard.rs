@@ -10,7 +10,7 @@ use std::sync::mpsc;
 use std::thread;
 use std::time::Duration;
 
-/// No pair takes as long; the slowest takes about a hundredth of it.
+/// No pair takes as long; the slowest takes about a fiftieth of it.
 const LIMIT: Duration = Duration::from_secs(5);
 
 #[test]
