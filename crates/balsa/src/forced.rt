@@ -8,7 +8,7 @@ use kekule_answers::found_code;
 
 // What the call for the first hands back: code 0 with how many pairs are forced, or the refusal's code with 0.
 #[repr(C)]
-#[derive(Drop)]
+#[derive(Clone, Copy)]
 pub struct ForcedReply {
     pub code: u32,
     pub forced: usize,

@@ -7,7 +7,7 @@ use molecule_key::KeyAnswer;
 
 // What the key's call hands back: code 0 with the key, or the refusal's code with 0.
 #[repr(C)]
-#[derive(Drop)]
+#[derive(Clone, Copy)]
 pub struct KeyReply {
     pub code: u32,
     pub key: u64,

@@ -7,7 +7,7 @@ use lease::{Lease, Release};
 
 // What asking for a release hands back: 0 yes, with the number up to which everything is held and the age of the head; 1 withdrawn; 2 undecided; 3 stale, with the age; 4 halted. What is not named is 0.
 #[repr(C)]
-#[derive(Drop)]
+#[derive(Clone, Copy)]
 pub struct ReleaseReply {
     pub answer: u32,
     pub held: u64,

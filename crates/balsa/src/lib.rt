@@ -1,4 +1,5 @@
 // The public calls for C and Rust: slices, counts and numbers in, codes out.
+#![tactic(auto)]
 ghost use Rattle.std.specs.Prelude.{◌≡◌};
 ghost use Rattle.matching.specs.declared.Call.TheVariants.{First, Next};
 ghost use Rattle.kekule.specs.Kekule.{call_reply, call_on, asked_of, kekulize_reply, kekulized_of};
@@ -30,7 +31,7 @@ mod withdrawal_calls;
 // What reading hands back: code 0 with the counts of atoms, of bonds and of over-full atoms outside brackets, or the refusal's code
 // with its offset and counts of 0.
 #[repr(C)]
-#[derive(Drop)]
+#[derive(Clone, Copy)]
 pub struct ReadReply {
     pub code: u32,
     pub place: usize,
@@ -71,7 +72,7 @@ pub extern "C" fn balsa_read(text: &[u8], atoms: &mut [i32], bonds: &mut [i32]) 
 
 // What writing hands back: code 0 with the length of the text, or the refusal's code.
 #[repr(C)]
-#[derive(Drop)]
+#[derive(Clone, Copy)]
 pub struct WriteReply {
     pub code: u32,
     pub length: usize,

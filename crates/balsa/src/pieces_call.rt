@@ -9,7 +9,7 @@ use reading_pieces::Paused;
 // What a call hands back: the code with its offset, at an accepted end the counts of atoms, of bonds and of over-full atoms outside
 // brackets, else counts of 0; and the state for the next call.
 #[repr(C)]
-#[derive(Drop)]
+#[derive(Clone, Copy)]
 pub struct FedReply {
     pub code: u32,
     pub place: usize,

@@ -9,7 +9,7 @@ use register_walk::Walked;
 
 // What reading an entry hands back: code 0 with found 1 and where its body stands; code 0 with found 0 where there is none; or the refusal's code.
 #[repr(C)]
-#[derive(Drop)]
+#[derive(Clone, Copy)]
 pub struct EntryReply {
     pub code: u32,
     pub found: u32,
@@ -83,7 +83,7 @@ pub extern "C" fn balsa_register_entry(reg: &[u8], place: usize) -> EntryReply
 
 // What a step of a walk hands back: code 0 with the entry and the place of the next step; or 255 at the end or the refusal's code, with the place handed in.
 #[repr(C)]
-#[derive(Drop)]
+#[derive(Clone, Copy)]
 pub struct WalkReply {
     pub code: u32,
     pub tag: u16,

@@ -9,7 +9,7 @@ use report_blocks::whole::Printed;
 
 // What the report hands back: code 0 with the number of bytes, or code 1 with length 0.
 #[repr(C)]
-#[derive(Drop)]
+#[derive(Clone, Copy)]
 pub struct ReportReply {
     pub code: u32,
     pub length: usize,

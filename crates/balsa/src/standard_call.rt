@@ -8,7 +8,7 @@ use standard::Standardized;
 // What the call hands back: code 0 with the counts of atoms, of bonds and of over-full atoms outside brackets and the length of the text,
 // or the refusal's code with its place, the counts and the length being 0.
 #[repr(C)]
-#[derive(Drop)]
+#[derive(Clone, Copy)]
 pub struct StandardReply {
     pub code: u32,
     pub place: usize,

@@ -7,7 +7,7 @@ use element::Symbol;
 
 // Code 0 with the number of bytes, the atomic number and 1 for a selected letter; or 3 with the place of the byte that no symbol goes on with.
 #[repr(C)]
-#[derive(Drop)]
+#[derive(Clone, Copy)]
 pub struct SymbolReply {
     pub code: u32,
     pub place: usize,

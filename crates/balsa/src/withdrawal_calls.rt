@@ -8,7 +8,7 @@ use withdrawal::walk::Withdrawn;
 
 // What withdrawing hands back: 0, or the refusal's code with its place.
 #[repr(C)]
-#[derive(Drop)]
+#[derive(Clone, Copy)]
 pub struct WithdrawReply {
     pub code: u32,
     pub place: usize,
@@ -28,7 +28,7 @@ pub extern "C" fn balsa_withdraw(reg: &mut [u8], tag: u16, text: &[u8]) -> Withd
 
 // What is said of a text: code 0 with answer 0 (clear), 1 (withdrawn, with the tag and place of the entry) or 2 (undecided, with the place of the entry); or the refusal's code with its place.
 #[repr(C)]
-#[derive(Drop)]
+#[derive(Clone, Copy)]
 pub struct WithdrawnReply {
     pub code: u32,
     pub place: usize,

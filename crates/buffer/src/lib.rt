@@ -1,4 +1,6 @@
 // Bytes laid into a buffer one after the other.
+#![tactic(auto)]
+
 ghost use Rattle.std.specs.Prelude.{◌-◌, ◌≤◌, ◌≡◌, [], ◌∷◌, ◌++◌, length, take, replicate};
 ghost use Rattle.buffer.specs.Buffer.{following, buffer_at, Wrote};
 

@@ -1,4 +1,5 @@
 // The row of sides of a molecule: at which double bonds the lowest marked neighbours of the two ends lie on the same side.
+#![tactic(auto)]
 ghost use Rattle.std.specs.Prelude.{◌≡◌, ◌++◌, ◌<◌, ◌≤◌, length, drop};
 ghost use Rattle.loops.specs.Loop.{up_to};
 ghost use Rattle.table.specs.Limits.{max_bonds};
@@ -9,7 +10,7 @@ use refusal::Refusal;
 use table::{Check, FIRST, KIND, MAX_BONDS, SECOND, cell};
 
 // A marked neighbour of an atom, and the side on which it lies as a mark; side 0: there is none.
-#[derive(Drop)]
+#[derive(Clone, Copy)]
 struct Lowest {
     neighbour: usize,
     side: u8,

@@ -1,4 +1,6 @@
 // Element symbols: found from bytes, and spelled. The rows `A` to `Z` hold the atomic numbers of the symbols of two letters by the place of the second, `a` to `z`; each says its symbols.
+#![tactic(auto)]
+
 ghost use Rattle.std.specs.Prelude.{◌≡◌, [], ◌∷◌, ◌+◌, ◌<◌};
 ghost use Rattle.element.specs.Lookup.{number_of, selected_of, single_of, symbol_of, letter_of, bare, bytes_of, selected_bytes, spelling};
 
@@ -81,7 +83,7 @@ const SPELLED: [u8; 238] = *b"*\0H\0HeLiBeB\0C\0N\0O\0F\0NeNaMgAlSiP\0S\0ClArK\0
     FmMdNoLrRfDbSgBhHsMtDsRgCnNhFlMcLvTsOg";
 
 // What stands at the place of a bracket's symbol.
-#[derive(Drop)]
+#[derive(Clone, Copy)]
 pub enum Symbol {
     // A symbol of two letters: its atomic number.
     Long(u8),
@@ -96,7 +98,7 @@ pub enum Symbol {
 }
 
 // What begins outside brackets.
-#[derive(Drop)]
+#[derive(Clone, Copy)]
 pub enum Letter {
     // A letter by itself: its atomic number, 0 for `*`.
     Plain(u8),
@@ -110,7 +112,7 @@ pub enum Letter {
 }
 
 // The bytes of a symbol; the second is 0 where there is one letter.
-#[derive(Drop)]
+#[derive(Clone, Copy)]
 pub struct Spelling {
     pub first: u8,
     pub second: u8,

@@ -1,1 +1,2 @@
 // The texts that 01 marks to be proved, as one table under one theorem.
+#![tactic(auto)]

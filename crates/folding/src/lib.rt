@@ -1,4 +1,5 @@
 // Folding: marks and map numbers are left aside, and plain hydrogen atoms become hydrogens of their neighbours. Every function here is internal.
+#![tactic(auto)]
 ghost use Rattle.std.specs.Prelude.{◌≡◌, ◌++◌, ◌<◌, ◌≤◌, length, drop, replicate, get_or, pos};
 ghost use Rattle.loops.specs.Loop.{how_many, up_to};
 ghost use Rattle.table.specs.Limits.{max_atoms, max_bonds};
@@ -19,7 +20,7 @@ const NONE: u16 = 65535;
 const SINGLE: i32 = 1;
 
 // How many atoms and bonds a molecule has.
-#[derive(Drop)]
+#[derive(Clone, Copy)]
 pub struct Counts {
     pub atoms: usize,
     pub bonds: usize,

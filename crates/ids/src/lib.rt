@@ -1,11 +1,12 @@
 // The numbers of atoms and bonds, and the limits that the papers set.
+#![tactic(auto)]
 
 // The number of an atom: atoms count from 0 as they begin (01, The text).
-#[derive(Drop)]
+#[derive(Clone, Copy)]
 pub struct AtomId(pub usize);
 
 // The number of a bond: bonds count from 0 as they are completed (01, The text).
-#[derive(Drop)]
+#[derive(Clone, Copy)]
 pub struct BondId(pub usize);
 
 // 02, P7: at most this many atoms.

@@ -1,4 +1,5 @@
 // What the calls for matchings answer, and the code of each answer.
+#![tactic(auto)]
 ghost use Rattle.std.specs.Prelude.{◌≡◌};
 ghost use Rattle.kekule_answers.specs.Answers.{found_of, found_code, is_given, call_of};
 
@@ -6,7 +7,7 @@ use matching::{Call, MatchingAnswer};
 use refusal::Refusal;
 
 // What the calls for a matching answer.
-#[derive(Drop)]
+#[derive(Clone, Copy)]
 pub enum Found {
     // The row is the matching asked for.
     Given,

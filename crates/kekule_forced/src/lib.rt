@@ -1,4 +1,5 @@
 // The public calls of the second engine (02, P9) on tables: the first matching with the pairs forced before any choice, and the next one.
+#![tactic(auto)]
 ghost use Rattle.std.specs.Prelude.{◌≡◌, ◌≤◌, length};
 ghost use Rattle.table.specs.Limits.{max_bonds};
 ghost use Rattle.table.specs.Valid.{Valid};
@@ -17,7 +18,7 @@ use refusal::Refusal;
 use table::{MAX_ATOMS, MAX_BONDS};
 
 // What the call for the first answers, and how many pairs are forced.
-#[derive(Drop)]
+#[derive(Clone, Copy)]
 pub struct ForcedFound {
     pub found: Found,
     pub count: usize,

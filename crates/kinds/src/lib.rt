@@ -1,4 +1,6 @@
 // The kinds of bonds: what each adds to a bond sum, its symbol, a mark seen from the other end, and how two meet at a bridge.
+#![tactic(auto)]
+
 ghost use Rattle.std.specs.Prelude.{◌≡◌};
 ghost use Rattle.kinds.specs.Kind.{order, symbol_kind, bond_symbol, mark_of, turned, meet, clash};
 

@@ -1,10 +1,12 @@
 // The lease: what a follower of a numbered feed of withdrawals has stored and heard, and whether it may release.
+#![tactic(auto)]
+
 ghost use Rattle.std.specs.Prelude.{◌≡◌, ◌-◌};
 ghost use Rattle.lease.specs.Lease.{begun, halted, heard_of, stored_of, fresh_of, release_of};
 
 // What is known of the feed. Any numbers are a lease.
 #[repr(C)]
-#[derive(Drop)]
+#[derive(Clone, Copy)]
 pub struct Lease {
     // 0: no head was heard; 1: one was; any other: halted for good.
     pub phase: u32,
@@ -16,7 +18,7 @@ pub struct Lease {
 }
 
 // The answer to "may this be released".
-#[derive(Drop)]
+#[derive(Clone, Copy)]
 pub enum Release {
     // Everything up to the number is held, and the head was asked for so long ago.
     Yes { held: u64, age: u64 },

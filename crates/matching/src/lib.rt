@@ -1,7 +1,8 @@
 // Matchings of the delocalized atoms: what the two calls answer. Their definitions and laws stand in specs/ and proofs/.
+#![tactic(auto)]
 
 // Given: the row is a matching; Absent: there is none (code 11); Refused: the row handed in is no matching (code 12); Ended: none follows.
-#[derive(Drop)]
+#[derive(Clone, Copy)]
 pub enum MatchingAnswer {
     Given,
     Absent,
@@ -10,7 +11,7 @@ pub enum MatchingAnswer {
 }
 
 // The two calls that hand out matchings.
-#[derive(Drop)]
+#[derive(Clone, Copy)]
 pub enum Call {
     First,
     Next,

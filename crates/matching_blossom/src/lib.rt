@@ -4,6 +4,8 @@
 //
 // Tables hold atom numbers, or EMPTY. The free bonds are kept as halves: the half 2 j leads from the first end of the bond j
 // to the second, and 2 j + 1 back. `head` has 1 more than the first half at each atom, `link` that of the next; 0 ends a list.
+#![tactic(auto)]
+
 ghost use Rattle.std.specs.Prelude.{◌≤◌};
 
 use ids::{AtomId, BondId, MAX_ATOMS, MAX_BONDS};

@@ -1,6 +1,7 @@
 // A search for matchings that asks at every bond that can be chosen for a reason why nothing is left (`matching_blossom`), and
 // checks it. It is never slow: a branch without a matching is left at the next such bond. Every function here is internal, for
 // `matching_engine`.
+#![tactic(auto)]
 ghost use Rattle.std.specs.Prelude.{◌≡◌, Bool, true, false, ◌&&◌, ◌||◌, not, [], ◌++◌, ℕ, ◌+◌, ◌-◌, ◌<◌, ◌≤◌, eqb, length, take, drop, replicate, get_or};
 ghost use Rattle.loops.specs.Loop.{run};
 ghost use Rattle.matching.specs.Graph.{count_if};

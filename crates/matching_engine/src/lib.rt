@@ -1,6 +1,7 @@
 // The search that the calls on molecules use: first each bond in turn, with no way back; then a plain search under a budget,
 // which leaves a branch at once when an atom without a partner has no bond left; where it gives up, the certified one. Its
 // contracts are those of `matching_search`.
+#![tactic(auto)]
 ghost use Rattle.std.specs.Prelude.{◌≡◌, true, [], ℕ, ◌+◌, ◌<◌, ◌≤◌, length, take, set};
 ghost use Rattle.ids.specs.Limits.{max_atoms};
 ghost use Rattle.ids.specs.Small.{small};
@@ -16,7 +17,7 @@ use matching::MatchingAnswer;
 const BUDGET: usize = 400;
 
 // What a search under a budget says.
-#[derive(Drop)]
+#[derive(Clone, Copy)]
 pub enum Sought {
     Found,
     Absent,

@@ -1,6 +1,7 @@
 // Pairs that are forced before any choice, and the engine that forces at every turn (02, P9): "none" where an unpaired atom has no
 // free bond; else, while one has exactly one, the lowest of them is paired; only what is left is searched, under a budget, and where
 // that is spent the certified search answers. Every function here is internal: the calls on molecules check what is asked of the tables.
+#![tactic(auto)]
 ghost use Rattle.std.specs.Prelude.{◌≡◌, true, false, [], ◌++◌, ℕ, ◌-◌, ◌<◌, ◌≤◌, length, take, replicate, get_or};
 ghost use Rattle.matching.specs.Enumeration.{row_next};
 ghost use Rattle.matching.specs.Graph.{is_matching};
@@ -18,7 +19,7 @@ use matching_engine::Sought;
 const BUDGET: usize = 2000;
 
 // What a turn of the rule gives.
-#[derive(Drop)]
+#[derive(Clone, Copy)]
 pub enum Turn {
     // An unpaired atom has no free bond: there is no matching.
     Stuck,
@@ -29,14 +30,14 @@ pub enum Turn {
 }
 
 // The pairs that were forced: how many, and whether an atom is stuck after them.
-#[derive(Drop)]
+#[derive(Clone, Copy)]
 pub struct Forcing {
     pub count: usize,
     pub stuck: bool,
 }
 
 // What the call for the first answers, and how many pairs are forced.
-#[derive(Drop)]
+#[derive(Clone, Copy)]
 pub struct ForcedAnswer {
     pub answer: MatchingAnswer,
     pub count: usize,

@@ -1,5 +1,7 @@
 // A plain backtracking search for matchings, over tables that the caller lends: the engine that others are compared with.
 // Every function here is internal: the calls on molecules check what is asked of the tables.
+#![tactic(auto)]
+
 ghost use Rattle.std.specs.Prelude.{◌≡◌, true, ◌++◌, ℕ, ◌-◌, ◌<◌, ◌≤◌, length, take, drop, replicate, get_or};
 ghost use Rattle.matching.specs.Enumeration.{row_first, row_next};
 ghost use Rattle.matching.specs.Graph.{flagged, none_flagged, is_matching};

@@ -1,4 +1,5 @@
 // The key of a molecule: redrawings have equal keys.
+#![tactic(auto)]
 ghost use Rattle.std.specs.Prelude.{◌≡◌, ◌*◌, ◌≤◌, length};
 ghost use Rattle.ids.specs.Small.{small};
 ghost use Rattle.table.specs.Limits.{atom_cells, bond_cells};
@@ -12,7 +13,7 @@ use refusal::Refusal;
 use table::{ATOM_CELLS, BOND_CELLS, MAX_ATOMS, MAX_BONDS};
 
 // The key, or a refusal.
-#[derive(Drop)]
+#[derive(Clone, Copy)]
 pub enum KeyAnswer {
     Key(u64),
     Refused(Refusal),

@@ -17,14 +17,14 @@ use table::{BOND_CELLS, Bond, FIRST, MAX_BONDS, SECOND};
 use table_edits::put_bond;
 
 // How a part of a text went.
-#[derive(Drop)]
+#[derive(Clone, Copy)]
 pub enum Why {
     Fine,
     Refused(Refusal, usize),
 }
 
 // How it went, the next offset, and the state.
-#[derive(Drop)]
+#[derive(Clone, Copy)]
 pub struct PartRead {
     pub why: Why,
     pub at: usize,
@@ -32,7 +32,7 @@ pub struct PartRead {
 }
 
 // The bond that a bridge closes with, or the refusal.
-#[derive(Drop)]
+#[derive(Clone, Copy)]
 pub enum Closing {
     Bond(Bond),
     Refused(Refusal),

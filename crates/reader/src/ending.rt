@@ -26,14 +26,14 @@ use table_edits::clear;
 use valence::Reached;
 
 // A molecule with its counts of atoms, bonds and over-full atoms, or a refusal with its offset.
-#[derive(Drop)]
+#[derive(Clone, Copy)]
 pub enum ReadAnswer {
     Molecule(usize, usize, usize),
     Refused(Refusal, usize),
 }
 
 // Whether a molecule has a matching, and its number of over-full atoms.
-#[derive(Drop)]
+#[derive(Clone, Copy)]
 struct Whole {
     matchable: bool,
     overfull: usize,

@@ -1,4 +1,5 @@
 // One byte of a text: what it does to a reading whose arrays are lent.
+#![tactic(auto)]
 ghost use Rattle.std.specs.Prelude.{◌≡◌, ◌&&◌, not, List, [], ℕ, ◌-◌, ◌≤◌, ◌<◌, ℤ, eqb};
 ghost use Rattle.ids.specs.Limits.{max_text, max_depth, bridges};
 ghost use Rattle.table.specs.Limits.{max_atoms};
@@ -25,7 +26,7 @@ use refusal::Refusal;
 use table_edits::{put_atom, put_bond};
 
 // The numbers that steer a reading; its arrays are lent beside it.
-#[derive(Drop)]
+#[derive(Clone, Copy)]
 pub struct Head {
     // Where the byte machine stands; before the first atom it waits for one.
     pub mode: Mode,
@@ -43,14 +44,14 @@ pub struct Head {
 }
 
 // The reading goes on, or is refused with an offset.
-#[derive(Drop)]
+#[derive(Clone, Copy)]
 pub enum Byte {
     Taken(Head),
     Refused(Refusal, usize),
 }
 
 // Where the machine goes.
-#[derive(Drop)]
+#[derive(Clone, Copy)]
 pub enum Way {
     Nowhere,
     To(Mode),

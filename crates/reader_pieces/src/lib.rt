@@ -1,4 +1,5 @@
 // Reading a text in pieces: start, feed, end.
+#![tactic(auto)]
 ghost use Rattle.std.specs.Prelude.{◌≡◌};
 ghost use Rattle.loops.specs.Loop.{pick};
 ghost use Rattle.reading_pieces.specs.Calls.{start_of, fed_of, end_of};
@@ -15,7 +16,7 @@ pub mod ending;
 pub mod run;
 
 // A call's answer: a code with its offset, the counts of atoms, bonds and over-full atoms, and the state.
-#[derive(Drop)]
+#[derive(Clone, Copy)]
 pub struct Fed {
     pub code: u8,
     pub place: usize,

@@ -1,4 +1,5 @@
 // What a byte that the grammar takes does beside it.
+#![tactic(auto)]
 ghost use Rattle.std.specs.Prelude.{◌≡◌, true, ℕ, ◌≤◌, eqb};
 ghost use Rattle.loops.specs.Loop.{pick};
 ghost use Rattle.element.specs.Symbols.{among};
@@ -23,7 +24,7 @@ use reading_machine::byte::{is_bond_symbol, is_digit, is_nonzero, is_several, is
 use reading_state::Fields;
 
 // Nothing; an atom begins; a second letter makes the hub's element; a bridge of a number, its digit or `%` so many bytes back; what stands before the next atom or bridge, by its number; a branch opens, closes; the first digit after `%`; other fields of the bracket; the bracket's row is complete.
-#[derive(Drop)]
+#[derive(Clone, Copy)]
 pub enum Deed {
     Keep,
     Atom(Letter),

@@ -10,28 +10,28 @@ use element::Symbol;
 use reading_state::Fields;
 
 // The number in a field, 0 where it is absent, and the offset after it; or the offset at which no bracket goes on.
-#[derive(Drop)]
+#[derive(Clone, Copy)]
 pub enum Field {
     Value(u16, usize),
     Refused(usize),
 }
 
 // The same of the charge.
-#[derive(Drop)]
+#[derive(Clone, Copy)]
 pub enum Charge {
     Value(i32, usize),
     Refused(usize),
 }
 
 // The same of the symbol: the element, and 1 for a selected letter.
-#[derive(Drop)]
+#[derive(Clone, Copy)]
 pub enum Named {
     Value(u16, u16, usize),
     Refused(usize),
 }
 
 // The fields of a whole bracket, and the offset after its `]`.
-#[derive(Drop)]
+#[derive(Clone, Copy)]
 pub enum Bracket {
     Row(Fields, usize),
     Refused(usize),

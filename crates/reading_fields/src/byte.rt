@@ -6,7 +6,7 @@ ghost use Rattle.reading.specs.Bracket.{digit};
 ghost use Rattle.reading_fields.specs.Field.{Peeked, Grown};
 
 // A number of digits that were read, and the offset after them.
-#[derive(Drop)]
+#[derive(Clone, Copy)]
 pub struct Number {
     pub value: u16,
     pub at: usize,

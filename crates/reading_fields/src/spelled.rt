@@ -13,7 +13,7 @@ use reading_state::Fields;
 use table::Atom;
 
 // An atom's row before its hydrogens are known, 1 if it stands outside brackets, and the offset after it; no atom begins here; or the offset at which no atom goes on.
-#[derive(Drop)]
+#[derive(Clone, Copy)]
 pub enum Spelled {
     Row(Atom, u8, usize),
     Nothing,

@@ -1,7 +1,8 @@
 // The grammar of texts: the types of the byte machine. Its definitions and theorems are in specs/ and proofs/.
+#![tactic(auto)]
 
 // The byte with which the atom just read may go on: l after C, r after B.
-#[derive(Drop)]
+#[derive(Clone, Copy)]
 pub enum Last {
     Plain,
     AfterC,
@@ -9,7 +10,7 @@ pub enum Last {
 }
 
 // Where in a text the machine stands: AtomNext after a dot, and after a symbol that opens a branch, where an atom must follow.
-#[derive(Drop)]
+#[derive(Clone, Copy)]
 pub enum Mode {
     Seq(Last),
     Bond,
@@ -34,7 +35,7 @@ pub enum Mode {
 }
 
 // What a byte does: no text goes on with it, a mode follows, a branch opens, a branch closes.
-#[derive(Drop)]
+#[derive(Clone, Copy)]
 pub enum Move {
     Stop,
     To(Mode),
@@ -43,7 +44,7 @@ pub enum Move {
 }
 
 // The machine: no text begins so, nothing read yet, or a mode with the number of open branches.
-#[derive(Drop)]
+#[derive(Clone, Copy)]
 pub enum MachineState {
     Dead,
     Start,

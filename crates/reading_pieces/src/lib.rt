@@ -1,10 +1,11 @@
 // Reading a text in pieces: what the caller keeps between two of them. The definitions and theorems are in specs/ and proofs/.
+#![tactic(auto)]
 use ids::{BRIDGES, MAX_ATOMS, MAX_DEPTH};
 use reading_state::KEYS;
 
 // A reading between two pieces, as numbers and arrays; every cell is 0 before the first byte, and once it was refused or has ended all but the first two are.
 #[repr(C)]
-#[derive(Drop)]
+#[derive(Clone, Copy)]
 pub struct Paused {
     // 0 while the reading goes on, 24 once it has ended, else the code of the refusal that was told; and that refusal's offset.
     pub told: u8,

@@ -1,4 +1,5 @@
 // The reading state by value: the hub, the open branches and the open bridges, with the counts.
+#![tactic(auto)]
 ghost use Rattle.std.specs.Prelude.{◌≡◌, List, ℕ, ◌+◌, ◌-◌, ◌≤◌, ◌<◌, get_or, set, replicate, eqb};
 ghost use Rattle.loops.specs.Loop.{pick};
 ghost use Rattle.table.specs.Limits.{max_atoms};
@@ -11,7 +12,7 @@ use ids::{AtomId, BRIDGES, MAX_BONDS, MAX_DEPTH};
 pub const KEYS: usize = 2 * MAX_BONDS;
 
 // The fields of a bracket.
-#[derive(Drop)]
+#[derive(Clone, Copy)]
 pub struct Fields {
     pub element: u16,
     pub selected: u16,
@@ -23,14 +24,14 @@ pub struct Fields {
 }
 
 // Where a bridge number was opened: nowhere, or at an atom with a symbol of a kind (0: none).
-#[derive(Drop)]
+#[derive(Clone, Copy)]
 pub enum Opening {
     Free,
     At(AtomId, u8),
 }
 
 // The numbers stand between the arrays, so that the compiler copies each array by itself.
-#[derive(Drop)]
+#[derive(Clone, Copy)]
 pub struct State {
     // The hub of each open branch, and how many are open.
     pub hubs: [u16; MAX_DEPTH],

@@ -1,9 +1,11 @@
 // The refusals of every call, with their codes.
+#![tactic(auto)]
+
 ghost use Rattle.std.specs.Prelude.{◌≡◌};
 ghost use Rattle.refusal.specs.Code.{code_of};
 
 // One case for each code of the table "When a call says no", in its order.
-#[derive(Drop)]
+#[derive(Clone, Copy)]
 pub enum Refusal {
     Short,
     LongText,

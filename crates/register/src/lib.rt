@@ -1,4 +1,6 @@
 // A register of entries, each a tag and a body, in bytes that the caller lends; adding survives a power cut.
+#![tactic(auto)]
+
 ghost use Rattle.std.specs.Prelude.{◌≡◌};
 ghost use Rattle.register.specs.Answers.{code_of, out, emptied_of, stepped_of, added_of, found_out, found_of, body_at};
 
@@ -8,7 +10,7 @@ pub mod contents;
 mod store;
 
 // What a call that changes the register answers; a refusal leaves the register as it was.
-#[derive(Drop)]
+#[derive(Clone, Copy)]
 pub enum RegisterAnswer {
     Done,
     // Under 32,768 bytes.
@@ -20,7 +22,7 @@ pub enum RegisterAnswer {
 }
 
 // What reading an entry answers.
-#[derive(Drop)]
+#[derive(Clone, Copy)]
 pub enum Found {
     Short,
     Invalid,

@@ -1,4 +1,5 @@
 // Walking a register: each entry once, in the order of the contents, then the end.
+#![tactic(auto)]
 ghost use Rattle.std.specs.Prelude.{◌≡◌};
 ghost use Rattle.register.specs.Answers.{code_of, body_at};
 ghost use Rattle.register_walk.specs.Walk.{started_of, walked_out, walked_of};
@@ -6,7 +7,7 @@ ghost use Rattle.register_walk.specs.Walk.{started_of, walked_out, walked_of};
 use register::{Found, RegisterAnswer};
 
 // What a step of a walk answers.
-#[derive(Drop)]
+#[derive(Clone, Copy)]
 pub enum Walked {
     Short,
     Invalid,
@@ -75,7 +76,7 @@ pub fn place_after(register: &[u8], place: usize) -> usize
 }
 
 // A walk that holds the register and the place of its next step. Any register may be held: `start` says whether it can be walked, and so does each step.
-#[derive(Drop)]
+#[derive(Clone, Copy)]
 pub struct RegisterReader<'a> {
     pub register: &'a [u8],
     pub next: usize,

@@ -1,6 +1,7 @@
 // The report of standard input to standard output, in blocks. No contract can say what is read or written: what the calls lay is
 // the report of the whole input, however it comes in blocks (crate report_blocks, proofs/Run.antt). After a failed read or
 // write the rest is left out, the totals with it, and standard error says so.
+#![tactic(auto)]
 ghost use Rattle.report_lines.specs.Cut.{Bounded};
 ghost use Rattle.report.specs.Turned.{Turned};
 
@@ -9,7 +10,7 @@ use report_blocks::Progress;
 use report_lines::output;
 
 // After a turn: whether all was written, the place in the block, and how far the report is.
-#[derive(Drop)]
+#[derive(Clone, Copy)]
 pub struct Turn {
     pub written: bool,
     pub at: usize,
@@ -17,7 +18,7 @@ pub struct Turn {
 }
 
 // After a block: whether there may be more, whether nothing failed, and how far the report is.
-#[derive(Drop)]
+#[derive(Clone, Copy)]
 pub struct Step {
     pub more: bool,
     pub whole: bool,

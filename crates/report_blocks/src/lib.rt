@@ -1,4 +1,5 @@
 // The report of an input: whole in memory (`whole`), or as it comes in blocks.
+#![tactic(auto)]
 ghost use Rattle.std.specs.Prelude.{◌≡◌, []};
 ghost use Rattle.buffer.specs.Buffer.{buffer_at, Wrote};
 ghost use Rattle.report_lines.specs.Cut.{gathered, Bounded};
@@ -13,7 +14,7 @@ use report_lines::output;
 pub mod whole;
 
 // The number of the next line, and how many texts were accepted and refused before it.
-#[derive(Drop)]
+#[derive(Clone, Copy)]
 pub struct Tally {
     pub number: usize,
     pub accepted: usize,
@@ -21,14 +22,14 @@ pub struct Tally {
 }
 
 // How far a report is: the line so far, and the counts.
-#[derive(Drop)]
+#[derive(Clone, Copy)]
 pub struct Progress {
     pub line: Line,
     pub tally: Tally,
 }
 
 // The report of a block: the place after what was taken, the bytes laid, and the progress.
-#[derive(Drop)]
+#[derive(Clone, Copy)]
 pub struct Report {
     pub at: usize,
     pub used: usize,

@@ -10,7 +10,7 @@ use report_lines::input::line_end;
 use report_lines::output;
 
 // What the report's call answers: the number of bytes, or a refusal.
-#[derive(Drop)]
+#[derive(Clone, Copy)]
 pub enum Printed {
     Bytes(usize),
     Refused(Refusal),

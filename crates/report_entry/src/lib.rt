@@ -1,4 +1,5 @@
 // The line of the report for a text, by the functions behind the call from text to text.
+#![tactic(auto)]
 ghost use Rattle.std.specs.Prelude.{◌≤◌, length, replicate};
 ghost use Rattle.refusal.specs.Code.{code_of};
 ghost use Rattle.table.specs.Limits.{max_atoms};
@@ -20,7 +21,7 @@ use writer::Written;
 pub const LINE_ROOM: usize = 91 + (MAX_BONDS + MAX_TEXT);
 
 // Whether the text was accepted, and the place after its line.
-#[derive(Drop)]
+#[derive(Clone, Copy)]
 pub struct Reported {
     pub accepted: bool,
     pub at: usize,

@@ -8,14 +8,14 @@ use ids::MAX_TEXT;
 pub const MAX_LINE: usize = MAX_TEXT + 1;
 
 // The line so far: its first bytes. Further bytes are dropped.
-#[derive(Drop)]
+#[derive(Clone, Copy)]
 pub struct Line {
     pub bytes: [u8; MAX_LINE],
     pub len: usize,
 }
 
 // Whether the line's end was met; the place after what was taken; the line.
-#[derive(Drop)]
+#[derive(Clone, Copy)]
 pub struct Filled {
     pub done: bool,
     pub at: usize,

@@ -1,1 +1,2 @@
 // Theorems only: reading what was written. See proofs/Claims.antt.
+#![tactic(auto)]

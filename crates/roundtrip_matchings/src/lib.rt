@@ -1,1 +1,2 @@
 // Theorems only: whether a matching exists survives a renumbering. See proofs/Claims.antt.
+#![tactic(auto)]

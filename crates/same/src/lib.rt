@@ -1,4 +1,5 @@
 // Whether two molecules are the same compound, drawn differently (02, P4).
+#![tactic(auto)]
 ghost use Rattle.std.specs.Prelude.{◌≡◌, ◌≤◌, ltb, length, take, replicate, get_or};
 ghost use Rattle.loops.specs.Loop.{pick};
 ghost use Rattle.matching.specs.Enumeration.{fill};
@@ -13,7 +14,7 @@ use same_place::{CELLS, SIDE};
 use table::{MAX_ATOMS, MAX_BONDS};
 
 // What the call answers.
-#[derive(Drop)]
+#[derive(Clone, Copy)]
 pub enum Sameness {
     // Both rows and the renumbering are handed out.
     Same,

@@ -1,4 +1,5 @@
 // Whether any renumbering carries one matrix onto another where the orders of some bonds are open: a search under a budget. Every function here is internal.
+#![tactic(auto)]
 ghost use Rattle.std.specs.Prelude.{◌≡◌, true, false, List, ℕ, ◌<◌, ◌≤◌, get_or, length, set};
 ghost use Rattle.same_model.specs.Same.{max_same, image};
 ghost use Rattle.same_place.specs.Place.{entry};
@@ -14,7 +15,7 @@ const OPEN: u16 = 16;
 pub const ALLOWED: usize = 384;
 
 // What a search under a budget tells: whether it found a way, which is not checked, and what is left of the budget; where nothing was found and something is left, there is no way.
-#[derive(Drop)]
+#[derive(Clone, Copy)]
 pub struct Tried {
     pub found: bool,
     pub left: u32,

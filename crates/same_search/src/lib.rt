@@ -1,4 +1,5 @@
 // The search for the smallest renumbering that carries one matrix onto another: first as it comes, under a budget, then with keys made finer at each step. Every function here is internal.
+#![tactic(auto)]
 ghost use Rattle.std.specs.Prelude.{◌≡◌, List, [], ℕ, ◌<◌, ◌≤◌, ◌-◌, ◌*◌, take, get_or, length};
 ghost use Rattle.loops.specs.Loop.{each};
 ghost use Rattle.same_model.specs.Same.{max_same};
@@ -9,7 +10,7 @@ ghost use Rattle.same_search.specs.Search.{Trial, Level, hopeful, agreeing};
 use same_place::{CELLS, SIDE};
 
 // What a search under a budget tells: whether it found a way, and what is left; nothing where that is 0.
-#[derive(Drop)]
+#[derive(Clone, Copy)]
 struct Tried {
     found: bool,
     left: u32,

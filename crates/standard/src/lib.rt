@@ -1,4 +1,5 @@
 // One call from a text to the text kekulized: reading, the first matching, kekulizing and writing.
+#![tactic(auto)]
 ghost use Rattle.std.specs.Prelude.{◌≡◌, true, ◌≤◌, length, replicate};
 ghost use Rattle.refusal.specs.Code.{code_of};
 ghost use Rattle.table.specs.Limits.{max_atoms, max_bonds};
@@ -16,7 +17,7 @@ use table::{ATOM_CELLS, BOND_CELLS, Check, MAX_ATOMS, MAX_BONDS};
 use writer::Written;
 
 // A text, with the counts of atoms, bonds and over-full atoms and its length, or a refusal with its place.
-#[derive(Drop)]
+#[derive(Clone, Copy)]
 pub enum Standardized {
     Text(usize, usize, usize, usize),
     Refused(Refusal, usize),

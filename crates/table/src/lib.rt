@@ -1,4 +1,6 @@
 // Atom and bond tables of signed cells: the only crate that knows cells, signs and row widths.
+#![tactic(auto)]
+
 use refusal::Refusal;
 
 pub mod cell;
@@ -37,7 +39,7 @@ pub const SECOND: usize = 1;
 pub const KIND: usize = 2;
 
 // An atom row.
-#[derive(Drop)]
+#[derive(Clone, Copy)]
 pub struct Atom {
     pub element: i32,
     pub selected: i32,
@@ -49,7 +51,7 @@ pub struct Atom {
 }
 
 // A bond row.
-#[derive(Drop)]
+#[derive(Clone, Copy)]
 pub struct Bond {
     pub first: i32,
     pub second: i32,
@@ -57,7 +59,7 @@ pub struct Bond {
 }
 
 // Whether tables can be worked with.
-#[derive(Drop)]
+#[derive(Clone, Copy)]
 pub enum Check {
     Fine,
     Refused(Refusal),

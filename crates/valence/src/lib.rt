@@ -1,4 +1,6 @@
 // Valence: target valences, implied hydrogens, and the delocalization rule.
+#![tactic(auto)]
+
 ghost use Rattle.std.specs.Prelude.{◌≡◌, ◌+◌, ◌-◌, ◌<◌, ◌≤◌, eqb, pos, nat_abs};
 ghost use Rattle.std.specs.Int.{w64};
 ghost use Rattle.std.proofs.Common.{SFits};
@@ -6,11 +8,11 @@ ghost use Rattle.loops.specs.Loop.{pick};
 ghost use Rattle.valence.specs.Valence.{targets, target_row, first_target, targets_for, first_fitting, reached_in, values_of, hydrogens_of, shifted_target, delocalized};
 
 // The target valences of an element in their order; 0 for each that it lacks.
-#[derive(Drop)]
+#[derive(Clone, Copy)]
 struct Targets(usize, usize, usize);
 
 // What a bond sum meets: the target valence reached, no target (as `*`), or above all targets (an over-full atom).
-#[derive(Drop)]
+#[derive(Clone, Copy)]
 pub enum Reached {
     Target(usize),
     NoTarget,
@@ -18,7 +20,7 @@ pub enum Reached {
 }
 
 // The hydrogens of an atom outside brackets, and the target that they reach.
-#[derive(Drop)]
+#[derive(Clone, Copy)]
 pub struct Hydrogens {
     pub count: usize,
     pub reached: Reached,

@@ -1,4 +1,5 @@
 // The withdrawal check: a withdrawn text is withdrawn in every drawing.
+#![tactic(auto)]
 ghost use Rattle.std.specs.Prelude.{◌≡◌};
 ghost use Rattle.withdrawal.specs.Withdrawal.{withdrew, withdraw_of, Answered};
 ghost use Rattle.withdrawal.specs.Answer.{out_of};
@@ -15,7 +16,7 @@ pub mod walk;
 const SIZE: usize = 32768;
 
 // What withdrawing answers: a code with its place.
-#[derive(Drop)]
+#[derive(Clone, Copy)]
 pub struct Withdrew {
     pub code: u32,
     pub place: usize,

@@ -10,7 +10,7 @@ use reader::ending::ReadAnswer;
 use table::{ATOM_CELLS, BOND_CELLS, MAX_ATOMS, MAX_BONDS};
 
 // An entry's compound is a redrawing of the text's, it is none, or neither could be told.
-#[derive(Drop)]
+#[derive(Clone, Copy)]
 pub enum Verdict {
     Listed,
     Other,

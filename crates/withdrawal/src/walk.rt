@@ -17,7 +17,7 @@ use table::{ATOM_CELLS, BOND_CELLS, MAX_ATOMS, MAX_BONDS};
 const ENTRIES: usize = 64;
 
 // What is said of a text: a refusal with its place; it is clear; an entry, with its tag and place, lists its compound; or the entry at a place could not be decided.
-#[derive(Drop)]
+#[derive(Clone, Copy)]
 pub enum Withdrawn {
     Refused(u32, usize),
     Clear,

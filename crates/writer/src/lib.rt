@@ -1,4 +1,5 @@
 // Writing: the public call, and the bytes of a walk.
+#![tactic(auto)]
 ghost use Rattle.std.specs.Prelude.{◌≡◌, true, List, ◌++◌, ℕ, ◌-◌, ◌<◌, ◌≤◌, length, get_or, take, drop, replicate, ℤ};
 ghost use Rattle.loops.specs.Loop.{up_to};
 ghost use Rattle.table.specs.Limits.{max_atoms};
@@ -19,14 +20,14 @@ pub mod emit;
 pub mod nest;
 
 // What writing answers: the length of the text, or a refusal.
-#[derive(Drop)]
+#[derive(Clone, Copy)]
 pub enum Written {
     Text(usize),
     Refused(Refusal),
 }
 
 // Whether the bridge numbers sufficed, whether the branches nest within the limit, and the place after the last byte.
-#[derive(Drop)]
+#[derive(Clone, Copy)]
 struct Verdict {
     few: bool,
     flat: bool,

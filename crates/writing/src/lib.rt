@@ -1,1 +1,2 @@
 // Writing a molecule: definitions and theorems only.
+#![tactic(auto)]

@@ -1,4 +1,5 @@
 // Bridges: the bonds that the walk does not use, the numbers that are open, and what is written of them at an atom.
+#![tactic(auto)]
 ghost use Rattle.std.specs.Prelude.{◌≡◌, ◌++◌, ◌+◌, ◌<◌, ◌≤◌, length, set};
 ghost use Rattle.table.specs.Limits.{max_bonds};
 ghost use Rattle.ids.specs.Limits.{bridges};
@@ -17,7 +18,7 @@ pub mod unused;
 pub const SLOTS: usize = BRIDGES - 1;
 
 // Whether the bridge numbers sufficed, and the place after the last byte.
-#[derive(Drop)]
+#[derive(Clone, Copy)]
 pub struct Spot {
     pub few: bool,
     pub at: usize,

@@ -10,7 +10,7 @@ ghost use Rattle.writing_bridges.specs.Unused.{bond_arrays, add_bond, in_walk, N
 use ids::BondId;
 
 // The number of a bond among those that the walk does not use.
-#[derive(Drop)]
+#[derive(Clone, Copy)]
 pub struct UnusedId(pub usize);
 
 // The mark of a walk number that is an end of several unused bonds.

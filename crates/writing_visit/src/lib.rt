@@ -1,4 +1,5 @@
 // The walk of a molecule, depth first, into arrays by walk number.
+#![tactic(auto)]
 ghost use Rattle.std.specs.Prelude.{◌≡◌, ℕ, suc, ◌+◌, ◌*◌, ◌<◌, ◌≤◌, true, length, get_or, replicate, set, eqb};
 ghost use Rattle.loops.specs.Loop.{pick, up_to};
 ghost use Rattle.table.specs.Limits.{max_atoms, max_bonds};
@@ -14,11 +15,11 @@ ghost use Rattle.writing_visit.specs.Straight.{Held, Nested, Passed, Cleared, In
 use ids::{AtomId, BondId};
 
 // The number of an atom in the walk, which is its number in the written text.
-#[derive(Drop)]
+#[derive(Clone, Copy)]
 pub struct WalkNumber(pub usize);
 
 // A bond: its ends and its kind.
-#[derive(Drop)]
+#[derive(Clone, Copy)]
 struct Wire {
     first: AtomId,
     second: AtomId,
@@ -112,7 +113,7 @@ fn link(bonds: &[i32], m: usize, head: &mut [u16], after: &mut [u16], behind: &m
 }
 
 // A bond as the walk sees it from an atom: the other end, the kind, and the next bond at the atom.
-#[derive(Drop)]
+#[derive(Clone, Copy)]
 struct Step {
     other: AtomId,
     kind: u8,

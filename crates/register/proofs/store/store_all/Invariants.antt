@@ -1,0 +1,13 @@
+use Rattle.register.proofs.Paths.{used-at, after_next, after-end}
+use native.Mathlib.Omega.{arith}
+use Prim.Native.Nat.{◌+◌, ◌-◌, ◌≤◌}
+use mathlib.Core.Path.{◌≡◌, refl, ◌∙◌}
+use lib.ListN.{length}
+use Rattle.register.specs.Adding.{after_with}
+use Rattle.register.proofs.store.store_all.Given as goal
+
+abbrev pub invariant-loop-k : goal.invariant-loop-k
+invariant-loop-k l = (l.r ≡ after_with l.n l.e l.tag l.body l.k l.initial.r) × (length l.r ≡ length l.initial.r) × (l.k ≤ length l.body + 7)
+
+abbrev pub decreases-loop-k : goal.decreases-loop-k
+decreases-loop-k l = length l.body + 7 - l.k
