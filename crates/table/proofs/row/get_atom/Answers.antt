@@ -22,12 +22,15 @@ returns c = let c6 = c in
     let e4 = c4.atom_cell-4.ensures in
     let e5 = c5.atom_cell-5.ensures in
     let e6 = c6.atom_cell-6.ensures in
-    let e7 = c.atom_cell-7.ensures in record { value = simp (lt-ltb _ _ c1.if-a-ge-MAX_ATOMS.false, to_z-of_z e1.1, to_z-of_z e2.1, to_z-of_z e3.1, to_z-of_z e4.1, to_z-of_z e5.1, to_z-of_z e6.1, to_z-of_z e7.1) (simp (e1.0, e2.0, e3.0, e4.0, e5.0, e6.0, e7.0)); atom_fits = (record {
-        element = simp (to_z-of_z e1.1) e1.1;
-        selected = simp (to_z-of_z e2.1) e2.1;
-        isotope = simp (to_z-of_z e3.1) e3.1;
-        hydrogens = simp (to_z-of_z e4.1) e4.1;
-        charge = simp (to_z-of_z e5.1) e5.1;
-        extension = simp (to_z-of_z e6.1) e6.1;
-        mark = simp (to_z-of_z e7.1) e7.1;
-      }, ) }
+    let e7 = c.atom_cell-7.ensures in record {
+      value = simp (lt-ltb _ _ c1.if-a-ge-MAX_ATOMS.false, to_z-of_z e1.sfits, to_z-of_z e2.sfits, to_z-of_z e3.sfits, to_z-of_z e4.sfits, to_z-of_z e5.sfits, to_z-of_z e6.sfits, to_z-of_z e7.sfits) (simp (e1.value, e2.value, e3.value, e4.value, e5.value, e6.value, e7.value));
+      atom_fits = record {
+        element = simp (to_z-of_z e1.sfits) e1.sfits;
+        selected = simp (to_z-of_z e2.sfits) e2.sfits;
+        isotope = simp (to_z-of_z e3.sfits) e3.sfits;
+        hydrogens = simp (to_z-of_z e4.sfits) e4.sfits;
+        charge = simp (to_z-of_z e5.sfits) e5.sfits;
+        extension = simp (to_z-of_z e6.sfits) e6.sfits;
+        mark = simp (to_z-of_z e7.sfits) e7.sfits;
+      };
+    }

@@ -25,4 +25,4 @@ returns c = let c2 = c in
     let t = a.t.now in
     let e1 : SFits w32 (bond_cell t a.b.0 FIRST) = sfits_of c1.result-1.given in
     let e2 : SFits w32 (bond_cell t a.b.0 SECOND) = sfits_of c2.result-2-1.given in
-    let e3 : SFits w32 (bond_cell t a.b.0 KIND) = sfits_of c.result-3-1.given in record { value = simp (lt-ltb _ _ c0.if-b-ge-MAX_BONDS.false, to_z-of_z e1, to_z-of_z e2, to_z-of_z e3); bond_fits = (record { first = simp (to_z-of_z e1) e1; second = simp (to_z-of_z e2) e2; kind = simp (to_z-of_z e3) e3 }, ) }
+    let e3 : SFits w32 (bond_cell t a.b.0 KIND) = sfits_of c.result-3-1.given in record { value = simp (lt-ltb _ _ c0.if-b-ge-MAX_BONDS.false, to_z-of_z e1, to_z-of_z e2, to_z-of_z e3); bond_fits = record { first = simp (to_z-of_z e1) e1; second = simp (to_z-of_z e2) e2; kind = simp (to_z-of_z e3) e3 } }
