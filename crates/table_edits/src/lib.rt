@@ -1,5 +1,6 @@
 // What is written into tables: whole rows, zeros, and the edits that kekulize a molecule.
 #![tactic(auto)]
+
 ghost use Rattle.std.specs.Prelude.{◌≡◌, ◌<◌, length, replicate, pos};
 ghost use Rattle.table.specs.Limits.{max_atoms, max_bonds, MARK, KIND};
 ghost use Rattle.table.specs.Cells.{atom_place, bond_place};

@@ -1,5 +1,6 @@
 // The marks of bonds: on which side of an atom they place its neighbours, and the tests behind the refusals 20 and 21.
 #![tactic(auto)]
+
 ghost use Rattle.std.specs.Prelude.{◌≡◌, ◌&&◌, not, ◌<◌, ◌≤◌, eqb, length};
 ghost use Rattle.loops.specs.Loop.{pick};
 ghost use Rattle.table.specs.Limits.{max_bonds};

@@ -11,4 +11,4 @@ pub overflow_add-result-2 : goal.overflow_add-result-2
 overflow_add-result-2 c = one-more-fits c.args.sum c.args.hydrogens c.ranges.sum c.ranges.hydrogens
 
 pub returns : goal.returns
-returns c = by-target c.args.sum c.args.hydrogens c.ranges.sum c.ranges.hydrogens c.args.e c.args.selected c.ranges.charge c.if-selected-ne1.false c.shifted_target.ensures
+returns c = by-target c.args.sum c.args.hydrogens c.ranges.sum c.ranges.hydrogens c.args.e c.args.selected c.ranges.charge c.if-selected-ne1.false (c.shifted_target.ensures.value, c.shifted_target.ensures.sfits)

@@ -1,0 +1,14 @@
+use Prim.Native.Nat.{◌-◌}
+use native.Mathlib.Omega.{arith}
+use mathlib.Core.Path.{sym, ap, ◌∙◌}
+use lib.Dec.{eqb}
+use Rattle.loops.proofs.Counting.{Counted, counted_start, counted_step, counted-end}
+use Rattle.kinds.specs.Kind.{up, down}
+use Rattle.table.specs.Marks.{side, side_count}
+use Rattle.table_marks.proofs.crowded.Given as goal
+
+abbrev pub invariant-loop-i : goal.invariant-loop-i
+invariant-loop-i l = Counted (λ b. eqb (side l.bonds l.a.0 b) up) l.m l.i l.above × Counted (λ b. eqb (side l.bonds l.a.0 b) down) l.m l.i l.below
+
+abbrev pub decreases-loop-i : goal.decreases-loop-i
+decreases-loop-i l = l.m - l.i

@@ -1,0 +1,14 @@
+use Prim.Native.Nat.{◌-◌}
+use native.Mathlib.Omega.{arith}
+use mathlib.Core.Path.{sym, ap, ◌∙◌}
+use mathlib.Core.Bool.{not}
+use Rattle.loops.proofs.Loops.{Left, left-start, left-pass, left-fail, left_end}
+use Rattle.loops.proofs.Counting.{none-many}
+use Rattle.table.specs.Marks.{double_at, double_count}
+use Rattle.table_marks.proofs.has_double.Given as goal
+
+abbrev pub invariant-loop-i : goal.invariant-loop-i
+invariant-loop-i l = Left (λ b. not (double_at l.bonds l.a.0 b)) l.m l.i
+
+abbrev pub decreases-loop-i : goal.decreases-loop-i
+decreases-loop-i l = l.m - l.i
