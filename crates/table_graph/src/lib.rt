@@ -1,5 +1,6 @@
 // The graph that matchings see, from valid tables: bond sums, delocalized flags, ends and elided flags.
 #![tactic(auto)]
+
 ghost use Rattle.std.specs.Prelude.{◌≡◌, ◌++◌, ◌≤◌, ◌<◌, length, drop, replicate};
 ghost use Rattle.loops.specs.Loop.{up_to};
 ghost use Rattle.table.specs.Limits.{max_atoms, max_bonds, CHARGE};

@@ -1,13 +1,17 @@
+use mir.Val.{SFits}
+use mir.Syntax.{w32}
 use mir.Facts.{to_z-of_z}
 use Rattle.table.proofs.Rows.{put-bond-law}
 use Rattle.table_edits.proofs.put_bond_beyond.Goals as goal
 
 pub returns : goal.returns
-returns c = let c2 = c in
-    let c1 = c2 in
-    let c0 = c1 in
+returns c =
+    let x = c.args.x in
     let w = c.struct_told-3-1.given in
-    put-bond-law c0.args.t-1.now c0.args.b.0 c0.args.x
-    c1.put_bond_cell.ensures (to_z-of_z (record { sfits = w.0.1 }))
-    c2.put_bond_cell-2.ensures (to_z-of_z (record { sfits = w.1.0.1 }))
-    c.put_bond_cell-3.ensures (to_z-of_z (record { sfits = w.1.1.0.1 }))
+    let e1 : SFits w32 x.first = record { sfits = w.0.1 } in
+    let e2 : SFits w32 x.second = record { sfits = w.1.0.1 } in
+    let e3 : SFits w32 x.kind = record { sfits = w.1.1.0.1 } in
+    put-bond-law c.args.t.now c.args.b.0 x
+    c.put_bond_cell.ensures (to_z-of_z e1)
+    c.put_bond_cell-2.ensures (to_z-of_z e2)
+    c.put_bond_cell-3.ensures (to_z-of_z e3)

@@ -1,0 +1,16 @@
+use Prim.Native.Nat.{◌-◌, ◌*◌, ◌<◌}
+use native.Mathlib.Omega.{arith}
+use mathlib.Core.Path.{◌≡◌, refl, sym, ◌∙◌}
+use lib.ListN.{length, length-set}
+use Rattle.loops.proofs.Loops.{Edited, fills, edited-start, filled-step, filled-end, filled-part}
+use Rattle.table.specs.Cells.{end1, end2}
+use Rattle.table_graph.specs.Graph.{elided_flag}
+use Rattle.kinds.proofs.Kind.{order_small}
+use Rattle.table_graph.proofs.Sums.{row-cells, sums_to, sums_none, sums-bound, sums-length, second-bound, sums-step, two_ends}
+use Rattle.table_graph.proofs.wire.Given as goal
+
+abbrev pub invariant-loop-i : goal.invariant-loop-i
+invariant-loop-i l = Edited (fills (end1 l.bonds)) l.initial.ea l.m l.i l.ea × Edited (fills (end2 l.bonds)) l.initial.eb l.m l.i l.eb × Edited (fills (elided_flag l.bonds)) l.initial.el l.m l.i l.el × (l.sums ≡ sums_to l.bonds l.i (length l.initial.sums))
+
+abbrev pub decreases-loop-i : goal.decreases-loop-i
+decreases-loop-i l = l.m - l.i
