@@ -1,5 +1,6 @@
 // The byte machine of the grammar in code: what follows a byte in a mode.
 #![tactic(auto)]
+
 ghost use Rattle.std.specs.Prelude.{◌≡◌, eqb};
 ghost use Rattle.loops.specs.Loop.{pick};
 ghost use Rattle.reading_grammar.specs.Machine.{last_of, goes_on, atom_or, bridge_or, closing, extending, charging, hydrating, marking, symbol_or, next};
