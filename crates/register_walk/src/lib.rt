@@ -1,5 +1,6 @@
 // Walking a register: each entry once, in the order of the contents, then the end.
 #![tactic(auto)]
+
 ghost use Rattle.std.specs.Prelude.{◌≡◌};
 ghost use Rattle.register.specs.Answers.{code_of, body_at};
 ghost use Rattle.register_walk.specs.Walk.{started_of, walked_out, walked_of};

@@ -1,5 +1,6 @@
 // The bonds at an atom in the order of ranks, and marks turned by it: for a reader and a writer, each with ranks of its own.
 #![tactic(auto)]
+
 ghost use Rattle.std.specs.Prelude.{◌≡◌, true, false, [], ◌∷◌, ◌++◌, map, ◌+◌, ◌*◌, ◌<◌, ◌≤◌, length};
 ghost use Rattle.loops.specs.Loop.{pick};
 ghost use Rattle.parity.specs.Parity.{flip_if, odd};

@@ -10,8 +10,7 @@ use Rattle.table_graph.proofs.Sums.{row-cells, sums_to, sums_none, sums-bound, s
 use Rattle.table_graph.proofs.wire.Goals as goal
 
 pub loop-i-init : goal.loop-i-init
-loop-i-init c = let s = c in
-    (edited-start, edited-start, edited-start, s.requires.sums_value ∙ sums_none s.args.bonds.now (length s.args.sums.now))
+loop-i-init c = (edited-start, edited-start, edited-start, c.requires.sums_value ∙ sums_none c.args.bonds.now (length c.args.sums.now))
 
 pub overflow_cast-x : goal.overflow_cast-x
 overflow_cast-x c = let k = c.number-kind in
@@ -19,113 +18,102 @@ overflow_cast-x c = let k = c.number-kind in
     omega (arith, o.ensures, order_small k.result)
 
 pub overflow_cast-ea : goal.overflow_cast-ea
-overflow_cast-ea c = let s = c in
-    let a = c.loop-i in
+overflow_cast-ea c = let a = c.loop-i in
     let l = c.loop-i-test.true in
-    let w = s.requires.wide in
-    let bs = s.args.bonds.now in
+    let w = c.requires.wide in
+    let bs = c.args.bonds.now in
     let r = row-cells bs a.i c.get_bond-row.result (c.get_bond-row.ensures.value, c.get_bond-row.ensures.bond_fits) (omega (arith, w.few, l)) in
     let e = c.number-first in
-    omega (arith, e.ensures, r.0, w.order-x a.i l, w.second_fits a.i l)
+    omega (arith, e.ensures, r.0, w.order a.i l, w.second_fits a.i l)
 
 pub overflow_cast-eb : goal.overflow_cast-eb
-overflow_cast-eb c = let s = c in
-    let a = c.loop-i in
+overflow_cast-eb c = let a = c.loop-i in
     let l = c.loop-i-test.true in
-    let w = s.requires.wide in
-    let bs = s.args.bonds.now in
+    let w = c.requires.wide in
+    let bs = c.args.bonds.now in
     let r = row-cells bs a.i c.get_bond-row.result (c.get_bond-row.ensures.value, c.get_bond-row.ensures.bond_fits) (omega (arith, w.few, l)) in
     let f = c.number-second in
     omega (arith, f.ensures, r.1, w.second_fits a.i l)
 
 pub offset_bounds-sums-first : goal.offset_bounds-sums-first
-offset_bounds-sums-first c = let s = c in
-    let a = c.loop-i in
+offset_bounds-sums-first c = let a = c.loop-i in
     let l = c.loop-i-test.true in
-    let w = s.requires.wide in
-    let bs = s.args.bonds.now in
+    let w = c.requires.wide in
+    let bs = c.args.bonds.now in
     let r = row-cells bs a.i c.get_bond-row.result (c.get_bond-row.ensures.value, c.get_bond-row.ensures.bond_fits) (omega (arith, w.few, l)) in
     let e = c.number-first in
-    omega (arith, e.ensures, r.0, w.order-x a.i l, w.second_summed a.i l, sums-length bs a.i _ a.invariant.3)
+    omega (arith, e.ensures, r.0, w.order a.i l, w.second_summed a.i l, sums-length bs a.i _ a.invariant.3)
 
 pub bounds-sums-first : goal.bounds-sums-first
-bounds-sums-first c = let s = c in
-    let a = c.loop-i in
+bounds-sums-first c = let a = c.loop-i in
     let l = c.loop-i-test.true in
-    let w = s.requires.wide in
-    let bs = s.args.bonds.now in
+    let w = c.requires.wide in
+    let bs = c.args.bonds.now in
     let r = row-cells bs a.i c.get_bond-row.result (c.get_bond-row.ensures.value, c.get_bond-row.ensures.bond_fits) (omega (arith, w.few, l)) in
     let e = c.number-first in
-    omega (arith, e.ensures, r.0, w.order-x a.i l, w.second_summed a.i l, sums-length bs a.i _ a.invariant.3)
+    omega (arith, e.ensures, r.0, w.order a.i l, w.second_summed a.i l, sums-length bs a.i _ a.invariant.3)
 
 pub overflow_add-sums : goal.overflow_add-sums
-overflow_add-sums c = let s = c in
-    let a = c.loop-i in
+overflow_add-sums c = let a = c.loop-i in
     let e = c.number-first in
     let k = c.number-kind in
     let o = c.order-x in
-    omega (arith, sums-bound s.args.bonds.now a.i (length s.args.sums.now) a.invariant.3 e.result, o.ensures, order_small k.result)
+    omega (arith, sums-bound c.args.bonds.now a.i (length c.args.sums.now) a.invariant.3 e.result, o.ensures, order_small k.result)
 
 pub bounds-sums-first-in-loop-i : goal.bounds-sums-first-in-loop-i
-bounds-sums-first-in-loop-i c = let s = c in
-    let a = c.loop-i in
+bounds-sums-first-in-loop-i c = let a = c.loop-i in
     let l = c.loop-i-test.true in
-    let w = s.requires.wide in
-    let bs = s.args.bonds.now in
+    let w = c.requires.wide in
+    let bs = c.args.bonds.now in
     let r = row-cells bs a.i c.get_bond-row.result (c.get_bond-row.ensures.value, c.get_bond-row.ensures.bond_fits) (omega (arith, w.few, l)) in
     let e = c.number-first in
-    omega (arith, e.ensures, r.0, w.order-x a.i l, w.second_summed a.i l, sums-length bs a.i _ a.invariant.3)
+    omega (arith, e.ensures, r.0, w.order a.i l, w.second_summed a.i l, sums-length bs a.i _ a.invariant.3)
 
 pub offset_bounds-sums-second : goal.offset_bounds-sums-second
-offset_bounds-sums-second c = let s = c in
-    let a = c.loop-i in
+offset_bounds-sums-second c = let a = c.loop-i in
     let l = c.loop-i-test.true in
-    let w = s.requires.wide in
-    let bs = s.args.bonds.now in
+    let w = c.requires.wide in
+    let bs = c.args.bonds.now in
     let r = row-cells bs a.i c.get_bond-row.result (c.get_bond-row.ensures.value, c.get_bond-row.ensures.bond_fits) (omega (arith, w.few, l)) in
     let f = c.number-second in
     omega (arith, f.ensures, r.1, w.second_summed a.i l, sums-length bs a.i _ a.invariant.3)
 
 pub bounds-sums-second : goal.bounds-sums-second
-bounds-sums-second c = let s = c in
-    let a = c.loop-i in
+bounds-sums-second c = let a = c.loop-i in
     let l = c.loop-i-test.true in
-    let w = s.requires.wide in
-    let bs = s.args.bonds.now in
+    let w = c.requires.wide in
+    let bs = c.args.bonds.now in
     let r = row-cells bs a.i c.get_bond-row.result (c.get_bond-row.ensures.value, c.get_bond-row.ensures.bond_fits) (omega (arith, w.few, l)) in
     let f = c.number-second in
     simp length-set (omega (arith, f.ensures, r.1, w.second_summed a.i l, sums-length bs a.i _ a.invariant.3))
 
 pub overflow_add-sums-in-loop-i : goal.overflow_add-sums-in-loop-i
-overflow_add-sums-in-loop-i c = let s = c in
-    let a = c.loop-i in
+overflow_add-sums-in-loop-i c = let a = c.loop-i in
     let l = c.loop-i-test.true in
-    let w = s.requires.wide in
-    let bs = s.args.bonds.now in
+    let w = c.requires.wide in
+    let bs = c.args.bonds.now in
     let r = row-cells bs a.i c.get_bond-row.result (c.get_bond-row.ensures.value, c.get_bond-row.ensures.bond_fits) (omega (arith, w.few, l)) in
     let e = c.number-first in
     let f = c.number-second in
     let k = c.number-kind in
     let o = c.order-x in
-    let g : e.result < f.result = omega (arith, e.ensures, f.ensures, r.0, r.1, w.order-x a.i l) in
-    omega (arith, second-bound a.sums e.result f.result o.result (3 * a.i) g (sums-bound bs a.i (length s.args.sums.now) a.invariant.3), o.ensures, order_small k.result)
+    let g : e.result < f.result = omega (arith, e.ensures, f.ensures, r.0, r.1, w.order a.i l) in
+    omega (arith, second-bound a.sums e.result f.result o.result (3 * a.i) g (sums-bound bs a.i (length c.args.sums.now) a.invariant.3), o.ensures, order_small k.result)
 
 pub bounds-sums-second-in-loop-i : goal.bounds-sums-second-in-loop-i
-bounds-sums-second-in-loop-i c = let s = c in
-    let a = c.loop-i in
+bounds-sums-second-in-loop-i c = let a = c.loop-i in
     let l = c.loop-i-test.true in
-    let w = s.requires.wide in
-    let bs = s.args.bonds.now in
+    let w = c.requires.wide in
+    let bs = c.args.bonds.now in
     let r = row-cells bs a.i c.get_bond-row.result (c.get_bond-row.ensures.value, c.get_bond-row.ensures.bond_fits) (omega (arith, w.few, l)) in
     let f = c.number-second in
     simp length-set (omega (arith, f.ensures, r.1, w.second_summed a.i l, sums-length bs a.i _ a.invariant.3))
 
 pub loop-i-preserved : goal.loop-i-preserved
-loop-i-preserved c = let s = c in
-    let a = c.loop-i in
+loop-i-preserved c = let a = c.loop-i in
     let l = c.loop-i-test.true in
-    let w = s.requires.wide in
-    let bs = s.args.bonds.now in
+    let w = c.requires.wide in
+    let bs = c.args.bonds.now in
     let r = row-cells bs a.i c.get_bond-row.result (c.get_bond-row.ensures.value, c.get_bond-row.ensures.bond_fits) (omega (arith, w.few, l)) in
     let e = c.number-first in
     let f = c.number-second in
@@ -135,7 +123,7 @@ loop-i-preserved c = let s = c in
     let pf = f.ensures ∙ r.1 in
     let pk = k.ensures ∙ r.2 in
     let v = a.invariant in
-    let ne : e.result ≡ f.result → ⊥ = λ q. omega (arith, pe, pf, w.order-x a.i l) in (
+    let ne : e.result ≡ f.result → ⊥ = λ q. omega (arith, pe, pf, w.order a.i l) in (
       filled-step v.0 _ l pe,
       filled-step v.1 _ l pf,
       filled-step v.2 _ l (c.flag.ensures ∙ simp pk),
@@ -152,19 +140,17 @@ pub shape_of-el : goal.shape_of-el
 shape_of-el c = c.loop-i.invariant.2.room
 
 pub shape_of-sums : goal.shape_of-sums
-shape_of-sums c = let s = c in
-    sums-length s.args.bonds.now c.loop-i.i _ c.loop-i.invariant.3
+shape_of-sums c = sums-length c.args.bonds.now c.loop-i.i _ c.loop-i.invariant.3
 
 pub returns : goal.returns
-returns c = let s = c in
-    let v = c.loop-i.invariant in
+returns c = let v = c.loop-i.invariant in
     let q = c.loop-i-test.false in
-    let bs = s.args.bonds.now in
-    let d : c.loop-i.i ≡ s.args.m = omega arith in record {
+    let bs = c.args.bonds.now in
+    let d : c.loop-i.i ≡ c.args.m = omega arith in record {
       wired = record {
-        first_part = filled-part (end1 bs) s.args.m s.args.ea.now (filled-end v.0 s.requires.wide.firsts q);
-        second_part = filled-part (end2 bs) s.args.m s.args.eb.now (filled-end v.1 s.requires.wide.seconds q);
-        elided_part = filled-part (elided_flag bs) s.args.m s.args.el.now (filled-end v.2 s.requires.wide.elided q);
+        first_part = filled-part (end1 bs) c.args.m c.args.ea.now (filled-end v.0 c.requires.wide.firsts q);
+        second_part = filled-part (end2 bs) c.args.m c.args.eb.now (filled-end v.1 c.requires.wide.seconds q);
+        elided_part = filled-part (elided_flag bs) c.args.m c.args.el.now (filled-end v.2 c.requires.wide.elided q);
       };
       sums_after = v.3 ∙ simp d;
     }

@@ -1,0 +1,31 @@
+use Prim.Native.Nat.{◌-◌}
+use native.Mathlib.Omega.{arith}
+use mathlib.Core.Logic.{⊎_elim}
+use mathlib.Core.List.{◌++◌, map}
+use Rattle.table.specs.Orders.{bonds_at, hydrogen_rank, at_end}
+use Rattle.table_orders.proofs.Laws.{Filling, filling-start, filling-more, filling-pass, filling-take, filling-end}
+use Rattle.table_orders.proofs.ranks_at.Goals as goal
+
+pub loop-k-init : goal.loop-k-init
+loop-k-init c = filling-start c.args.h c.one_if-k.ensures c.requires.a_len
+
+pub touches-requires : goal.touches-requires
+touches-requires c = omega (arith, filling-more c.loop-k.invariant c.loop-k-test.true)
+
+pub rank_of-requires : goal.rank_of-requires
+rank_of-requires c = let l = filling-more c.loop-k.invariant c.loop-k-test.true in (omega arith, omega arith)
+
+pub overflow_add-i : goal.overflow_add-i
+overflow_add-i c = omega (arith, filling-more c.loop-k.invariant c.loop-k-test.true)
+
+pub loop-k-smaller : goal.loop-k-smaller
+loop-k-smaller c = omega (arith, filling-more c.loop-k.invariant c.loop-k-test.true)
+
+pub loop-k-preserved : goal.loop-k-preserved
+loop-k-preserved c = let w = c.loop-k.invariant in
+    let h = c.loop-k-test.true in
+    let o = c.touches.ensures in
+    ⊎_elim (λ v. filling-take w h o v.0.taken v.1.ensures v.2 v.3) (λ v. filling-pass w h o v.0.left v.1 v.2) c.if-touches.branch
+
+pub returns : goal.returns
+returns c = filling-end c.loop-k.invariant c.loop-k-test.false
