@@ -25,6 +25,13 @@ start-start-requires c = let w = valid-is _ (sym c.valid.ensures ∙ not-false _
 pub length-requires : goal.length-requires
 length-requires c = let w = valid-is _ (sym c.valid.ensures ∙ not-false _ c.if-not-valid.false-raw) in (omega arith, omega arith)
 
+pub slice_bounds-result-end-2 : goal.slice_bounds-result-end-2
+slice_bounds-result-end-2 c =
+    omega (
+      arith,
+      inside_is _ _ _ _ _ c.if-register-lt-SIZE.false (sym c.valid.ensures ∙ not-false _ c.if-not-valid.false-raw) c.count.ensures c.if-count-place.false c.start-start.ensures.value c.length.ensures.value,
+    )
+
 pub returns : goal.returns
 unfolding body_at
 returns c = part-is _ _ _ _ c.start-start.ensures.value c.length.ensures.value

@@ -5,6 +5,7 @@ use mathlib.Core.List.{◌++◌, map}
 use Rattle.table.specs.Orders.{bonds_at, hydrogen_rank, at_end}
 use Rattle.table_orders.proofs.Laws.{Filling, filling-start, filling-more, filling-pass, filling-take, filling-end}
 use Rattle.table_orders.proofs.ranks_at.Goals as goal
+use Rattle.table_orders.proofs.ranks_at.Goals.{then-touches, else-touches}
 
 pub loop-k-init : goal.loop-k-init
 loop-k-init c = filling-start c.args.h c.one_if-k.ensures c.requires.a_len
@@ -25,7 +26,10 @@ pub loop-k-preserved : goal.loop-k-preserved
 loop-k-preserved c = let w = c.loop-k.invariant in
     let h = c.loop-k-test.true in
     let o = c.touches.ensures in
-    ⊎_elim (λ v. filling-take w h o v.0.taken v.1.ensures v.2 v.3) (λ v. filling-pass w h o v.0.left v.1 v.2) c.if-touches.branch
+    elim c.if-touches.branch [
+      then-touches v ↦ filling-take w h o v.if-touches.true v.rank_of.ensures v.four-is v.k-is
+      | else-touches v ↦ filling-pass w h o v.if-touches.false v.four-is v.k-is
+    ]
 
 pub returns : goal.returns
 returns c = filling-end c.loop-k.invariant c.loop-k-test.false

@@ -11,6 +11,7 @@ use Rattle.table.proofs.Valid.{mark-small}
 use Rattle.table.proofs.Orders.{turned-small}
 use Rattle.table_orders.proofs.Laws.{Turning, turning-start, turning-valid, turning-fit, turning-length, turning-put, turning-skip, turning-end}
 use Rattle.table_orders.proofs.turn_marks.Goals as goal
+use Rattle.table_orders.proofs.turn_marks.Goals.{then-k-ne0, else-k-ne0}
 
 pub loop-i-init : goal.loop-i-init
 loop-i-init c = turning-start
@@ -38,7 +39,10 @@ loop-i-preserved c = let w = c.loop-i.invariant in
     let x = turning-valid w c.requires.valid in
     let k = turned-small (at_end c.args.ranks.now c.args.bonds.now) c.args.bonds.now c.args.m c.loop-i.atoms c.loop-i.i (mark-small x c.loop-i.i l) in
     let f : SFits w32 (pos c.turned_mark-k.result) = record { sfits = omega (arith, k, e) } in
-    ⊎_elim (λ v. turning-put w l e (v.4 ∙ v.2.ensures) (to_z-of_z f)) (λ v. turning-skip w c.requires.valid l e v.0.left v.1) c.if-k-ne0.branch
+    elim c.if-k-ne0.branch [
+      then-k-ne0 v ↦ turning-put w l e (v.atoms-is ∙ v.put_atom_cell.ensures) (to_z-of_z f)
+      | else-k-ne0 v ↦ turning-skip w c.requires.valid l e v.if-k-ne0.false v.atoms-is
+    ]
 
 pub shape_of-atoms : goal.shape_of-atoms
 shape_of-atoms c = turning-length c.loop-i.invariant
