@@ -4,6 +4,7 @@ use native.Mathlib.Omega.{arith}
 use lib.ListN.{length}
 use Rattle.matching_search.proofs.Flags.{not-true, not-false}
 use Rattle.matching_search.proofs.Fitting.{Fitting, fitting-start, fitting-end, fitting-ends, fitting-elided, fitting-zero, fitting-one, fitting-other, fitting-not}
+use Rattle.matching_search.proofs.fits.Goals.{then-x-ne0+else-x-ne1+else-not-choosable, else-x-ne0}
 use Rattle.matching_search.proofs.fits.Goals as goal
 
 pub loop-i-init : goal.loop-i-init
@@ -19,19 +20,16 @@ pub returns-then-x-ne1 : goal.returns-then-x-ne1
 returns-then-x-ne1 c = fitting-other c.loop-i.invariant c.loop-i-test.true c.if-x-ne0.true c.if-x-ne1.true
 
 pub choosable-requires : goal.choosable-requires
-choosable-requires c = let s = c in
-    record { ends = fitting-ends s.loop-i.invariant s.loop-i-test.true; k_in_bounds = fitting-elided s.loop-i.invariant s.loop-i-test.true }
+choosable-requires c = record { ends = fitting-ends c.loop-i.invariant c.loop-i-test.true; k_in_bounds = fitting-elided c.loop-i.invariant c.loop-i-test.true }
 
 pub shape_of-need-then-not-choosable : goal.shape_of-need-then-not-choosable
 shape_of-need-then-not-choosable c = c.loop-i.invariant.long
 
 pub returns-then-not-choosable : goal.returns-then-not-choosable
-returns-then-not-choosable c = let s = c in
-    fitting-not s.loop-i.invariant s.loop-i-test.true c.choosable.ensures c.if-x-ne1.false (not-true c.choosable.result c.if-not-choosable.true-raw)
+returns-then-not-choosable c = fitting-not c.loop-i.invariant c.loop-i-test.true c.choosable.ensures c.if-x-ne1.false (not-true c.choosable.result c.if-not-choosable.true-raw)
 
 pub mark-requires : goal.mark-requires
-mark-requires c = let s = c in
-    fitting-ends s.loop-i.invariant s.loop-i-test.true
+mark-requires c = fitting-ends c.loop-i.invariant c.loop-i-test.true
 
 pub overflow_add-i : goal.overflow_add-i
 overflow_add-i c = omega (arith, c.loop-i-test.true)
@@ -40,9 +38,9 @@ pub loop-i-smaller : goal.loop-i-smaller
 loop-i-smaller c = omega (arith, c.loop-i-test.true)
 
 pub loop-i-preserved : goal.loop-i-preserved
-loop-i-preserved c = let s = c in
-    ⊎_elim (λ w. fitting-one s.loop-i.invariant s.loop-i-test.true w.3.ensures w.1.left (not-false w.3.result w.4.left) w.6.ensures w.6.kept.1.1.0 w.9)
-    (λ w. fitting-zero s.loop-i.invariant s.loop-i-test.true w.0.left w.1) c.if-x-ne0.branch
+loop-i-preserved c = elim c.if-x-ne0.branch [
+      then-x-ne0+else-x-ne1+else-not-choosable w ↦ fitting-one c.loop-i.invariant c.loop-i-test.true w.choosable.ensures w.if-x-ne1.false w.if-not-choosable.false w.mark.ensures w.mark.auto.need w.need-is
+    | else-x-ne0 w ↦ fitting-zero c.loop-i.invariant c.loop-i-test.true w.if-x-ne0.false w.need-is ]
 
 pub shape_of-need : goal.shape_of-need
 shape_of-need c = c.loop-i.invariant.long

@@ -1,0 +1,6 @@
+use Prim.Native.Nat.{◌-◌}
+use lib.ListN.{length}
+use Rattle.matching_search.proofs.+seek.Given as goal
+
+abbrev pub decreases-seek : goal.decreases-seek
+decreases-seek l = length l.ea.now - l.k.0
