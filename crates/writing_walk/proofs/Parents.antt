@@ -46,6 +46,9 @@ off : (a b : Bool) → b ≡ false → bit (a && b) ≡ 0
 off true b e = ap bit e
 off false b e = refl
 
+off-more : (a b : Bool) → b ≡ false → (s t : ℕ) → s ≡ t → bit (a && b) + s ≡ t
+off-more a b e s t q = omega (arith, off a b e)
+
 -- no bond upwards ends before it begins
 late : (x y : ℕ) (us ks : List ℕ) (n : ℕ) → suc y ≤ n → count (ends x y) (up_bonds us ks n) ≡ 0
 late x y [] ks n h = refl
@@ -73,7 +76,8 @@ up-count x (suc u ∷ us) (k ∷ ks) n zero e =
 up-count x (zero ∷ us) (k ∷ ks) n (suc j) e = let q : n + suc j ≡ suc n + j = omega arith in rw q (up-count x us ks (suc n) j (omega arith))
 up-count x (suc u ∷ us) (k ∷ ks) n (suc j) e =
     let q : n + suc j ≡ suc n + j = omega arith in
-    rw q (omega (arith, off (eqb u x) (eqb n (suc n + j)) (ne_eqb n (suc n + j) (omega arith)), up-count x us ks (suc n) j (omega arith)))
+    let r : count (ends x (n + suc j)) (up_bonds us ks (suc n)) ≡ bit (eqb (get_or us j 0) (suc x)) = rw q (up-count x us ks (suc n) j (omega arith)) in
+    off-more (eqb u x) (eqb n (n + suc j)) (ne_eqb n (n + suc j) (omega arith)) (count (ends x (n + suc j)) (up_bonds us ks (suc n))) _ r
 
 -- THE STATEMENT: x is the parent of y exactly if the forest has a bond from x to y, and then it has one
 pub parent-bond : (F : Forest) (x y : ℕ) → count (ends x y) (trees F 0) ≡ bit (eqb (get_or (ups F 0 0) y 0) (suc x))
