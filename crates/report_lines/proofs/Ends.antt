@@ -2,7 +2,6 @@
 use Prim.Native.Nat.{ℕ, suc, ◌+◌, ◌-◌, ◌≤◌, ◌<◌}
 use mathlib.Core.Path.{◌≡◌, refl, sym, ap, ◌∙◌}
 use mathlib.Core.List.{List, [], ◌∷◌, ◌++◌}
-use mathlib.Core.Bool.{true, false}
 use native.Mathlib.Numerals.{add-one}
 use native.Mathlib.Omega.{arith}
 use lib.ListN.{length, take, drop, get_or, length-drop, drop_of_length-le}
@@ -10,7 +9,7 @@ use lib.Seq.{drop-cons, take-suc, get_or-drop, length-take-le}
 use lib.Dec.{eqb}
 use borrow.Author.Tests.{eq-eqb, ne_eqb}
 use Rattle.loops.specs.Loop.{pick}
-use Rattle.report_lines.specs.Lines.{unfinished, lines_after}
+use Rattle.report_lines.specs.Lines.{lines_after}
 use Rattle.report_lines.specs.Cut.{Ends}
 
 -- no byte 10 from a place up to i: the lines are those after the bytes between
