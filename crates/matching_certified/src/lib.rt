@@ -2,6 +2,7 @@
 // checks it. It is never slow: a branch without a matching is left at the next such bond. Every function here is internal, for
 // `matching_engine`.
 #![tactic(auto)]
+
 ghost use Rattle.std.specs.Prelude.{◌≡◌, Bool, true, false, ◌&&◌, ◌||◌, not, [], ◌++◌, ℕ, ◌+◌, ◌-◌, ◌<◌, ◌≤◌, eqb, length, take, drop, replicate, get_or};
 ghost use Rattle.loops.specs.Loop.{run};
 ghost use Rattle.matching.specs.Graph.{count_if};
