@@ -1,5 +1,6 @@
 // Valid and sound tables: a test for each condition, and all of them.
 #![tactic(auto)]
+
 ghost use Rattle.std.specs.Prelude.{◌≡◌, ℕ, ◌<◌, ◌≤◌, true, ◌++◌, length, drop};
 ghost use Rattle.loops.specs.Loop.{each, up_to};
 ghost use Rattle.table.specs.Limits.{max_atoms, max_bonds};

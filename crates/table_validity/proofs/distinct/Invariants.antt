@@ -1,0 +1,23 @@
+use Prim.Native.Nat.{◌-◌}
+use native.Mathlib.Omega.{arith}
+use mathlib.Core.Logic.{⊎_elim}
+use mathlib.Core.Path.{◌≡◌, refl, sym, ap, ◌∙◌}
+use mathlib.Core.Bool.{true, not}
+use Rattle.loops.proofs.Loops.{Left, left-start, left-pass, left-fail, left_end}
+use Rattle.table.specs.Valid.{same_ends, fresh, distinct}
+use Rattle.table.proofs.Keys.{both-same, first-differs, second-differs}
+use Rattle.table_validity.proofs.distinct.Reads as reads
+use Rattle.table_validity.proofs.distinct.Lts as lts
+use Rattle.table_validity.proofs.distinct.Given as goal
+
+abbrev pub invariant-loop-j : goal.invariant-loop-j
+invariant-loop-j l = (l.fine ≡ true) × Left (λ k. not (same_ends l.t l.i k)) l.i l.j
+
+abbrev pub decreases-loop-j : goal.decreases-loop-j
+decreases-loop-j l = l.i - l.j
+
+abbrev pub invariant-rows : goal.invariant-rows
+invariant-rows l = (l.fine ≡ true) × Left (fresh l.t) l.m l.i
+
+abbrev pub decreases-rows : goal.decreases-rows
+decreases-rows l = l.m - l.i

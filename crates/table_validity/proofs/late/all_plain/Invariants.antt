@@ -1,0 +1,12 @@
+use Prim.Native.Nat.{◌-◌}
+use native.Mathlib.Omega.{arith}
+use mathlib.Core.Path.{sym}
+use Rattle.loops.proofs.Loops.{Left, left-start, left-pass, left-fail, left_end}
+use Rattle.table_validity.specs.Degrees.{plain}
+use Rattle.table_validity.proofs.late.all_plain.Given as goal
+
+abbrev pub invariant-loop-i : goal.invariant-loop-i
+invariant-loop-i l = Left (plain l.atoms) l.n l.i
+
+abbrev pub decreases-loop-i : goal.decreases-loop-i
+decreases-loop-i l = l.n - l.i

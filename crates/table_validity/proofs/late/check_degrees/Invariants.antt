@@ -1,0 +1,13 @@
+use Prim.Native.Nat.{◌-◌}
+use native.Mathlib.Omega.{arith}
+use mathlib.Core.Path.{sym, ap, ◌∙◌}
+use mathlib.Core.Bool.{Bool}
+use Rattle.loops.specs.Loop.{pick}
+use Rattle.table_validity.proofs.Degrees.{Degrees, degrees-begin, degrees-loose, degrees-next, degrees-end}
+use Rattle.table_validity.proofs.late.check_degrees.Given as goal
+
+abbrev pub invariant-loop-i : goal.invariant-loop-i
+invariant-loop-i l = Degrees l.atoms l.degrees l.n l.i l.fit
+
+abbrev pub decreases-loop-i : goal.decreases-loop-i
+decreases-loop-i l = l.n - l.i

@@ -1,0 +1,20 @@
+use Prim.Native.Nat.{◌-◌}
+use native.Mathlib.Omega.{arith}
+use Rattle.table.proofs.Keys.{Sorted, sorted-start, sorted-step, sorted-rows, sorted_apart, never}
+use Rattle.table_validity.proofs.sorted.Goals as goal
+
+pub loop-i-init : goal.loop-i-init
+loop-i-init c = sorted-start
+
+pub valid_key-key-requires : goal.valid_key-key-requires
+valid_key-key-requires c = (c.requires.0, omega arith)
+
+pub returns-then-key-last : goal.returns-then-key-last
+returns-then-key-last c = λ e. never e
+
+pub loop-i-preserved : goal.loop-i-preserved
+loop-i-preserved c = sorted-step c.loop-i.invariant _ c.loop-i-test.true c.if-key-last.false c.valid_key-key.ensures
+
+pub returns : goal.returns
+returns c = let v = c.loop-i.invariant in
+    λ e. (sorted-rows v c.loop-i-test.false, sorted_apart v c.loop-i-test.false)
