@@ -1,5 +1,6 @@
 // What the calls for matchings answer, and the code of each answer.
 #![tactic(auto)]
+
 ghost use Rattle.std.specs.Prelude.{◌≡◌};
 ghost use Rattle.kekule_answers.specs.Answers.{found_of, found_code, is_given, call_of};
 
