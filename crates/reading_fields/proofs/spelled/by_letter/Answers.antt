@@ -7,13 +7,13 @@ pub returns-then-b-eq0 : goal.returns-then-b-eq0
 returns-then-b-eq0 c = spells-zero _ _ c.requires.at_in_bounds c.requires.peeked c.if-b-eq0.true
 
 pub letter_at-requires : goal.letter_at-requires
-letter_at-requires c = (some_in c.requires.peeked c.if-b-eq0.false, (c.requires.peeked, sym c.atom_start.ensures ∙ c.in-Plain.is))
+letter_at-requires c = record { at_in_bounds = some_in c.requires.peeked c.if-b-eq0.false; peeked = c.requires.peeked; b_value = sym c.atom_start.ensures ∙ c.in-Plain.is }
 
 pub half_at-requires : goal.half_at-requires
-half_at-requires c = (some_in c.requires.peeked c.if-b-eq0.false, (c.requires.peeked, sym c.atom_start.ensures ∙ c.in-Half.is))
+half_at-requires c = record { at_in_bounds = some_in c.requires.peeked c.if-b-eq0.false; peeked = c.requires.peeked; b_value = sym c.atom_start.ensures ∙ c.in-Half.is }
 
 pub boxed_at-requires : goal.boxed_at-requires
-boxed_at-requires c = (some_in c.requires.peeked c.if-b-eq0.false, (c.requires.peeked, sym c.atom_start.ensures ∙ c.in-Bracket.is))
+boxed_at-requires c = record { at_in_bounds = some_in c.requires.peeked c.if-b-eq0.false; peeked = c.requires.peeked; b_value = sym c.atom_start.ensures ∙ c.in-Bracket.is }
 
 pub returns-in-Plain : goal.returns-in-Plain
 returns-in-Plain c = c.letter_at.ensures
