@@ -37,11 +37,11 @@ module _ (f : ℕ → ℕ) where
   insert-climbs : {low : ℕ} (b : ℕ) (l : List ℕ) → Climbs f low l → low ≤ f b → absent (f b) (map f l) ≡ true → Climbs f low (insert f b l)
   unfolding insert absent
   insert-climbs b [] c h n = (h, tt)
-  insert-climbs {low} b (x ∷ l) c h n =
+  insert-climbs {low = low} b (x ∷ l) c h n =
       let differ = eqb-false (f b) (f x) (not-true (eqb (f b) (f x)) (and_left (not (eqb (f b) (f x))) (absent (f b) (map f l)) n)) in
       by-test (Climbs f low) (leb (f b) (f x)) _ _
       (λ e. (h, (let g = leb-true (f b) (f x) e in omega (arith, differ), c.1)))
-      (λ e. (c.0, insert-climbs b l c.1 (let g = leb-false (f b) (f x) e in omega arith) (and_right (not (eqb (f b) (f x))) (absent (f b) (map f l)) n)))
+      (λ e. (c.0, insert-climbs {low = suc (f x)} b l c.1 (let g = leb-false (f b) (f x) e in omega arith) (and_right (not (eqb (f b) (f x))) (absent (f b) (map f l)) n)))
 
   -- where no two have the same
   pub sorted-climbs : (low : ℕ) (l : List ℕ) → AtLeast f low l → unlike (map f l) ≡ true → Climbs f low (sorted f l)

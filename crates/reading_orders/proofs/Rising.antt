@@ -39,7 +39,7 @@ module _ (f : ℕ → ℕ) where
   climbs-below : {low : ℕ} (x : ℕ) (l : List ℕ) → x < low → Climbs low l → below x (map f l) ≡ true
   unfolding below
   climbs-below x [] h c = refl
-  climbs-below x (y ∷ l) h c = rw (lt-ltb x (f y) (omega (arith, c.0))) (climbs-below x l (omega (arith, c.0)) c.1)
+  climbs-below {low = low} x (y ∷ l) h c = rw (lt-ltb x (f y) (omega (arith, c.0))) (climbs-below {low = suc (f y)} x l (omega (arith, c.0)) c.1)
 
   pub climbs-ascending : (low : ℕ) (l : List ℕ) → Climbs low l → ascending (map f l) ≡ true
   unfolding ascending
