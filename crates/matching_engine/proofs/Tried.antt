@@ -2,15 +2,11 @@
 use mathlib.Core.Path.{◌≡◌, refl, sym, ap, subst, ◌∙◌}
 use mathlib.Core.Bool.{Bool, true, false}
 use mathlib.Core.List.{List, [], ◌∷◌, ◌++◌, map, append-nil}
-use mathlib.Core.Logic.{⊎_elim}
 use Prim.Native.Nat.{ℕ, zero, suc, ◌+◌, ◌-◌, ◌≤◌, ◌<◌}
 use native.Mathlib.Omega.{arith}
 use native.Mathlib.Numerals.{add-one}
 use lib.ListN.{length, take, drop, replicate, set, length-set}
 use lib.Seq.{drop-set-lt}
-use denote.Enum.Declared.{tag_of}
-use types.Run.{OneOf}
-use Rattle.matching_engine.specs.contracts.Sought.{the_type}
 use Rattle.matching.specs.Enumeration.{Row}
 use Rattle.matching.specs.Graph.{none_flagged}
 use Rattle.matching.specs.Model.{Shape, Searched, all_from, free_at, mark_at, some?, head_or}
@@ -42,10 +38,6 @@ front-set X row' k x e =
 
 pub inside : {k m : ℕ} → k < m → k ≡ m → ⊥
 inside h e = omega arith
-
--- an answer whose number is that of one of the two others
-pub not-absent : (o : Sought) → OneOf (0 ∷ 2 ∷ []) (tag_of the_type o) → o ≡ Absent → ⊥
-not-absent o k e = ⊎_elim (λ q. omega arith) (λ q. omega arith) (subst (λ (x : Sought). OneOf (0 ∷ 2 ∷ []) (tag_of the_type x)) e k)
 
 -- the ways of `choose`
 pub not_chosen : {ea eb el need row : List ℕ} {k : ℕ} {f : Bool} → Shape ea eb el need row k → f ≡ free_at ea eb el need k → f ≡ false

@@ -2,6 +2,7 @@
 // which leaves a branch at once when an atom without a partner has no bond left; where it gives up, the certified one. Its
 // contracts are those of `matching_search`.
 #![tactic(auto)]
+
 ghost use Rattle.std.specs.Prelude.{◌≡◌, true, [], ℕ, ◌+◌, ◌<◌, ◌≤◌, length, take, set};
 ghost use Rattle.ids.specs.Limits.{max_atoms};
 ghost use Rattle.ids.specs.Small.{small};
