@@ -2,12 +2,16 @@
 // the report of the whole input, however it comes in blocks (crate report_blocks, proofs/Run.antt). After a failed read or
 // write the rest is left out, the totals with it, and standard error says so.
 #![tactic(auto)]
+
 ghost use Rattle.report_lines.specs.Cut.{Bounded};
 ghost use Rattle.report.specs.Turned.{Turned};
 
-use libc::{STDERR_FILENO, STDIN_FILENO, STDOUT_FILENO};
 use report_blocks::Progress;
 use report_lines::output;
+use std::io::Read;
+
+// The bytes of a block, and of the room for its report.
+const BLOCK: usize = 65536;
 
 // After a turn: whether all was written, the place in the block, and how far the report is.
 #[derive(Clone, Copy)]
@@ -26,23 +30,23 @@ pub struct Step {
 }
 
 // Writes bytes to standard output, and tells whether that went well.
-fn write_out(s: &[u8]) -> bool {
-    if io::write_all(STDOUT_FILENO, s) {
+fn write_out(rt: &(impl Print + Eprint), s: &[u8]) -> bool {
+    if rt.write_all(s).is_ok() {
         return true;
     }
-    io::write_all(STDERR_FILENO, b"report: the output could not be written\n");
+    let _ = rt.eprintln("report: the output could not be written");
     false
 }
 
 // Reports what one buffer holds of the lines from a place of a block.
-fn report_turn(g: Progress, s: &[u8], from: usize) -> Turn
+fn report_turn(rt: &(impl Print + Eprint), g: Progress, s: &[u8], from: usize) -> Turn
     requires { Bounded g.line }
     ensures { Turned s.now from result }
 {
-    let mut out = io::large_buffer();
+    let mut out = [0u8; BLOCK];
     let r = report_blocks::report_block(g, s, from, &mut out);
     let used = r.used;
-    let written = write_out(&out[..used]);
+    let written = write_out(rt, &out[..used]);
     let progress = r.progress;
     Turn {
         written,
@@ -52,14 +56,14 @@ fn report_turn(g: Progress, s: &[u8], from: usize) -> Turn
 }
 
 // Reports the lines that end in a block.
-fn block(g: Progress, s: &[u8]) -> Step
+fn block(rt: &(impl Print + Eprint), g: Progress, s: &[u8]) -> Step
     requires { Bounded g.line }
     ensures { Bounded result.progress.line }
 {
     let mut progress = g;
     let mut at = 0;
     while at < s.len() {
-        let r = report_turn(progress, s, at);
+        let r = report_turn(rt, progress, s, at);
         let p = r.progress;
         progress = p;
         at = r.at;
@@ -79,34 +83,37 @@ fn block(g: Progress, s: &[u8]) -> Step
 }
 
 // Reads a block and reports its lines.
-fn read_block(g: Progress) -> Step
+fn read_block(rt: &(impl Input + Print + Eprint), g: Progress) -> Step
     requires { Bounded g.line }
     ensures { Bounded result.progress.line }
 {
-    let mut buf = io::large_buffer();
-    let got = libc::read(STDIN_FILENO, &mut buf);
-    if got < 0 {
-        io::write_all(STDERR_FILENO, b"report: the input could not be read\n");
-    }
-    if got <= 0 {
-        return Step {
+    let mut buf = [0u8; BLOCK];
+    match rt.reader().read(&mut buf) {
+        Ok(0) => Step {
             more: false,
-            whole: got == 0,
+            whole: true,
             progress: g,
-        };
+        },
+        Ok(n) => block(rt, g, &buf[..n]),
+        Err(_) => {
+            let _ = rt.eprintln("report: the input could not be read");
+            Step {
+                more: false,
+                whole: false,
+                progress: g,
+            }
+        }
     }
-    let n = io::count(got, &buf);
-    block(g, &buf[..n])
 }
 
 // Reads to the end. Nothing says that the input ends, so the blocks are counted down from a number that no input has.
-fn read_all() -> Step
+fn read_all(rt: &(impl Input + Print + Eprint)) -> Step
     ensures { Bounded result.progress.line }
 {
     let mut progress = report_blocks::begin();
     let mut left = u64::MAX;
     while left > 0 {
-        let r = read_block(progress);
+        let r = read_block(rt, progress);
         if !r.more {
             return r;
         }
@@ -122,27 +129,27 @@ fn read_all() -> Step
 }
 
 // Writes the report's first line.
-fn write_header() -> bool {
-    let mut out = io::buffer();
+fn write_header(rt: &(impl Print + Eprint)) -> bool {
+    let mut out = [0u8; 4096];
     let used = output::header(&mut out, 0);
-    write_out(&out[..used])
+    write_out(rt, &out[..used])
 }
 
 // Writes the end of the report: the unfinished last line and the totals.
-fn write_end(g: Progress) -> bool
+fn write_end(rt: &(impl Print + Eprint), g: Progress) -> bool
     requires { Bounded g.line }
 {
-    let mut out = io::large_buffer();
+    let mut out = [0u8; BLOCK];
     let used = report_blocks::finish(g, &mut out, 0);
-    write_out(&out[..used])
+    write_out(rt, &out[..used])
 }
 
-fn main() {
-    if write_header() {
-        let r = read_all();
+fn main(rt: HostRuntime) {
+    if write_header(&rt) {
+        let r = read_all(&rt);
         let g = r.progress;
         if r.whole {
-            write_end(g);
+            write_end(&rt, g);
         }
     }
 }
