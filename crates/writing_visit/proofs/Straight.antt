@@ -216,24 +216,35 @@ module _ {bonds : ℕ → Bond} {n m : ℕ} {up kind : List ℕ} (fit : BondsFit
       go true x = let q = done i k l (ltb-true (bonds i).lo c x) in omega arith
       go false x = let q = ltb-false (bonds i).lo c x in one i k (omega arith) f
 
+  -- what the walk below a list of neighbours gives
+  abbrev KidsOf : List Neighbour → List ℕ → Forest → Type 0
+  KidsOf cs s F = (v b c : ℕ) → Ways bonds m v b cs → s ≡ range 0 c → v < c
+      → ((j : ℕ) → j < b → j < m → (bonds j).lo ≡ v → (bonds j).hi < c) → Closed bonds m (suc v) c → Kids F v c
+
+  child : (v b c i : ℕ) (y : Neighbour) {cs : List Neighbour} (s : List ℕ) (f g : Forest) → b ≤ i → i < m → ((j : ℕ) → b ≤ j → j < i → (bonds j).lo ≡ v → ⊥)
+      → Way bonds m v i y → Ways bonds m v (suc i) cs → member y.to s ≡ false
+      → KidsOf (neighbours y.to bs) (s ++ (y.to ∷ [])) f → KidsOf cs ((s ++ (y.to ∷ [])) ++ pre f) g
+      → s ≡ range 0 c → v < c → ((j : ℕ) → j < b → j < m → (bonds j).lo ≡ v → (bonds j).hi < c) → Closed bonds m (suc v) c → Kids (node y.to y.kind f g) v c
+  child v b c i _ s f g l k gap (down x) r q d1 d2 e h old done =
+      let new = fresh (bonds i).hi c (ap (member (bonds i).hi) (sym e) ∙ q) in
+      let E = enters v b c i h l k new x gap old done in
+      let at = E.atom in
+      let e1 = next-range c (bonds i).hi s e at in
+      let k1 = d1 (bonds i).hi 0 (suc c) (ways bonds m (bonds i).hi 0 m (omega arith)) e1 (omega arith) (λ j t. absurd (omega arith)) (λ j t u a. absurd (omega arith)) in
+      let e2 = far-range (suc c) (s ++ ((bonds i).hi ∷ [])) (pre f) (size f) e1 k1.run.atoms in
+      let k2 = d2 v (suc i) (suc c + size f) r e2 (omega arith) (older v b c (suc c + size f) i (omega arith) gap old (λ t. omega arith)) (after-child v (bonds i).hi c (suc c + size f) at (omega arith) done k1.closed) in
+      let z : c + suc (size f + size g) ≡ suc c + size f + size g = omega arith in
+      record { run = run-node (bonds i).hi (bonds i).kind (suc v) c at E.link E.parent k1.run k2.run; closed = rw z k2.closed }
+  child v b c i _ s f g l k gap (back x) r q d1 d2 e h old done =
+      absurd (let new = fresh (bonds i).lo c (ap (member (bonds i).lo) (sym e) ∙ q) in let z = (fit.ends i k).0 in omega arith)
+
   kids : {cs : List Neighbour} {s : List ℕ} {F : Forest} → Dfs bs cs s F → (v b c : ℕ) → Ways bonds m v b cs → s ≡ range 0 c → v < c
       → ((j : ℕ) → j < b → j < m → (bonds j).lo ≡ v → (bonds j).hi < c) → Closed bonds m (suc v) c → Kids F v c
   kids end v b c (last f) e h old done =
       let z : c + 0 ≡ c = omega arith in
       record { run = run-leaf (suc v) c; closed = rw z (closes v b c f old done) }
   kids (skip {s = s} q d) v b c (next i l k gap w r) e h old done = kids d v (suc i) c r e h (older v b c c i (omega arith) gap old (tried v c i s k w e q)) done
-  kids (visit {s = s} {f = f} {g = g} q d1 d2) v b c (next i l k gap (down x) r) e h old done =
-      let new = fresh (bonds i).hi c (ap (member (bonds i).hi) (sym e) ∙ q) in
-      let E = enters v b c i h l k new x gap old done in
-      let at = E.atom in
-      let e1 = next-range c (bonds i).hi s e at in
-      let k1 = kids d1 (bonds i).hi 0 (suc c) (ways bonds m (bonds i).hi 0 m (omega arith)) e1 (omega arith) (λ j t. absurd (omega arith)) (λ j t u a. absurd (omega arith)) in
-      let e2 = far-range (suc c) (s ++ ((bonds i).hi ∷ [])) (pre f) (size f) e1 k1.run.atoms in
-      let k2 = kids d2 v (suc i) (suc c + size f) r e2 (omega arith) (older v b c (suc c + size f) i (omega arith) gap old (λ t. omega arith)) (after-child v (bonds i).hi c (suc c + size f) at (omega arith) done k1.closed) in
-      let z : c + suc (size f + size g) ≡ suc c + size f + size g = omega arith in
-      record { run = run-node (bonds i).hi (bonds i).kind (suc v) c at E.link E.parent k1.run k2.run; closed = rw z k2.closed }
-  kids (visit {s = s} q d1 d2) v b c (next i l k gap (back x) r) e h old done =
-      absurd (let new = fresh (bonds i).lo c (ap (member (bonds i).lo) (sym e) ∙ q) in let z = (fit.ends i k).0 in omega arith)
+  kids (visit {x = y} {s = s} {f = f} {g = g} q d1 d2) v b c (next i l k gap w r) e h old done = child v b c i y s f g l k gap w r q (kids d1) (kids d2) e h old done
 
   -- the roots in turn
   from-roots : (r a c : ℕ) {s : List ℕ} {F : Forest} → Dfs bs (roots a r) s F → a + r ≡ n → a ≤ c → s ≡ range 0 c → Closed bonds m 0 c → Run up kind F 0 c

@@ -1,5 +1,6 @@
 // The walk of a molecule, depth first, into arrays by walk number.
 #![tactic(auto)]
+
 ghost use Rattle.std.specs.Prelude.{◌≡◌, ℕ, suc, ◌+◌, ◌*◌, ◌<◌, ◌≤◌, true, length, get_or, replicate, set, eqb};
 ghost use Rattle.loops.specs.Loop.{pick, up_to};
 ghost use Rattle.table.specs.Limits.{max_atoms, max_bonds};

@@ -1,0 +1,13 @@
+use borrow.Author.Tests.{eqb-true}
+use Rattle.writing_visit.specs.Straight.{Held}
+use Rattle.writing_visit.proofs.Passed.{held_start, up-less, held_up, held-cast}
+use Prim.Native.Nat.{ℕ, ◌-◌, ◌<◌, ◌≤◌}
+use mathlib.Core.Path.{◌≡◌}
+use native.Mathlib.Omega.{arith}
+use Rattle.writing_visit.proofs.is_above.Given as goal
+
+abbrev pub invariant-loop-a : goal.invariant-loop-a
+invariant-loop-a l = (l.a ≤ l.from) × Held l.up l.a l.from
+
+abbrev pub decreases-loop-a : goal.decreases-loop-a
+decreases-loop-a l = l.a
