@@ -1,5 +1,6 @@
 // What a byte that the grammar takes does beside it.
 #![tactic(auto)]
+
 ghost use Rattle.std.specs.Prelude.{◌≡◌, true, ℕ, ◌≤◌, eqb};
 ghost use Rattle.loops.specs.Loop.{pick};
 ghost use Rattle.element.specs.Symbols.{among};

@@ -1,5 +1,6 @@
 // Reading a text in pieces: what the caller keeps between two of them. The definitions and theorems are in specs/ and proofs/.
 #![tactic(auto)]
+
 use ids::{BRIDGES, MAX_ATOMS, MAX_DEPTH};
 use reading_state::KEYS;
 
