@@ -1,5 +1,6 @@
 // The next matching that differs from a row in its first bonds. Every function here is internal.
 #![tactic(auto)]
+
 ghost use Rattle.std.specs.Prelude.{◌≡◌, true, ◌&&◌, ◌≤◌, ◌-◌, length, take};
 ghost use Rattle.matching.specs.Enumeration.{is_row};
 ghost use Rattle.matching.specs.Graph.{is_matching};

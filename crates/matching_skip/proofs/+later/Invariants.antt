@@ -1,0 +1,6 @@
+use Prim.Native.Nat.{◌-◌}
+use lib.ListN.{length}
+use Rattle.matching_skip.proofs.+later.Given as goal
+
+abbrev pub decreases-later : goal.decreases-later
+decreases-later l = length l.ea.now - l.k.0
