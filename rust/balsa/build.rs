@@ -1,4 +1,4 @@
-//! Links the archive of the proved calls. `rt staticlib balsa` makes it: here, where it is missing or
+//! Links the archive of the proved calls. `c/make-archive` makes it: here, where it is missing or
 //! older than the source of a crate.
 
 use std::fs;
@@ -50,12 +50,9 @@ fn is_newer(sources: &[PathBuf], time: SystemTime) -> io::Result<bool> {
 }
 
 fn make(root: &Path) {
-    let made = Command::new("rt")
-        .args(["staticlib", "balsa"])
-        .current_dir(root)
-        .status();
+    let made = Command::new(root.join("c/make-archive")).status();
     assert!(
         made.is_ok_and(|status| status.success()),
-        "`rt staticlib balsa` in the repository's root did not make the archive"
+        "`c/make-archive` did not make the archive"
     );
 }

@@ -489,7 +489,7 @@ fn colour_where_it_is_wanted() {
     assert!(!plain.err.contains('\x1b'));
 }
 
-/// What the proved program writes; `rt check report` makes it.
+/// What the proved program writes; `c/make-report` makes it.
 fn proved_report(input: &[u8]) -> Vec<u8> {
     let mut child = Command::new(format!("{ROOT}/target/bin/report"))
         .stdin(Stdio::piped())

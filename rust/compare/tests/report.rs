@@ -16,7 +16,7 @@ fn program(input: &[u8], pieces: &[usize]) -> Vec<u8> {
         .stdin(Stdio::piped())
         .stdout(Stdio::piped())
         .spawn()
-        .expect("`rt check report` in the repository's root makes the program");
+        .expect("`c/make-report` makes the program");
     let mut stdin = child.stdin.take().unwrap();
     thread::scope(|scope| {
         scope.spawn(move || {
