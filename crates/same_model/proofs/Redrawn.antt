@@ -1,10 +1,9 @@
 -- Molecules that are the same compound are redrawings of one another, and being a redrawing is an equivalence. Assumes nothing.
 use mathlib.Core.Path.{◌≡◌, refl, sym, ap, ◌∙◌, subst}
-use mathlib.Core.Bool.{Bool, true, not}
+use mathlib.Core.Bool.{true, not}
 use mathlib.Core.List.{List}
 use Prim.Native.Nat.{ℕ, ◌<◌}
 use native.Mathlib.Omega.{arith}
-use lib.IntN.{ℤ}
 use lib.Dec.{eqb}
 use Rattle.loops.specs.Loop.{up_to}
 use Rattle.loops.proofs.Loops.{up_to-at}
@@ -13,9 +12,9 @@ use Rattle.table.proofs.Valid.{Enough}
 use Rattle.table_graph.specs.Graph.{bond_sum}
 use Rattle.kekule.proofs.Kekulized.{kekulized-valid}
 use Rattle.same_model.specs.Same.{Molecule, settled, same_cells, order_between, image}
-use Rattle.same_model.specs.Redrawing.{Renumbering, Placement, Same, settled_sum, joined, Redrawing}
+use Rattle.same_model.specs.Redrawing.{Renumbering, Same, settled_sum, Redrawing}
 use Rattle.same_model.proofs.Onto.{made, inverse, inverse-renumbers, image-back}
-use Rattle.same_model.proofs.Cells.{Alike, alike, cells-alike, alike_self, alike-sym, alike-trans, alike-settled}
+use Rattle.same_model.proofs.Cells.{alike, cells-alike, alike_self, alike-sym, alike-trans, alike-settled}
 use Rattle.same_model.proofs.Sameness.{Carried, carried-facts}
 use Rattle.same_model.proofs.Relation.{identity, identity-renumbers, identity-at}
 use Rattle.same_model.proofs.Totals.{total, total-same, total-permuted}

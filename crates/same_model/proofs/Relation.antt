@@ -1,13 +1,12 @@
 -- Being the same compound: symmetric, reflexive where there is a placement, and a molecule is the same as each of its kekulized forms. Assumes nothing.
 use mathlib.Core.Path.{◌≡◌, refl, sym, ap, ◌∙◌, subst}
-use mathlib.Core.Bool.{true, false, ◌&&◌}
+use mathlib.Core.Bool.{true}
 use mathlib.Core.List.{List, [], ◌∷◌}
-use Prim.Native.Nat.{ℕ, zero, suc, ◌+◌, ◌<◌, ◌≤◌}
+use Prim.Native.Nat.{ℕ, zero, suc, ◌<◌}
 use native.Mathlib.Omega.{arith}
 use lib.IntN.{ℤ}
-use lib.Dec.{eqb}
-use lib.ListN.{length, replicate}
-use Rattle.loops.specs.Loop.{pick, run, up_to}
+use lib.ListN.{replicate}
+use Rattle.loops.specs.Loop.{run, up_to}
 use Rattle.loops.proofs.Loops.{up_to-at, and_left, and_right, repeated-at}
 use Rattle.table.specs.Valid.{Valid}
 use Rattle.table.specs.Edits.{doubled, doubled_by, doubled_bonds}
@@ -15,10 +14,10 @@ use Rattle.table.proofs.Valid.{Enough}
 use Rattle.matching.specs.Enumeration.{Row, is_row}
 use Rattle.matching.proofs.Listing.{passes_at}
 use Rattle.kekule.proofs.Kekulized.{kekulized-matchings}
-use Rattle.same_model.specs.Same.{Molecule, is_placement, placements, settled, same_cells, order_between, joins, image, carries}
+use Rattle.same_model.specs.Same.{Molecule, is_placement, settled, same_cells, order_between, joins, image, carries}
 use Rattle.same_model.specs.Redrawing.{Renumbering, Placement, Same}
 use Rattle.same_model.proofs.Onto.{made, inverse, inverse-renumbers, image-back}
-use Rattle.same_model.proofs.Cells.{Alike, alike, cells-alike, alike_self, alike-sym, alike-trans, alike-settled}
+use Rattle.same_model.proofs.Cells.{Alike, alike, cells-alike, alike_self, alike-sym, alike-settled}
 use Rattle.same_model.proofs.Sameness.{Carried, carried-facts, facts-carried}
 
 -- each atom keeps its number

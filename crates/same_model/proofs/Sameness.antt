@@ -1,17 +1,17 @@
 -- "Yes" is said exactly if some rows and some renumbering fit, and those handed out do. Assumes nothing.
-use mathlib.Core.Path.{◌≡◌, refl, sym, ap, ◌∙◌}
-use mathlib.Core.Bool.{Bool, true, ◌&&◌}
+use mathlib.Core.Path.{◌≡◌, refl}
+use mathlib.Core.Bool.{Bool, true}
 use mathlib.Core.List.{List, []}
 use Prim.Native.Nat.{ℕ, ◌<◌}
 use lib.Dec.{eqb}
 use borrow.Author.Tests.{eqb-true, eq-eqb}
 use Rattle.loops.specs.Loop.{each}
 use Rattle.loops.proofs.Loops.{and_left, and_right, each_at, each_all}
-use Rattle.matching.specs.Enumeration.{Row, is_row, passing}
+use Rattle.matching.specs.Enumeration.{Row, is_row}
 use Rattle.matching.specs.Model.{some?, head_or}
 use Rattle.matching.proofs.Graph.{and_intro}
 use Rattle.matching.proofs.Listing.{row_at, passes_at, place_of}
-use Rattle.same_model.specs.Same.{Molecule, is_placement, placements, settled, same_cells, order_between, image, carries_atoms, carries_bonds, carries, renumberings, fits, fitting, partners, partnered, same?, first_row, second_row, first_renumbering}
+use Rattle.same_model.specs.Same.{Molecule, is_placement, placements, same_cells, order_between, image, carries_atoms, carries_bonds, carries, fits, fitting, partners, partnered, same?, first_row, second_row, first_renumbering}
 use Rattle.same_model.specs.Redrawing.{Renumbering, Placement, Same}
 use Rattle.same_model.proofs.Lists.{In, All, in-at, at_all, in-passing, all-passing, in_some, all_head}
 use Rattle.same_model.proofs.Words.{renumberings-all, renumbering-in}

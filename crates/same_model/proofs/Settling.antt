@@ -6,20 +6,19 @@ use Prim.Native.Nat.{ℕ, ◌+◌, ◌<◌, ◌≤◌}
 use native.Mathlib.Omega.{arith}
 use lib.IntN.{ℤ, pos}
 use lib.Dec.{eqb}
-use lib.ListN.{length, get_or}
-use borrow.Author.Tests.{eqb-true, eq-eqb, eqb-false}
-use Rattle.loops.specs.Loop.{pick, up_to}
+use borrow.Author.Tests.{eqb-true, eq-eqb}
+use Rattle.loops.specs.Loop.{pick}
 use Rattle.loops.proofs.Loops.{and_left, and_right, length-up_to, up_to-at}
 use Rattle.table.specs.Limits.{FIRST, SECOND, KIND}
-use Rattle.table.specs.Cells.{number, bond_place, bond_cell, end1, end2, kind, touches}
+use Rattle.table.specs.Cells.{number, bond_cell, end1, end2, kind, touches}
 use Rattle.table.specs.Valid.{Valid}
 use Rattle.table.specs.Edits.{doubled_bonds}
 use Rattle.table.proofs.Valid.{Enough}
 use Rattle.table.proofs.Edits.{doubled-kind, doubled-field}
 use Rattle.kinds.specs.Kind.{order}
 use Rattle.matching.specs.Enumeration.{Row}
-use Rattle.matching.specs.Graph.{Bond, flagged, induced, nth_bond, ExactlyOne, Pairs, set_of}
-use Rattle.matching.proofs.Graph.{and_intro, same_bool, not-true, never, or_cases}
+use Rattle.matching.specs.Graph.{flagged, induced, nth_bond, ExactlyOne, Pairs, set_of}
+use Rattle.matching.proofs.Graph.{same_bool, not-true, never, or_cases}
 use Rattle.matching.proofs.Sets.{row-pairs}
 use Rattle.table_graph.specs.Graph.{share, bond_sum, delocalized_at, delocalized_flag, delocalized_flags, flag, bond_of, graph_of}
 use Rattle.same_model.specs.Same.{Molecule, settled, joins, order_between}

@@ -1,13 +1,12 @@
 -- At most one bond joins two atoms of valid tables: what is added up over the bonds between them is what it gives. Assumes nothing.
 use mathlib.Core.Path.{◌≡◌, refl, sym, ap, ◌∙◌}
-use mathlib.Core.Bool.{Bool, true, false, ◌&&◌, ◌||◌, not}
-use mathlib.Core.List.{List}
-use Prim.Native.Nat.{ℕ, ◌+◌, ◌<◌, ◌≤◌}
+use mathlib.Core.Bool.{Bool, true, false, ◌&&◌, not}
+use Prim.Native.Nat.{ℕ, ◌<◌, ◌≤◌}
 use native.Mathlib.Omega.{arith}
 use lib.Dec.{eqb, leb, ltb}
 use borrow.Author.Tests.{eqb-true, eqb-false, eq-eqb, ne_eqb, ltb-true, ltb-false, le-leb, not-true, not-false}
 use Rattle.loops.specs.Loop.{pick, each}
-use Rattle.loops.proofs.Loops.{and_left, and_right, each_at, Fails, each-fails}
+use Rattle.loops.proofs.Loops.{and_left, and_right, each_at, each-fails}
 use Rattle.table.specs.Cells.{end1, end2, kind}
 use Rattle.table.specs.Valid.{Valid, same_ends}
 use Rattle.table.proofs.Valid.{bond-row, kind-small, apart-at}
@@ -17,7 +16,7 @@ use Rattle.matching.proofs.Graph.{and_intro, same_bool, never, or_cases}
 use Rattle.same_model.specs.Same.{Molecule, joins, order_between}
 use Rattle.same_model.specs.Redrawing.{joined}
 use Rattle.same_model.proofs.Totals.{total, total-same, total-none, total-at}
-use Rattle.same_model.proofs.Orders.{between, order-total}
+use Rattle.same_model.proofs.Orders.{order-total}
 
 -- a kind has an order above 0
 order-positive : (k : ℕ) → k ≤ max_kind → 0 < order k

@@ -1,17 +1,17 @@
 -- The list of all renumberings holds exactly the renumberings. Assumes nothing.
-use mathlib.Core.Path.{◌≡◌, refl, sym, ap, ◌∙◌}
-use mathlib.Core.Bool.{Bool, true, false, ◌&&◌, ◌||◌, not}
+use mathlib.Core.Path.{◌≡◌, refl, sym, ap}
+use mathlib.Core.Bool.{Bool, true, false, ◌||◌, not}
 use mathlib.Core.List.{List, [], ◌∷◌, map}
-use Prim.Native.Nat.{ℕ, zero, suc, ◌+◌, ◌<◌, ◌≤◌}
+use Prim.Native.Nat.{ℕ, zero, suc, ◌<◌}
 use native.Mathlib.Omega.{arith}
 use lib.Dec.{eqb}
 use lib.ListN.{length, get_or}
 use borrow.Author.Tests.{eqb-true, eq-eqb, not-true}
 use Rattle.loops.proofs.Loops.{and_left, and_right}
 use Rattle.matching.proofs.Graph.{and_intro, never, or_cases}
-use Rattle.same_model.specs.Same.{words, occurs, apart, renumberings, image}
+use Rattle.same_model.specs.Same.{words, occurs, apart, renumberings}
 use Rattle.same_model.specs.Redrawing.{Renumbering}
-use Rattle.same_model.proofs.Lists.{In, here, there, All, none, more, in_map, all_map, in-flat_map, all-flat_map, in-up_to, all-up_to, in-passing, all-passing, all-imp, all-at, at_all}
+use Rattle.same_model.proofs.Lists.{In, here, All, none, more, in_map, all_map, in-flat_map, all-flat_map, in-up_to, all-up_to, in-passing, all-passing, all-imp, all-at, at_all}
 
 -- k numbers below n
 pub record Word (n k : ℕ) (t : List ℕ) : Type 0 where

@@ -1,5 +1,5 @@
 -- 02, P4, "Same compound, drawn differently": whether two molecules are the same, and the rows and the renumbering that show it. No search is meant here.
-use Rattle.std.specs.Prelude.{ℕ, zero, suc, ◌+◌, ◌<◌, ◌≡◌, Bool, true, false, ◌&&◌, ◌||◌, not, length, get_or, replicate, ℤ, eqb, leb}
+use Rattle.std.specs.Prelude.{ℕ, zero, suc, ◌+◌, Bool, true, false, ◌&&◌, ◌||◌, not, length, get_or, replicate, ℤ, eqb, leb}
 use mathlib.Core.List.{List, [], ◌∷◌, map, flat_map}
 use Rattle.std.specs.Int.Signed.{le_z}
 use Rattle.loops.specs.Loop.{pick, each, run, up_to}

@@ -2,20 +2,20 @@
 use mathlib.Core.Path.{◌≡◌, refl, sym, ap, ◌∙◌, fun_ext}
 use mathlib.Core.Bool.{Bool, true, false, ◌&&◌, not}
 use mathlib.Core.List.{List, [], ◌∷◌, ◌++◌, map, flat_map, append_assoc, append-nil}
-use Prim.Native.Nat.{ℕ, zero, suc, ◌+◌, ◌-◌, ◌*◌, ◌<◌, ◌≤◌}
+use Prim.Native.Nat.{ℕ, suc, ◌+◌, ◌-◌, ◌<◌, ◌≤◌}
 use native.Mathlib.Omega.{arith}
 use native.Mathlib.Numerals.{add-one}
 use lib.Dec.{eqb}
 use lib.ListN.{length, get_or, set, take, length-set}
 use lib.Seq.{get_or-take, take-suc-set, take-set-le, take-take, length-take-le, get_or-set_same, get_or-set_other}
-use borrow.Author.Tests.{eq-eqb, ne_eqb, eqb-true}
-use Rattle.loops.specs.Loop.{each, up_to}
+use borrow.Author.Tests.{eq-eqb, eqb-true}
+use Rattle.loops.specs.Loop.{up_to}
 use Rattle.loops.proofs.Loops.{each_same}
-use Rattle.matching.specs.Enumeration.{Row, passing, cons_if}
+use Rattle.matching.specs.Enumeration.{Row, passing}
 use Rattle.matching.specs.Model.{some?, head_or}
-use Rattle.matching.proofs.Enumeration.{passing-append, passing-map, passing-none, passing-same}
+use Rattle.matching.proofs.Enumeration.{passing-append, passing-map, passing-none}
 use Rattle.matching.proofs.Graph.{never}
-use Rattle.same_model.specs.Same.{max_same, image, words}
+use Rattle.same_model.specs.Same.{max_same, words}
 use Rattle.same_place.specs.Place.{entry, beside, placeable, good_from, goods, Prefix, Solved}
 
 passing-flat_map : (q : Row → Bool) (f : ℕ → List Row) (l : List ℕ) → passing q (flat_map f l) ≡ flat_map (λ d. passing q (f d)) l

@@ -1,6 +1,7 @@
 // A search for the smallest renumbering that carries one square matrix onto another, atom by atom; no chemistry.
 // Every function here is internal.
 #![tactic(auto)]
+
 ghost use Rattle.std.specs.Prelude.{◌≡◌, ℕ, ◌<◌, ◌-◌, take, get_or};
 ghost use Rattle.same_model.specs.Same.{max_same};
 ghost use Rattle.same_place.specs.Place.{entry, placeable, goods, Prefix, Solved};
