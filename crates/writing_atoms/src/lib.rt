@@ -1,5 +1,6 @@
 // The bytes of bond symbols, bridges and atoms, laid into a buffer.
 #![tactic(auto)]
+
 ghost use Rattle.std.specs.Prelude.{[], ◌∷◌, ◌+◌, ◌<◌};
 ghost use Rattle.ids.specs.Limits.{bridges};
 ghost use Rattle.buffer.specs.Buffer.{buffer_at, Wrote};
