@@ -332,10 +332,6 @@ module _ {ea eb el need row pairs : List ℕ} (s : Shape ea eb el need row 0) (r
     forced-other n = subst (λ (fs : List Row). Tried need row 0 (length ea) fs o need3 row1) (sym (matchings-left Bs'' need))
         (tried_other (ones F) (is_matching (left Bs'' need) Bs'') (length Bs'') (bonds_long (tables-of s)) ones-behind here' again n)
 
--- an answer whose number is that of one of the two others
-pub not_found : (o : Sought) → OneOf (1 ∷ 2 ∷ []) (tag_of the_type o) → o ≡ Found → ⊥
-not_found o k e = ⊎_elim (λ q. omega arith) (λ q. omega arith) (subst (λ (x : Sought). OneOf (1 ∷ 2 ∷ []) (tag_of the_type x)) e k)
-
 -- what was lent comes back as it was
 module _ {ea eb el need row : List ℕ} (s : Shape ea eb el need row 0) {el1 need1 : List ℕ} (e : el1 ≡ el) (n : need1 ≡ need) where
   pub shape-again : {row1 : List ℕ} → length row1 ≡ length row → Shape ea eb el1 need1 row1 0

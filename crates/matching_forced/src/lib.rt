@@ -2,6 +2,7 @@
 // free bond; else, while one has exactly one, the lowest of them is paired; only what is left is searched, under a budget, and where
 // that is spent the certified search answers. Every function here is internal: the calls on molecules check what is asked of the tables.
 #![tactic(auto)]
+
 ghost use Rattle.std.specs.Prelude.{◌≡◌, true, false, [], ◌++◌, ℕ, ◌-◌, ◌<◌, ◌≤◌, length, take, replicate, get_or};
 ghost use Rattle.matching.specs.Enumeration.{row_next};
 ghost use Rattle.matching.specs.Graph.{is_matching};
