@@ -4,9 +4,6 @@ use native.Mathlib.Omega.{arith}
 use mathlib.Core.Path.{◌≡◌, refl}
 use mathlib.Core.List.{List, [], ◌∷◌}
 use lib.ListN.{get_or-eq_default}
-use denote.Enum.Declared.{tag_of}
-use types.Run.{OneOf, miss}
-use Rattle.reading_grammar.specs.contracts.Mode.{the_type}
 use Rattle.reading_grammar.specs.declared.Last.TheVariants.{Plain as plain, AfterC as afterC, AfterB as afterB}
 use Rattle.reading_grammar.specs.declared.Mode.{Mode}
 use Rattle.reading_grammar.specs.declared.Mode.TheVariants.{Seq as seq, Bond as bond, AtomNext as atomNext, Inside as inside, Percent as percent, Percent1 as percent1, LetterA as letterA, LetterT as letterT, Bracket as bracket, Isotope as isotope, Symbol1 as symbol1, Symbolled as symbolled, At1 as at1, At2 as at2, Hydrogen as hydrogen, Hydrogens as hydrogens, Sign as sign, Charged as charged, Colon as colon, Extension as extension}
@@ -30,11 +27,8 @@ mode-above m a i e h =
     ∷ isotope_mode i ∷ symbol1 a ∷ symbolled ∷ at1 ∷ at2 ∷ hydrogen ∷ hydrogens ∷ sign ∷ charged ∷ [])
     (extension_mode e) (above 19 m h)
 
--- every mode but the eleventh has no letter
-abbrev others : List ℕ
-others = 0 ∷ 1 ∷ 2 ∷ 3 ∷ 4 ∷ 5 ∷ 6 ∷ 7 ∷ 8 ∷ 9 ∷ 11 ∷ 12 ∷ 13 ∷ 14 ∷ 15 ∷ 16 ∷ 17 ∷ 18 ∷ 19 ∷ []
-
-pub letter-none : (m : Mode) → OneOf others (tag_of the_type m) → mode_letter m ≡ 0
+-- a mode that is no half-read symbol has no letter
+pub letter-none : (m : Mode) → ((a : ℕ) → m ≡ symbol1 a → ⊥) → mode_letter m ≡ 0
 unfolding mode_letter
 letter-none (seq x) h = refl
 letter-none bond h = refl
@@ -46,7 +40,7 @@ letter-none letterA h = refl
 letter-none letterT h = refl
 letter-none bracket h = refl
 letter-none (isotope k) h = refl
-letter-none (symbol1 a) h = absurd (miss others 10 tt h)
+letter-none (symbol1 a) h = absurd (h a refl)
 letter-none symbolled h = refl
 letter-none at1 h = refl
 letter-none at2 h = refl

@@ -1,0 +1,18 @@
+use Prim.Native.Nat.{◌-◌}
+use native.Mathlib.Omega.{arith}
+use mathlib.Core.Path.{ap}
+use lib.ListN.{get_or, set}
+use Rattle.loops.proofs.Loops.{Ran, ran-start, ran-step, ran-end}
+use Rattle.reading_state.specs.State.{key_count}
+use Rattle.reading_pieces.specs.State.{cap, capped}
+use Rattle.reader_checks.proofs.limit.cap_keys.Goals as goal
+
+pub loop-i-init : goal.loop-i-init
+loop-i-init c = ran-start
+
+pub loop-i-preserved : goal.loop-i-preserved
+loop-i-preserved c = ran-step c.loop-i.invariant _ c.loop-i-test.true (ap (set c.loop-i.l c.loop-i.i) c.cap.ensures)
+
+pub returns : goal.returns
+unfolding capped
+returns c = ran-end c.loop-i.invariant c.loop-i-test.false

@@ -1,0 +1,14 @@
+use Prim.Native.Nat.{◌-◌}
+use native.Mathlib.Omega.{arith}
+use mathlib.Core.Path.{ap}
+use lib.ListN.{get_or, set}
+use Rattle.loops.proofs.Loops.{Ran, ran-start, ran-step, ran-end}
+use Rattle.ids.specs.Limits.{bridges}
+use Rattle.reading_pieces.specs.State.{cap, capped}
+use Rattle.reader_checks.proofs.limit.cap_offsets.Given as goal
+
+abbrev pub invariant-loop-i : goal.invariant-loop-i
+invariant-loop-i l = Ran (λ k t. set t k (cap (get_or t k 0))) l.initial.l bridges l.i l.l
+
+abbrev pub decreases-loop-i : goal.decreases-loop-i
+decreases-loop-i l = bridges - l.i
