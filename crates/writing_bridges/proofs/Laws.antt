@@ -120,7 +120,7 @@ module _ (los his kinds : List ℕ) (k x y i : ℕ) (near : Near los his x y k k
             let v = r.told f k t h sl in
             let z : ltb (lowest t) (length a) ≡ true = sym v.0 ∙ e in
             let m = n.told f N (insert (f i) t) b kk (v.1 e).1 in (
-              m.0 ∙ sym (ap (λ l. fits (length a) l t) ca ∙ rw (z, ← len)),
+              m.0 ∙ sym (ap (λ l. fits (length a) l t) ca ∙ rw (z, len)),
               λ y. (as_is (ap (λ l. open_bytes l t) ca) (also (as_is (ap (λ (j : ℕ). kind_bytes j ++ bridge_bytes (lowest t)) (kk i h ∙ sym ek)) (v.1 e).0) (m.1 y).0), subst (λ l. Slots f k c (open_all l t)) (sym ca) (m.1 y).1),
             );
       }

@@ -61,13 +61,18 @@ first_part f p n i l h = get_or-append (ups f p n) l 0 i (let e = length-ups f p
 second_part : (f : Forest) (p n j i : ℕ) (l : List ℕ) → i ≡ size f + j → get_or (ups f p n ++ l) i 0 ≡ get_or l j 0
 second_part f p n j i l h = ap (λ (x : ℕ). get_or (ups f p n ++ l) x 0) (h ∙ ap (λ (x : ℕ). x + j) (sym (length-ups f p n))) ∙ get_or-append-add (ups f p n) l j 0
 
+first_only : (b c : Bool) (x y z : ℕ) → b ≡ c → x ≡ y + z → y ≡ 0 → z ≡ 0 → bit b + x ≡ bit c
+first_only b c x y z e q r s = omega (arith, ap bit e)
+
 -- a bond below h is in the forest exactly if h is the parent
 tree-up : (a : ℕ) (F : Forest) (h n i : ℕ) → i < size F → count (ends a (n + i)) (tree F h n) ≡ bit (eqb (get_or (ups F (suc h) n) i 0) (suc a))
 tree-up a leaf h n i l = absurd (omega arith)
 tree-up a (node w k f g) h n zero l =
     let e : n + 0 ≡ n = omega arith in
     let z : ends a n (bond h n k) ≡ eqb (suc h) (suc a) = rw (eqb_same n, eqb-suc h a) (and_one (eqb h a)) in
-    rw e (omega (arith, ap bit z, count-append (ends a n) (tree f n (suc n)) (tree g h (suc n + size f)), tree-low a n f n (suc n) (omega arith), tree-low a n g h (suc n + size f) (omega arith)))
+    subst (λ (x : ℕ). count (ends a x) (tree (node w k f g) h n) ≡ bit (eqb (suc h) (suc a))) (sym e)
+    (first_only (ends a n (bond h n k)) _ (count (ends a n) (tree f n (suc n) ++ tree g h (suc n + size f))) _ _ z
+    (count-append (ends a n) (tree f n (suc n)) (tree g h (suc n + size f))) (tree-low a n f n (suc n) (omega arith)) (tree-low a n g h (suc n + size f) (omega arith)))
   where
     and_one : (t : Bool) → (t && true) ≡ t
     and_one true = refl

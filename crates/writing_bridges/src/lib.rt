@@ -1,5 +1,6 @@
 // Bridges: the bonds that the walk does not use, the numbers that are open, and what is written of them at an atom.
 #![tactic(auto)]
+
 ghost use Rattle.std.specs.Prelude.{◌≡◌, ◌++◌, ◌+◌, ◌<◌, ◌≤◌, length, set};
 ghost use Rattle.table.specs.Limits.{max_bonds};
 ghost use Rattle.ids.specs.Limits.{bridges};

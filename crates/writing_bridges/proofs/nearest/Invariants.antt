@@ -1,0 +1,12 @@
+use Rattle.writing_bridges.proofs.Laws.{near-start}
+use Rattle.writing_bridges.specs.Slots.{Near}
+use mathlib.Core.Path.{◌≡◌, subst}
+use Prim.Native.Nat.{ℕ, ◌-◌, ◌≤◌}
+use native.Mathlib.Omega.{arith}
+use Rattle.writing_bridges.proofs.nearest.Given as goal
+
+abbrev pub invariant-loop-i : goal.invariant-loop-i
+invariant-loop-i l = (l.i ≤ l.k) × Near l.ends l.keys l.x.0 l.from.0 l.k l.i l.best.0
+
+abbrev pub decreases-loop-i : goal.decreases-loop-i
+decreases-loop-i l = l.k - l.i
