@@ -1,5 +1,6 @@
 // The public calls on tables: the first matching, the next one, whether a row is a matching, kekulizing by a row, and a list of calls.
 #![tactic(auto)]
+
 ghost use Rattle.std.specs.Prelude.{◌≡◌, ◌≤◌, List, length, replicate, ℤ};
 ghost use Rattle.ids.specs.Small.{small};
 ghost use Rattle.table.specs.Valid.{Valid, check_code};

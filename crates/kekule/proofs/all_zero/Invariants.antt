@@ -1,0 +1,15 @@
+use Prim.Native.Nat.{◌-◌}
+use native.Mathlib.Omega.{arith}
+use mathlib.Core.Path.{sym}
+use borrow.Author.Tests.{eq-eqb, ne_eqb}
+use lib.ListN.{get_or}
+use lib.Dec.{eqb}
+use Rattle.loops.proofs.Loops.{Left, left-start, left-pass, left-fail, left_end}
+use Rattle.kekule.specs.Kekule.{all_zero}
+use Rattle.kekule.proofs.all_zero.Given as goal
+
+abbrev pub invariant-loop-i : goal.invariant-loop-i
+invariant-loop-i l = Left (λ b. eqb (get_or l.row b 0) 0) l.m l.i
+
+abbrev pub decreases-loop-i : goal.decreases-loop-i
+decreases-loop-i l = l.m - l.i
