@@ -1,5 +1,6 @@
 // The marks of the atoms as they are written: the stored ones, turned by the walk's ranks of their bonds.
 #![tactic(auto)]
+
 ghost use Rattle.std.specs.Prelude.{◌≡◌, true, ◌++◌, ◌+◌, ◌-◌, ◌*◌, ◌<◌, ◌≤◌, length, get_or, drop, replicate};
 ghost use Rattle.loops.specs.Loop.{each, up_to};
 ghost use Rattle.table.specs.Limits.{max_atoms};

@@ -1,0 +1,13 @@
+use Prim.Native.Nat.{◌-◌}
+use native.Mathlib.Omega.{arith}
+use mathlib.Core.Path.{◌≡◌, refl, ◌∙◌}
+use lib.ListN.{length}
+use Rattle.writing_marks.specs.Marks.{Ranked}
+use Rattle.writing_marks.proofs.Laws.{ranked-start, ranked-step, ranked-end}
+use Rattle.writing_marks.proofs.fill_ranks.Given as goal
+
+abbrev pub invariant-loop-b : goal.invariant-loop-b
+invariant-loop-b l = Ranked l.bonds l.n l.m l.b l.ranks × (length l.ranks ≡ length l.initial.ranks)
+
+abbrev pub decreases-loop-b : goal.decreases-loop-b
+decreases-loop-b l = l.m - l.b
