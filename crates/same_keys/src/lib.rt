@@ -1,5 +1,6 @@
 // Keys of atoms that every redrawing keeps: numbers that grow, round by round, by those of the atoms they are joined to. Every function here is internal.
 #![tactic(auto)]
+
 ghost use Rattle.std.specs.Prelude.{◌≡◌, ◌++◌, ◌+◌, ◌*◌, ◌<◌, ◌≤◌, ◌%◌, drop, replicate, length};
 ghost use Rattle.loops.specs.Loop.{run, up_to};
 ghost use Rattle.table.specs.Limits.{max_atoms};

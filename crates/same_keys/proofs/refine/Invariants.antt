@@ -1,0 +1,12 @@
+use Prim.Native.Nat.{◌-◌}
+use native.Mathlib.Omega.{arith}
+use Rattle.same_keys.specs.Keys.{at}
+use Rattle.same_keys.proofs.Low.{low-more}
+use Rattle.same_keys.proofs.Spreading.{Refining, refining-start, refining-step, refining-end}
+use Rattle.same_keys.proofs.refine.Given as goal
+
+abbrev pub invariant-loop-i : goal.invariant-loop-i
+invariant-loop-i l = Refining (at l.ea) (at l.eb) l.m l.n l.r l.initial.mixed l.initial.keys l.i l.mixed l.keys
+
+abbrev pub decreases-loop-i : goal.decreases-loop-i
+decreases-loop-i l = l.r - l.i
