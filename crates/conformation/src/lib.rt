@@ -1,5 +1,6 @@
 // The row of sides of a molecule: at which double bonds the lowest marked neighbours of the two ends lie on the same side.
 #![tactic(auto)]
+
 ghost use Rattle.std.specs.Prelude.{◌≡◌, ◌++◌, ◌<◌, ◌≤◌, length, drop};
 ghost use Rattle.loops.specs.Loop.{up_to};
 ghost use Rattle.table.specs.Limits.{max_bonds};
