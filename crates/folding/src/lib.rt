@@ -1,5 +1,6 @@
 // Folding: marks and map numbers are left aside, and plain hydrogen atoms become hydrogens of their neighbours. Every function here is internal.
 #![tactic(auto)]
+
 ghost use Rattle.std.specs.Prelude.{◌≡◌, ◌++◌, ◌<◌, ◌≤◌, length, drop, replicate, get_or, pos};
 ghost use Rattle.loops.specs.Loop.{how_many, up_to};
 ghost use Rattle.table.specs.Limits.{max_atoms, max_bonds};

@@ -1,0 +1,18 @@
+use Prim.Native.Nat.{◌-◌}
+use native.Mathlib.Omega.{arith}
+use Rattle.loops.proofs.Loops.{Edited, edited-start, edited-step, edited-end}
+use Rattle.folding.specs.Folding.{bare_bond, bared_bonds}
+use Rattle.folding.proofs.bare_bonds.Goals as goal
+
+pub loop-i-init : goal.loop-i-init
+loop-i-init c = edited-start
+
+pub loop-i-preserved : goal.loop-i-preserved
+loop-i-preserved c = edited-step c.loop-i.invariant _ c.loop-i-test.true c.bare_bond.ensures c.bare_bond.auto.bonds
+
+pub shape_of-bonds : goal.shape_of-bonds
+shape_of-bonds c = c.loop-i.invariant.room
+
+pub returns : goal.returns
+unfolding bared_bonds
+returns c = edited-end c.loop-i.invariant c.loop-i-test.false

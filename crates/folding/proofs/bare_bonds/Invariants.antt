@@ -1,0 +1,11 @@
+use Prim.Native.Nat.{◌-◌}
+use native.Mathlib.Omega.{arith}
+use Rattle.loops.proofs.Loops.{Edited, edited-start, edited-step, edited-end}
+use Rattle.folding.specs.Folding.{bare_bond, bared_bonds}
+use Rattle.folding.proofs.bare_bonds.Given as goal
+
+abbrev pub invariant-loop-i : goal.invariant-loop-i
+invariant-loop-i l = Edited bare_bond l.initial.bonds l.m l.i l.bonds
+
+abbrev pub decreases-loop-i : goal.decreases-loop-i
+decreases-loop-i l = l.m - l.i

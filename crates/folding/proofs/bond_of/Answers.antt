@@ -1,0 +1,7 @@
+use Rattle.folding.proofs.Paths.{bond-row}
+use mir.Val.{SFits}
+use mir.Syntax.{w32}
+use Rattle.folding.proofs.bond_of.Goals as goal
+
+pub returns : goal.returns
+returns c = bond-row c.args.first c.args.second c.args.kind c.requires.0 c.requires.1 c.ranges.kind

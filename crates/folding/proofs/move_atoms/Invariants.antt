@@ -1,0 +1,14 @@
+use Prim.Native.Nat.{◌-◌}
+use native.Mathlib.Omega.{arith}
+use mathlib.Core.Path.{refl, ap, ◌∙◌}
+use lib.ListN.{length, get_or}
+use Rattle.loops.proofs.Loops.{Edited, edited-start, edited-step, edited-end}
+use Rattle.folding.specs.Links.{none, move_atom, move_atoms}
+use Rattle.folding.proofs.Paths.{end-at}
+use Rattle.folding.proofs.move_atoms.Given as goal
+
+abbrev pub invariant-loop-i : goal.invariant-loop-i
+invariant-loop-i l = Edited (λ a. move_atom (get_or l.numbers a none) a) l.initial.atoms l.n l.i l.atoms
+
+abbrev pub decreases-loop-i : goal.decreases-loop-i
+decreases-loop-i l = l.n - l.i

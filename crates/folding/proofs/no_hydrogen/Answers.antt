@@ -1,0 +1,24 @@
+use Prim.Native.Nat.{◌-◌}
+use native.Mathlib.Omega.{arith}
+use mathlib.Core.Path.{sym, ap, ◌∙◌}
+use borrow.Author.Tests.{eq-eqb, ne_eqb}
+use Rattle.loops.proofs.Loops.{Left, left-start, left-pass, left-fail, left_end}
+use Rattle.folding.specs.Links.{is_heavy, no_hydrogen}
+use Rattle.folding.proofs.no_hydrogen.Goals as goal
+
+pub loop-i-init : goal.loop-i-init
+loop-i-init c = left-start
+
+pub atom_number-requires : goal.atom_number-requires
+atom_number-requires c = (omega arith, omega arith)
+
+pub returns-then-atom_number-eq1 : goal.returns-then-atom_number-eq1
+unfolding no_hydrogen
+returns-then-atom_number-eq1 c = sym (left-fail c.loop-i.invariant c.loop-i-test.true (simp (eq-eqb _ _ (sym c.atom_number.ensures ∙ c.if-atom_number-eq1.true))))
+
+pub loop-i-preserved : goal.loop-i-preserved
+loop-i-preserved c = left-pass c.loop-i.invariant c.loop-i-test.true (simp (ne_eqb _ _ (λ e. c.if-atom_number-eq1.false (c.atom_number.ensures ∙ e))))
+
+pub returns : goal.returns
+unfolding no_hydrogen
+returns c = sym (left_end c.loop-i.invariant c.loop-i-test.false)
