@@ -1,5 +1,6 @@
 // The public calls of the second engine (02, P9) on tables: the first matching with the pairs forced before any choice, and the next one.
 #![tactic(auto)]
+
 ghost use Rattle.std.specs.Prelude.{◌≡◌, ◌≤◌, length};
 ghost use Rattle.table.specs.Limits.{max_bonds};
 ghost use Rattle.table.specs.Valid.{Valid};
