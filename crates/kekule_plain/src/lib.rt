@@ -1,6 +1,7 @@
 // The two calls for matchings by the plain engine, exported for measuring: what the other engines are compared with. Their answers are
 // those of `kekule::first` and `next`, but the time may grow exponentially.
 #![tactic(auto)]
+
 ghost use Rattle.std.specs.Prelude.{◌≡◌, ◌≤◌, length};
 ghost use Rattle.table.specs.Valid.{Valid};
 ghost use Rattle.matching.specs.Enumeration.{row_call};
