@@ -1,5 +1,6 @@
 // A molecule settled by a row as a matrix of orders, and which atoms of two molecules may go to one another. Every function here is internal.
 #![tactic(auto)]
+
 ghost use Rattle.std.specs.Prelude.{◌≡◌, ◌++◌, ◌+◌, ◌*◌, ◌<◌, ◌≤◌, drop, length, get_or};
 ghost use Rattle.loops.specs.Loop.{run, up_to};
 ghost use Rattle.table.specs.Limits.{max_atoms, atom_cells};

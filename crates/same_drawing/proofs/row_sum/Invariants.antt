@@ -1,0 +1,15 @@
+use Prim.Native.Nat.{ℕ, ◌+◌, ◌-◌, ◌*◌, ◌≤◌}
+use native.Mathlib.Omega.{arith}
+use mathlib.Core.Path.{ap}
+use lib.ListN.{get_or}
+use Rattle.loops.proofs.Loops.{Ran, ran-start, ran-step, ran-end}
+use Rattle.same_keys.specs.Keys.{prime}
+use Rattle.same_drawing.specs.Drawing.{add_weight, row_sum}
+use Rattle.same_drawing.proofs.Weights.{weight-low}
+use Rattle.same_drawing.proofs.row_sum.Given as goal
+
+abbrev pub invariant-loop-k : goal.invariant-loop-k
+invariant-loop-k l = Ran (add_weight l.bonds l.keys l.row) 0 l.m l.k l.sum × (l.sum ≤ 3 * prime * l.k)
+
+abbrev pub decreases-loop-k : goal.decreases-loop-k
+decreases-loop-k l = l.m - l.k
