@@ -1,5 +1,6 @@
 // A number of a molecule that every redrawing keeps, and one of each of its atoms. Every function here is internal.
 #![tactic(auto)]
+
 ghost use Rattle.std.specs.Prelude.{◌≡◌, true, ◌++◌, ◌+◌, ◌<◌, ◌≤◌, length, take, drop, replicate};
 ghost use Rattle.loops.specs.Loop.{each, up_to};
 ghost use Rattle.ids.specs.Small.{small};

@@ -1,0 +1,15 @@
+use Prim.Native.Nat.{ℕ, ◌-◌}
+use native.Mathlib.Omega.{arith}
+use mathlib.Core.Path.{◌∙◌}
+use Rattle.loops.proofs.Loops.{each_at, filled-end}
+use Rattle.table.specs.Valid.{atom_ok}
+use Rattle.drawing_key.specs.Key.{cells_number, hashed}
+use Rattle.drawing_key.specs.Filled.{sum_key}
+use Rattle.drawing_key.proofs.Making.{Replacing, replacing-start, replacing-step}
+use Rattle.drawing_key.proofs.fill_first.Given as goal
+
+abbrev pub invariant-loop-i : goal.invariant-loop-i
+invariant-loop-i l = Replacing (sum_key l.atoms l.sums l.flags l.initial.keys) l.initial.keys l.n l.i l.keys
+
+abbrev pub decreases-loop-i : goal.decreases-loop-i
+decreases-loop-i l = l.n - l.i

@@ -1,0 +1,15 @@
+use Prim.Native.Nat.{ℕ, ◌+◌, ◌-◌, ◌*◌, ◌≤◌, ◌%◌}
+use native.Mathlib.Omega.{arith}
+use native.Mathlib.Nat.{mod-lt}
+use mathlib.Core.Path.{ap, ◌∙◌}
+use Rattle.loops.proofs.Loops.{Ran, ran-start, ran-step, ran-end}
+use Rattle.same_keys.specs.Keys.{prime, mixed, at}
+use Rattle.same_keys.proofs.Mixing.{mixed-low}
+use Rattle.drawing_key.specs.Key.{word, add_key, mixed_again, summed}
+use Rattle.drawing_key.proofs.sum_up.Given as goal
+
+abbrev pub invariant-loop-i : goal.invariant-loop-i
+invariant-loop-i l = Ran (add_key mixed l.keys) 0 l.n l.i l.low × Ran (add_key mixed_again l.keys) 0 l.n l.i l.high × (l.low ≤ prime * l.i) × (l.high ≤ prime * l.i)
+
+abbrev pub decreases-loop-i : goal.decreases-loop-i
+decreases-loop-i l = l.n - l.i
