@@ -1,5 +1,6 @@
 // Writing: the public call, and the bytes of a walk.
 #![tactic(auto)]
+
 ghost use Rattle.std.specs.Prelude.{◌≡◌, true, List, ◌++◌, ℕ, ◌-◌, ◌<◌, ◌≤◌, length, get_or, take, drop, replicate, ℤ};
 ghost use Rattle.loops.specs.Loop.{up_to};
 ghost use Rattle.table.specs.Limits.{max_atoms};

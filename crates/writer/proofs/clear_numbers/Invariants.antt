@@ -1,0 +1,11 @@
+use Prim.Native.Nat.{◌-◌}
+use lib.ListN.{length}
+use native.Mathlib.Omega.{arith}
+use Rattle.loops.proofs.Clearing.{Blanking, blank-start, blank_step, blank-end, cleared}
+use Rattle.writer.proofs.clear_numbers.Given as goal
+
+abbrev pub invariant-loop-i : goal.invariant-loop-i
+invariant-loop-i l = Blanking l.initial.ren l.from (length l.initial.ren) l.i l.ren
+
+abbrev pub decreases-loop-i : goal.decreases-loop-i
+decreases-loop-i l = length l.initial.ren - l.i

@@ -1,0 +1,45 @@
+use Rattle.writer.proofs.Emission.{Onward, onward-start, onward-stop, onward-step, onward-end}
+use Rattle.writer.specs.Emit.{head_bytes}
+use Rattle.buffer.specs.Buffer.{buffer_at}
+use Rattle.writing_bridges.specs.Slots.{slot_count}
+use borrow.Author.Tests.{not-true, not-false}
+use mathlib.Core.Path.{◌≡◌, refl, sym, ◌∙◌}
+use lib.ListN.{length, replicate}
+use Prim.Native.Nat.{◌-◌, ◌≤◌}
+use native.Mathlib.Omega.{arith}
+use Rattle.writer.proofs.emit.emit.Goals as goal
+
+pub loop-x-init : goal.loop-x-init
+loop-x-init c = (onward-start _ _ _ _ _ _ _ _, omega arith, refl, refl)
+
+pub slice_bounds-emit_atom-end : goal.slice_bounds-emit_atom-end
+slice_bounds-emit_atom-end c = sym c.loop-x.invariant.2
+
+pub emit_atom-spot-requires : goal.emit_atom-spot-requires
+emit_atom-spot-requires c = let p = c.requires in
+    let t = c.loop-x-test.true in
+    record { ready = p.by_index _ t; marked = p.marked; slots_len_bound = (omega (arith, c.loop-x.invariant.2), omega (arith, t, p.n_in_bounds)) }
+
+pub shape_of-out-then-not-few : goal.shape_of-out-then-not-few
+shape_of-out-then-not-few c = c.emit_atom-spot.auto.out ∙ c.loop-x.invariant.3
+
+pub returns-then-not-few : goal.returns-then-not-few
+returns-then-not-few c = onward-stop _ _ _ _ _ _ _ _ _ _ _ _ _ _ _ _ _ _ _ _ c.loop-x.invariant.0 c.loop-x-test.true c.emit_atom-spot.ensures (not-true _ c.if-not-few.true-raw)
+
+pub overflow_add-x : goal.overflow_add-x
+overflow_add-x c = omega (arith, c.loop-x-test.true, c.ranges.n)
+
+pub loop-x-smaller : goal.loop-x-smaller
+loop-x-smaller c = omega (arith, c.loop-x-test.true)
+
+pub loop-x-preserved : goal.loop-x-preserved
+loop-x-preserved c = let i = c.loop-x.invariant in
+    let t = c.loop-x-test.true in
+    let e = c.emit_atom-spot in
+    (onward-step _ _ _ _ _ _ _ _ _ _ _ _ _ _ _ _ _ _ _ _ i.0 t e.ensures (not-false _ c.if-not-few.false-raw) e.auto.slots, omega (arith, t), e.auto.slots ∙ i.2, e.auto.out ∙ i.3)
+
+pub shape_of-out : goal.shape_of-out
+shape_of-out c = c.loop-x.invariant.3
+
+pub returns : goal.returns
+returns c = onward-end _ _ _ _ _ _ _ _ _ _ _ c.loop-x.invariant.0 c.loop-x-test.false

@@ -1,0 +1,16 @@
+use Rattle.writer.proofs.Emission.{Onward, onward-start, onward-stop, onward-step, onward-end}
+use Rattle.writer.specs.Emit.{head_bytes}
+use Rattle.buffer.specs.Buffer.{buffer_at}
+use Rattle.writing_bridges.specs.Slots.{slot_count}
+use borrow.Author.Tests.{not-true, not-false}
+use mathlib.Core.Path.{◌≡◌, refl, sym, ◌∙◌}
+use lib.ListN.{length, replicate}
+use Prim.Native.Nat.{◌-◌, ◌≤◌}
+use native.Mathlib.Omega.{arith}
+use Rattle.writer.proofs.emit.emit.Given as goal
+
+abbrev pub invariant-loop-x : goal.invariant-loop-x
+invariant-loop-x l = Onward (head_bytes l.atoms l.order l.up l.kind l.last l.sums l.written) l.los l.his l.kinds l.n l.k (replicate slot_count 0) (buffer_at l.initial.out 0) l.x l.slots (buffer_at l.out l.at) × (l.x ≤ l.n) × (length l.slots ≡ slot_count) × (length l.out ≡ length l.initial.out)
+
+abbrev pub decreases-loop-x : goal.decreases-loop-x
+decreases-loop-x l = l.n - l.x
