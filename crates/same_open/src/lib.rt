@@ -1,5 +1,6 @@
 // Whether any renumbering carries one matrix onto another where the orders of some bonds are open: a search under a budget. Every function here is internal.
 #![tactic(auto)]
+
 ghost use Rattle.std.specs.Prelude.{◌≡◌, true, false, List, ℕ, ◌<◌, ◌≤◌, get_or, length, set};
 ghost use Rattle.same_model.specs.Same.{max_same, image};
 ghost use Rattle.same_place.specs.Place.{entry};

@@ -1,0 +1,12 @@
+use Prim.Native.Nat.{◌-◌}
+use mathlib.Core.Logic.{⊎_elim}
+use native.Mathlib.Omega.{arith}
+use Rattle.same_open.proofs.Laws.{class-told}
+use Rattle.same_open.proofs.Seeking.{Narrowed, narrow_start, narrow_step, narrow-end, keeps-own, keeps-facing}
+use Rattle.same_open.proofs.narrow.Given as goal
+
+abbrev pub invariant-loop-b : goal.invariant-loop-b
+invariant-loop-b l = Narrowed l.p l.allowed l.cand l.n l.v l.d l.next l.live l.b
+
+abbrev pub decreases-loop-b : goal.decreases-loop-b
+decreases-loop-b l = l.n - l.b
