@@ -1,5 +1,6 @@
 // Whether an untrusted guess shows two molecules to be redrawings of one another. Every function here is internal.
 #![tactic(auto)]
+
 ghost use Rattle.std.specs.Prelude.{◌≡◌, true, ◌++◌, ◌+◌, ◌<◌, ◌≤◌, length, drop, replicate};
 ghost use Rattle.ids.specs.Small.{small};
 ghost use Rattle.loops.specs.Loop.{each, up_to};

@@ -1,0 +1,14 @@
+use Prim.Native.Nat.{◌-◌}
+use native.Mathlib.Omega.{arith}
+use mathlib.Core.Path.{sym, refl}
+use mathlib.Core.Bool.{false}
+use lib.ListN.{length}
+use Rattle.matching.proofs.Graph.{never}
+use Rattle.redrawing_check.proofs.Checking.{Permuting, permuting-start, permuting-step, permuting-end}
+use Rattle.redrawing_check.proofs.permutes_in.Given as goal
+
+abbrev pub invariant-loop-a : goal.invariant-loop-a
+invariant-loop-a l = Permuting l.list l.n (length l.initial.seen) l.a l.seen
+
+abbrev pub decreases-loop-a : goal.decreases-loop-a
+decreases-loop-a l = l.n - l.a
