@@ -1,5 +1,6 @@
 // A molecule as a matrix of orders while only the first bonds of its row are decided. Every function here is internal.
 #![tactic(auto)]
+
 ghost use Rattle.std.specs.Prelude.{◌≡◌, ◌++◌, ◌+◌, ◌*◌, ◌<◌, ◌≤◌, length, drop, replicate};
 ghost use Rattle.loops.specs.Loop.{up_to};
 ghost use Rattle.table.specs.Cells.{kind};
