@@ -1,5 +1,6 @@
 // Reading a text into an atom table and a bond table.
 #![tactic(auto)]
+
 ghost use Rattle.std.specs.Prelude.{◌≡◌, true, List, ◌≤◌, length, replicate, ℤ};
 ghost use Rattle.table.specs.Limits.{max_atoms, max_bonds};
 ghost use Rattle.table.specs.Valid.{enough};

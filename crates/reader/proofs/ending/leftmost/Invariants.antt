@@ -1,0 +1,14 @@
+use Prim.Native.Nat.{◌-◌}
+use native.Mathlib.Omega.{arith}
+use lib.ListN.{get_or}
+use Rattle.loops.proofs.Loops.{Ran, ran-start, ran-step, ran-end}
+use Rattle.ids.specs.Limits.{bridges, max_text}
+use Rattle.reading.specs.Read.{earlier, leftmost}
+use Rattle.reader.proofs.Ends.{closed-leftmost}
+use Rattle.reader.proofs.ending.leftmost.Given as goal
+
+abbrev pub invariant-loop-i : goal.invariant-loop-i
+invariant-loop-i l = Ran (λ r q. earlier q (get_or l.openers r 0) (get_or l.offsets r 0)) max_text bridges l.i l.p
+
+abbrev pub decreases-loop-i : goal.decreases-loop-i
+decreases-loop-i l = bridges - l.i
