@@ -1,5 +1,6 @@
 // A guess of how the atoms and bonds of a molecule go to those of another. It is not trusted: nothing is claimed of it, and `redrawing_check` tells whether it shows a redrawing. Every function here is internal.
 #![tactic(auto)]
+
 ghost use Rattle.std.specs.Prelude.{◌≡◌, true, ◌+◌, ◌*◌, ◌<◌, ◌≤◌};
 ghost use Rattle.table.specs.Limits.{max_atoms, max_bonds};
 ghost use Rattle.table.specs.Valid.{Valid};

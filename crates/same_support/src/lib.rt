@@ -1,5 +1,6 @@
 // What atoms with few candidates leave to their neighbours, in a search for a renumbering between matrices with open bonds. Every function here is internal.
 #![tactic(auto)]
+
 ghost use Rattle.std.specs.Prelude.{◌≡◌, false, List, ℕ, ◌<◌, ◌≤◌};
 ghost use Rattle.same_model.specs.Same.{max_same, image};
 ghost use Rattle.same_open.specs.Open.{classes, bit, Among};
