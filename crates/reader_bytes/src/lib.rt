@@ -1,5 +1,6 @@
 // One byte of a text: what it does to a reading whose arrays are lent.
 #![tactic(auto)]
+
 ghost use Rattle.std.specs.Prelude.{◌≡◌, ◌&&◌, not, List, [], ℕ, ◌-◌, ◌≤◌, ◌<◌, ℤ, eqb};
 ghost use Rattle.ids.specs.Limits.{max_text, max_depth, bridges};
 ghost use Rattle.table.specs.Limits.{max_atoms};
