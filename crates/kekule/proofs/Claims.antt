@@ -1,16 +1,16 @@
 -- What the calls on a sound molecule mean, from the list theorem and the claims on matchings. Assumes nothing.
-use Prim.Native.Nat.{ℕ, suc}
+use Prim.Native.Nat.{ℕ}
 use native.Mathlib.Omega.{arith}
 use mathlib.Core.Path.{◌≡◌, refl, sym, ap, ◌∙◌}
 use mathlib.Core.Bool.{Bool, true, false}
 use mathlib.Core.List.{List, [], ◌∷◌, ◌++◌, map}
 use mathlib.Core.Logic.{◌↔◌}
-use lib.ListN.{length, take, replicate}
+use lib.ListN.{length, replicate}
 use lib.IntN.{ℤ}
 use Rattle.loops.specs.Loop.{pick}
 use Rattle.loops.proofs.Loops.{length-up_to}
 use Rattle.table.specs.Sound.{sound}
-use Rattle.matching.specs.Enumeration.{Row, matchings, cursor_at, fill, given, zeroed, or_zeroed, row_call}
+use Rattle.matching.specs.Enumeration.{Row, matchings, fill, given, zeroed, or_zeroed, row_call}
 use Rattle.matching.specs.Graph.{enumeration, after_zero, Pairs}
 use Rattle.matching.specs.Model.{some?}
 use Rattle.matching.specs.declared.MatchingAnswer.{MatchingAnswer}

@@ -1,5 +1,5 @@
 -- Marks and kekulizing: a matching's bonds have no mark, so 20 over the new double bonds is asked of their ends; and no mark becomes stray. Assumes nothing.
-use Prim.Native.Nat.{ℕ, ◌+◌, ◌≤◌, ◌<◌}
+use Prim.Native.Nat.{ℕ, ◌≤◌, ◌<◌}
 use native.Mathlib.Omega.{arith}
 use mathlib.Core.Path.{◌≡◌, refl, sym, ap, subst, ◌∙◌}
 use mathlib.Core.Bool.{Bool, true, false, ◌&&◌, ◌||◌, not, true≢false}
@@ -8,9 +8,9 @@ use lib.ListN.{length, take, get_or}
 use lib.Seq.{get_or-take}
 use lib.IntN.{ℤ, pos}
 use lib.Dec.{eqb}
-use borrow.Author.Tests.{eqb-true, eqb-false, eq-eqb, ne_eqb, not-true}
+use borrow.Author.Tests.{eqb-true, eq-eqb, not-true}
 use Rattle.kinds.specs.Kind.{elided, double, up, down, is_mark, mark_of, turned}
-use Rattle.loops.specs.Loop.{pick, each, how_many}
+use Rattle.loops.specs.Loop.{pick, how_many}
 use Rattle.loops.proofs.Loops.{and_left, and_right, each_at, each_all, each_same, length-up_to, up_to-at}
 use Rattle.loops.proofs.Counting.{many-same, many-mono}
 use Rattle.table.specs.Limits.{FIRST, SECOND, KIND}

@@ -11,7 +11,7 @@ use Rattle.kinds.specs.Kind.{elided, double, max_kind}
 use Rattle.loops.specs.Loop.{pick, up_to}
 use Rattle.loops.proofs.Loops.{and_right, each_all, each_same, length-up_to}
 use Rattle.table.specs.Limits.{max_bonds, atom_cells, ELEMENT, SELECTED, ISOTOPE, HYDROGENS, CHARGE, EXTENSION, MARK, FIRST, SECOND, KIND}
-use Rattle.table.specs.Cells.{number, in_range, bond_place, atom_cell, bond_cell, element, selected, hydrogens, mark, touches}
+use Rattle.table.specs.Cells.{number, in_range, bond_place, atom_cell, bond_cell, touches}
 use Rattle.table.specs.Valid.{selected_ok, same_ends, fresh, distinct, atom_ok, bond_ok, Valid, enough}
 use Rattle.table.specs.Sound.{bond_degree, unfit, none_unfit, late_code, sound}
 use Rattle.table.specs.Marks.{none_crowded}

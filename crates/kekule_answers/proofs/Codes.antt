@@ -1,8 +1,6 @@
 -- An answer's code tells the answer. Assumes nothing.
 use native.Mathlib.Omega.{arith}
 use mathlib.Core.Path.{◌≡◌, refl, ap}
-use Rattle.refusal.specs.declared.Refusal.{Refusal}
-use Rattle.refusal.specs.Code.{code_of}
 use Rattle.refusal.proofs.Codes.{one_code, code-range}
 use Rattle.kekule_answers.specs.declared.Found.{Found}
 use Rattle.kekule_answers.specs.declared.Found.TheVariants.{Given, End, Refused}

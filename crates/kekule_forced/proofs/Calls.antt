@@ -1,7 +1,7 @@
 -- What the second engine says of the buffers that `build` filled, in the terms of the molecule, and the ways of its calls. Assumes nothing.
 use Prim.Native.Nat.{ℕ, ◌-◌, ◌≤◌}
 use native.Mathlib.Omega.{arith}
-use mathlib.Core.Path.{◌≡◌, refl, sym, ap, ◌∙◌}
+use mathlib.Core.Path.{◌≡◌, refl, ap, ◌∙◌}
 use mathlib.Core.Bool.{Bool, true, false, ◌&&◌}
 use mathlib.Core.List.{List, ◌++◌}
 use lib.ListN.{length, take, replicate}
@@ -13,11 +13,10 @@ use Rattle.table.specs.Limits.{max_bonds}
 use Rattle.table.specs.Valid.{Valid}
 use Rattle.table.specs.Sound.{sound}
 use Rattle.matching.specs.Enumeration.{Reply, row_first, row_call}
-use Rattle.matching.specs.Graph.{is_matching}
 use Rattle.matching.specs.Model.{bonds_of, reply}
 use Rattle.matching.specs.declared.MatchingAnswer.{MatchingAnswer}
 use Rattle.matching.specs.declared.Call.TheVariants.{First}
-use Rattle.table_graph.specs.Graph.{delocalized_flags, bond_of, graph_of, matching_of}
+use Rattle.table_graph.specs.Graph.{bond_of, graph_of, matching_of}
 use Rattle.table_graph.specs.Built.{Built}
 use Rattle.table_graph.proofs.Graph.{built-bonds, length-first, length-flags}
 use Rattle.matching_forced.specs.Forced.{forced_list}

@@ -1,7 +1,7 @@
 -- What the calls of the second engine mean: they answer as the plain engine's, and what holds of the forced list. Assumes nothing.
 use Prim.Native.Nat.{ℕ, ◌+◌, ◌≤◌, ◌<◌}
 use native.Mathlib.Omega.{arith}
-use mathlib.Core.Path.{◌≡◌, refl, sym, ap, subst, ◌∙◌}
+use mathlib.Core.Path.{◌≡◌, refl, sym, ap, ◌∙◌}
 use mathlib.Core.Bool.{Bool, true, false, ◌&&◌}
 use mathlib.Core.List.{List, [], ◌∷◌}
 use lib.ListN.{length, get_or, replicate}
@@ -10,7 +10,6 @@ use lib.Dec.{leb}
 use Rattle.loops.specs.Loop.{pick}
 use Rattle.loops.proofs.Loops.{length-up_to, up_to-at}
 use Rattle.table.specs.Limits.{max_bonds}
-use Rattle.table.specs.Cells.{end1, end2}
 use Rattle.table.specs.Valid.{Valid}
 use Rattle.table.specs.Sound.{sound}
 use Rattle.table.proofs.Valid.{bond-row}
@@ -25,7 +24,7 @@ use Rattle.matching_forced.proofs.Turns.{Proper, listed-one, list-half, list-abs
 use Rattle.kekule.specs.Kekule.{CallReply, call_reply, call_reply_of, roomy, call_on}
 use Rattle.kekule.specs.Calls.{replies_of, turns}
 use Rattle.kekule.proofs.Calls.{calls-enumerated}
-use Rattle.kekule_forced.specs.Forced.{forced_of, ForcedCallReply, forced_call_reply, with_list, roomy_list, first_forced_on, forced_on}
+use Rattle.kekule_forced.specs.Forced.{forced_of, ForcedCallReply, forced_call_reply, with_list, first_forced_on, forced_on}
 
 -- P9: "Its answers and rows are equal to the plain engine's for every sound molecule and row handed in, where nothing lent is too short":
 -- both are `call_on`, the definition (01: the book), for any tables, any row and either call, where the list is long enough

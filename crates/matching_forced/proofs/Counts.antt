@@ -7,7 +7,7 @@ use native.Mathlib.Numerals.{add-one}
 use native.Mathlib.Decide.{ℕ_discrete}
 use Rattle.loops.specs.Loop.{pick}
 use Rattle.matching.specs.Graph.{count_if}
-use Rattle.matching.proofs.Graph.{never, not-true}
+use Rattle.matching.proofs.Graph.{never}
 use Rattle.matching_forced.specs.Forced.{count, lowest}
 
 -- none counted: none passes

@@ -6,7 +6,7 @@ use Prim.Native.Nat.{ℕ, ◌<◌, ◌≤◌}
 use lib.ListN.{length}
 use Rattle.matching.specs.Graph.{Bond, nth_bond}
 use Rattle.matching.specs.Model.{free, free_at, bonds_of, BondTables}
-use Rattle.matching_forced.specs.Forced.{free_of, free_bond, lowest}
+use Rattle.matching_forced.specs.Forced.{free_of, free_bond}
 use Rattle.matching_forced.specs.Steps.{lowest_free}
 use Rattle.matching_forced.proofs.Counts.{Sought, sought-here, sought-end}
 use Rattle.matching_forced.proofs.Tables.{nth-bonds, bonds_long}

@@ -1,33 +1,32 @@
 -- Laws of the search for the next matching, with forcing at every turn. Assumes nothing.
 use mathlib.Core.Path.{◌≡◌, refl, sym, ap, subst, ◌∙◌}
 use mathlib.Core.Bool.{Bool, true, false, ◌&&◌}
-use mathlib.Core.List.{List, [], ◌∷◌, ◌++◌, map}
-use Prim.Native.Nat.{ℕ, zero, suc, ◌+◌, ◌-◌, ◌<◌, ◌≤◌}
+use mathlib.Core.List.{List, [], ◌∷◌, ◌++◌}
+use Prim.Native.Nat.{ℕ, zero, suc, ◌-◌, ◌<◌, ◌≤◌}
 use native.Mathlib.Omega.{arith}
-use lib.Dec.{eqb, ltb}
-use lib.ListN.{length, take, drop, get_or, set, replicate, length-set, length-replicate, take-append-drop}
-use lib.Seq.{ext_get_or, get_or-set_same, set-set, set-get_or, set-append_left, take-set-lt, drop-set-lt, drop_at, get_or-take}
-use borrow.Author.Tests.{eqb-true, eq-eqb, ne_eqb, lt-ltb, le-ltb}
-use Rattle.loops.specs.Loop.{pick}
+use lib.Dec.{eqb}
+use lib.ListN.{length, take, drop, get_or, set, replicate, length-replicate, take-append-drop}
+use lib.Seq.{ext_get_or, get_or-set_same, set-set, set-get_or, take-set-lt, drop-set-lt, drop_at, get_or-take}
+use borrow.Author.Tests.{eqb-true, eq-eqb, ne_eqb}
 use Rattle.loops.proofs.Loops.{and_left, and_right, repeated-at}
-use Rattle.matching.specs.Enumeration.{Row, is_row, matchings, before, cons_if}
+use Rattle.matching.specs.Enumeration.{Row, is_row, matchings, before}
 use Rattle.matching.specs.Graph.{Bond, is_matching, nth_bond, set_of}
-use Rattle.matching.specs.Model.{Shape, BondTables, Searched, free, mark_at, bonds_of, some?, head_or, written}
-use Rattle.matching.proofs.Enumeration.{row-length, first-matching, before_self}
+use Rattle.matching.specs.Model.{Shape, Searched, free, mark_at, bonds_of, some?, written}
+use Rattle.matching.proofs.Enumeration.{row-length, before_self}
 use Rattle.matching.proofs.Graph.{and_intro, not-true, never}
 use Rattle.matching.proofs.Claims.{row-is-set}
 use Rattle.matching_forced.specs.Forced.{forces, forced_bond, forced_from, pair_at}
-use Rattle.matching_forced.specs.Steps.{ones, zeros, off, lowest_free, pair_all, all_of, taken_of, left_of, later_of, later_with, is_of, Chosen, Filled, Roomy}
+use Rattle.matching_forced.specs.Steps.{ones, zeros, off, lowest_free, pair_all, left_of, later_of, later_with, is_of, Chosen, Filled, Roomy}
 use Rattle.matching_forced.proofs.Counts.{lowest-least}
 use Rattle.matching_forced.proofs.Forced.{forced-below, forced-free, forced-in}
 use Rattle.matching_forced.proofs.Turns.{turn, left, by-turns, forced-pair, forced-none}
-use Rattle.matching_forced.proofs.Rows.{At, matchings-at, matchings-same, matchings-never, and-true, and-false, cell-zero, set-row, row-long, paired_same}
+use Rattle.matching_forced.proofs.Rows.{matchings-at, matchings-same, matchings-never, and-true, and-false, cell-zero, set-row, row-long, paired_same}
 use Rattle.matching_forced.proofs.After.{at_after, later-left}
 use Rattle.matching_search.proofs.Flags.{never as never'}
 use Rattle.matching_forced.proofs.Tables.{bonds_long}
 use Rattle.matching_forced.proofs.Listed.{Below, take-zeros, drop-zeros}
 use Rattle.matching_forced.proofs.Searching.{tables-of, searched-step, chosen-in, chosen-free, mid-is, taken_back, set-behind, off-is, in-bonds, list_of, listed_below, ones-behind}
-use Rattle.matching_forced.proofs.Choosing.{split_at, off-long, off-same, lowest-free, zero-before, with-one, no-choice}
+use Rattle.matching_forced.proofs.Choosing.{split_at, off-long, off-same, zero-before, with-one}
 
 -- rows that are 0 before b: the first difference is at b
 before-one : (r s : Row) (b : ℕ) → b < length r → b < length s → ((j : ℕ) → j < b → get_or r j 0 ≡ 0) → ((j : ℕ) → j < b → get_or s j 0 ≡ 0) → get_or r b 0 ≡ 1 → get_or s b 0 ≡ 0 → before r s ≡ true

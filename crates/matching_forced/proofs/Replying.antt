@@ -1,20 +1,19 @@
 -- The whole reply of the two calls: the row, and the forced list with its number. Assumes nothing.
 use mathlib.Core.Path.{◌≡◌, refl, sym, ap, subst, ◌∙◌}
-use mathlib.Core.Bool.{Bool, true, false, ◌&&◌}
+use mathlib.Core.Bool.{Bool, true, false}
 use mathlib.Core.List.{List, [], ◌∷◌, ◌++◌, map}
-use Prim.Native.Nat.{ℕ, ◌-◌, ◌≤◌}
+use Prim.Native.Nat.{ℕ, ◌-◌}
 use native.Mathlib.Omega.{arith}
-use lib.ListN.{length, take, drop, replicate}
+use lib.ListN.{length, take, replicate}
 use Rattle.loops.proofs.Loops.{and_left}
-use Rattle.matching.specs.Enumeration.{Row, Reply, matchings, is_row, or_zeroed, given, zeroed, fill, row_first, row_next}
-use Rattle.matching.specs.declared.MatchingAnswer.{MatchingAnswer}
+use Rattle.matching.specs.Enumeration.{Row, Reply, is_row, or_zeroed, given, zeroed, fill, row_first, row_next}
 use Rattle.matching.specs.declared.MatchingAnswer.TheVariants.{Given, Absent, Ended}
 use Rattle.matching.specs.Graph.{Bond, is_matching}
-use Rattle.matching.specs.Model.{reply, Shape, BondTables, Searched, all_from, later_from, matching_from, part, bonds_of}
+use Rattle.matching.specs.Model.{reply, Shape, Searched, later_from, matching_from, part, bonds_of}
 use Rattle.matching.proofs.Enumeration.{first-matching, row-length}
 use Rattle.matching.proofs.Graph.{matching-pairs}
 use Rattle.matching_search.proofs.Reply.{told-as, first-reply, next-reply, matching-all}
-use Rattle.matching_forced.specs.Forced.{forced_from, forced_list}
+use Rattle.matching_forced.specs.Forced.{forced_from}
 use Rattle.matching_forced.specs.Steps.{ones, Filled, Roomy, FirstReply, all_of, later_of, is_of}
 use Rattle.matching_forced.proofs.Turns.{left, list-absent, list-given}
 use Rattle.matching_forced.proofs.Rows.{matchings-left}

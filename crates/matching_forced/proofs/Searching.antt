@@ -2,14 +2,10 @@
 use mathlib.Core.Path.{◌≡◌, refl, sym, ap, subst, ◌∙◌}
 use mathlib.Core.Bool.{Bool, true, false, ◌&&◌}
 use mathlib.Core.List.{List, [], ◌∷◌, ◌++◌, map}
-use mathlib.Core.Logic.{⊎_elim}
-use denote.Enum.Declared.{tag_of}
-use types.Run.{OneOf}
-use Rattle.matching_engine.specs.contracts.Sought.{the_type}
-use Prim.Native.Nat.{ℕ, zero, suc, ◌+◌, ◌-◌, ◌<◌, ◌≤◌}
+use Prim.Native.Nat.{ℕ, zero, suc, ◌-◌, ◌<◌, ◌≤◌}
 use native.Mathlib.Omega.{arith}
 use lib.Dec.{eqb}
-use lib.ListN.{get_or-append, length, take, drop, get_or, set, replicate, length-set, length-drop, length-replicate, length-append}
+use lib.ListN.{length, take, drop, get_or, set, replicate, length-set, length-drop, length-replicate, length-append}
 use lib.Seq.{set-append_left, drop-set-lt, set-set, set-get_or, take_at, drop_at, length-take-le, get_or-take}
 use borrow.Author.Tests.{eqb-true}
 use borrow.Rule.Slice.PartMut.{put_mid, take_put, same_len_mid}
@@ -17,24 +13,23 @@ use Rattle.loops.proofs.Loops.{and_left}
 use Rattle.matching.specs.Enumeration.{Row, is_row, matchings, cons_if}
 use Rattle.matching.specs.Graph.{Bond, is_matching, none_flagged, nth_bond, flagged}
 use Rattle.matching.specs.Limits.{max_bonds}
-use Rattle.matching.specs.Model.{Shape, BondTables, Ends, Searched, all_from, free, free_at, mark_at, bonds_of, some?, head_or, written}
+use Rattle.matching.specs.Model.{Shape, BondTables, Ends, Searched, all_from, free, free_at, mark_at, bonds_of, some?, written}
 use Rattle.matching.proofs.Enumeration.{first-matching, row-length}
 use Rattle.matching.proofs.Claims.{empty-iff}
 use Rattle.matching_search.proofs.Flags.{never, restore}
 use Rattle.matching.proofs.Graph.{matching-pairs}
 use Rattle.matching_engine.specs.Tried.{Tried}
 use Rattle.matching_engine.specs.declared.Sought.{Sought}
-use Rattle.matching_engine.specs.declared.Sought.TheVariants.{Found, Absent, GaveUp}
+use Rattle.matching_engine.specs.declared.Sought.TheVariants.{Found, Absent}
 use Rattle.matching_engine.proofs.Tried.{then-blank, then-certified}
-use Rattle.matching_forced.specs.Forced.{stuck, forces, forced_bond, forced_from, pair_at}
+use Rattle.matching_forced.specs.Forced.{forces, forced_bond, forced_from, pair_at}
 use Rattle.matching_forced.specs.Steps.{backward, undone, ones, Ones, off, lowest_free, free_total, pair_all, all_of, taken_of, left_of, Chosen, Roomy, Filled}
-use Rattle.matching_forced.proofs.Counts.{lowest-range}
 use Rattle.matching_forced.proofs.Forced.{fewer-free, stuck-none, forced-below, forced-free}
 use Rattle.matching_forced.proofs.Turns.{left, turn, room, at-most-bonds, by-turns, forced-pair, forced-none}
 use Rattle.matching_forced.proofs.Rows.{matchings-left}
 use Rattle.matching_forced.proofs.Choosing.{fewer-off, off-long, lowest-free, choice, no-choice}
-use Rattle.matching_forced.proofs.Tables.{nth-bonds, many-bonds, bonds_long, marks_at, ends_at, ends-long}
-use Rattle.matching_forced.proofs.Listed.{Below, ones-left, drop-ones, length-ones}
+use Rattle.matching_forced.proofs.Tables.{nth-bonds, bonds_long, marks_at, ends_at}
+use Rattle.matching_forced.proofs.Listed.{Below, ones-left, drop-ones}
 
 pub tables-of : {ea eb el need row : List ℕ} → Shape ea eb el need row 0 → BondTables ea eb el need 0
 tables-of s = record { second = s.second; third = s.third; upto = s.upto; ends1 = s.ends1; ends2 = s.ends2 }

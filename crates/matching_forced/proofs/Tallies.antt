@@ -1,23 +1,22 @@
 -- Counting the free bonds of all atoms in one pass over the bonds, and what a turn makes of the counts. Assumes nothing.
 use mathlib.Core.Path.{◌≡◌, refl, sym, ap, ◌∙◌}
-use mathlib.Core.Bool.{Bool, true, false, ◌&&◌, ◌||◌, not}
+use mathlib.Core.Bool.{Bool, true, false, ◌&&◌, ◌||◌}
 use mathlib.Core.List.{List}
 use Prim.Native.Nat.{ℕ, ◌+◌, ◌<◌, ◌≤◌}
 use native.Mathlib.Omega.{arith}
 use native.Mathlib.Numerals.{add-one}
 use native.Mathlib.Decide.{ℕ_discrete}
-use lib.Dec.{eqb, ltb}
-use lib.ListN.{length, get_or, set, length-set}
+use lib.Dec.{eqb}
+use lib.ListN.{length, get_or, length-set}
 use lib.Seq.{get_or-set_same, get_or-set_other}
 use borrow.Author.Tests.{eq-eqb, ne_eqb, eqb-true, lt-ltb, le-ltb}
 use Rattle.loops.specs.Loop.{pick}
 use Rattle.matching.specs.Graph.{Bond, flagged, count_if, touches}
-use Rattle.matching.specs.Limits.{max_bonds}
 use Rattle.matching.specs.Model.{bonds_of, table_bond, free_at, BondTables, Ends}
 use Rattle.matching_forced.specs.Forced.{free_of, free_count, free_bond, lowest, unpaired_with, lowest_with, stuck, forces, forced_bond}
 use Rattle.matching_forced.specs.Steps.{bumped, raised, with_count, Counts}
 use Rattle.matching_forced.proofs.Counts.{Counted, counted_start, counted_step, counted-end, lowest-same}
-use Rattle.matching_forced.proofs.Tables.{bonds_long, free-at, many-bonds}
+use Rattle.matching_forced.proofs.Tables.{bonds_long, free-at}
 
 -- one more at an atom, and at two
 bumped-at : (counts : List ℕ) (a v : ℕ) → a < length counts → get_or (bumped counts a) v 0 ≡ count_if (eqb a v) (get_or counts v 0)

@@ -1,5 +1,5 @@
 -- auxiliary: what the contracts of the engine's functions ask and promise
-use Rattle.std.specs.Prelude.{Bool, true, false, ◌&&◌, ◌≡◌, List, [], ◌∷◌, ◌++◌, map, ℕ, zero, suc, ◌+◌, ◌-◌, ◌<◌, ◌≤◌, eqb, length, take, drop, set, get_or, replicate}
+use Rattle.std.specs.Prelude.{Bool, true, false, ◌&&◌, ◌≡◌, List, [], ◌∷◌, ◌++◌, map, ℕ, ◌+◌, ◌-◌, ◌<◌, ◌≤◌, eqb, length, drop, set, get_or, replicate}
 use Rattle.loops.specs.Loop.{pick}
 use Rattle.matching.specs.Enumeration.{Row, matchings, is_row, before, row_first}
 use Rattle.matching.specs.declared.MatchingAnswer.{MatchingAnswer}

@@ -1,12 +1,11 @@
 -- Clearing a row, and the whole reply of the two calls. Assumes nothing.
 use mathlib.Core.Path.{◌≡◌, refl, sym, ap, subst, ◌∙◌}
 use mathlib.Core.Bool.{Bool, true, false, ◌&&◌}
-use mathlib.Core.List.{List, [], ◌∷◌, ◌++◌, append_assoc, append-nil}
-use Prim.Native.Nat.{ℕ, suc, ◌+◌, ◌-◌, ◌≤◌, ◌<◌}
+use mathlib.Core.List.{List, [], ◌∷◌, ◌++◌}
+use Prim.Native.Nat.{ℕ, ◌+◌, ◌-◌, ◌≤◌}
 use native.Mathlib.Omega.{arith}
-use native.Mathlib.Numerals.{add-one}
-use lib.ListN.{length, take, drop, get_or, set, replicate, drop_of_length-le, take-append-drop, length-set, length-append, length-replicate, replicate-append-replicate}
-use lib.Seq.{drop-cons, take_at, set_at, length-take-le}
+use lib.ListN.{length, take, drop, replicate, length-replicate, replicate-append-replicate}
+use lib.Seq.{take_at}
 use Rattle.loops.specs.Loop.{pick}
 use Rattle.loops.proofs.Loops.{and_left}
 use Rattle.matching.specs.Graph.{is_matching}

@@ -1,10 +1,7 @@
 use Prim.Native.Nat.{◌-◌}
-use native.Mathlib.Omega.{arith}
 use lib.ListN.{length}
-use Rattle.loops.proofs.Loops.{ran-end}
 use Rattle.kekule.specs.Kekule.{call_on}
-use Rattle.kekule.specs.Calls.{ran_of}
-use Rattle.kekule.proofs.Calls.{Calling, calling-start, calling-step}
+use Rattle.kekule.proofs.Calls.{Calling}
 use Rattle.kekule.proofs.run_calls.Given as goal
 
 abbrev pub invariant-loop-i : goal.invariant-loop-i

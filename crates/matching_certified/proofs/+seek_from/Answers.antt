@@ -1,13 +1,9 @@
 use mathlib.Core.Path.{◌∙◌, refl}
-use mathlib.Core.Logic.{⊎_elim}
-use Prim.Native.Nat.{◌-◌}
 use native.Mathlib.Omega.{arith}
-use lib.ListN.{length, length-set}
-use borrow.Author.Rules.{rules}
+use lib.ListN.{length-set}
 use Rattle.matching_certified.proofs.Reason.{tables, given-up}
-use Rattle.matching_certified.proofs.Along.{Along, inside, along-start, along-step, along-end}
+use Rattle.matching_certified.proofs.Along.{inside, along-start, along-step, along-end}
 use Rattle.matching_search.proofs.Choice.{here3, in_row, ends-here, shape-next, found-one, then-zero, not_free}
-use Prim.Native.Nat.{ℕ, ◌<◌}
 use Rattle.matching_certified.proofs.+seek_from.Goals.{then-choosable+else-hopeless+else-found, else-choosable}
 use Rattle.matching_certified.proofs.+seek_from.Goals as goal
 
@@ -58,8 +54,9 @@ returns-then-found t c = c.loop-at.invariant.rest (found-one c.loop-at.invariant
 
 pub bounds-row-at-in-loop-at : goal.bounds-row-at-in-loop-at
 bounds-row-at-in-loop-at t c = elim c.if-choosable.branch [
-      then-choosable+else-hopeless+else-found w ↦ rw (w.row-is, w.seek_from-found.auto.row, length-set c.loop-at.row c.loop-at.at 1) (in_row c.loop-at.invariant.shape (inside c.loop-at-test.true))
-    | else-choosable w ↦ rw w.row-is (in_row c.loop-at.invariant.shape (inside c.loop-at-test.true)) ]
+  | then-choosable+else-hopeless+else-found w ↦ rw (w.row-is, w.seek_from-found.auto.row, length-set c.loop-at.row c.loop-at.at 1) (in_row c.loop-at.invariant.shape (inside c.loop-at-test.true))
+  | else-choosable w ↦ rw w.row-is (in_row c.loop-at.invariant.shape (inside c.loop-at-test.true))
+]
 
 pub overflow_add-at-in-loop-at : goal.overflow_add-at-in-loop-at
 overflow_add-at-in-loop-at t c = omega (arith, c.well_formed.0.0, c.loop-at-test.true)
@@ -69,9 +66,10 @@ loop-at-smaller t c = omega (arith, c.loop-at-test.true)
 
 pub loop-at-preserved : goal.loop-at-preserved
 loop-at-preserved t c = elim c.if-choosable.branch [
-      then-choosable+else-hopeless+else-found w ↦ rw (w.need-is, w.row-is) (along-step c.loop-at.invariant c.loop-at-test.true w.seek_from-found.new.row (w.mark-then-choosable.auto.need ∙ w.seek_from-found.auto.need ∙ w.mark.auto.need) (w.seek_from-found.auto.row ∙ length-set c.loop-at.row c.loop-at.at 1)
-        (λ q n r d. then-zero c.loop-at.invariant.shape (inside c.loop-at-test.true) c.choosable.ensures w.if-choosable.true w.mark.ensures w.seek_from-found.ensures w.mark-then-choosable.ensures w.if-found.false (w.seek_from-found.auto.row ∙ length-set c.loop-at.row c.loop-at.at 1) d))
-    | else-choosable w ↦ rw (w.need-is, w.row-is) (along-step c.loop-at.invariant c.loop-at-test.true c.loop-at.row refl refl (λ q n r d. not_free c.loop-at.invariant.shape (inside c.loop-at-test.true) c.choosable.ensures w.if-choosable.false d)) ]
+  | then-choosable+else-hopeless+else-found w ↦ rw (w.need-is, w.row-is) (along-step c.loop-at.invariant c.loop-at-test.true w.seek_from-found.new.row (w.mark-then-choosable.auto.need ∙ w.seek_from-found.auto.need ∙ w.mark.auto.need) (w.seek_from-found.auto.row ∙ length-set c.loop-at.row c.loop-at.at 1)
+      (λ q n r d. then-zero c.loop-at.invariant.shape (inside c.loop-at-test.true) c.choosable.ensures w.if-choosable.true w.mark.ensures w.seek_from-found.ensures w.mark-then-choosable.ensures w.if-found.false (w.seek_from-found.auto.row ∙ length-set c.loop-at.row c.loop-at.at 1) d))
+  | else-choosable w ↦ rw (w.need-is, w.row-is) (along-step c.loop-at.invariant c.loop-at-test.true c.loop-at.row refl refl (λ q n r d. not_free c.loop-at.invariant.shape (inside c.loop-at-test.true) c.choosable.ensures w.if-choosable.false d))
+]
 
 pub shape_of-need : goal.shape_of-need
 shape_of-need t c = c.loop-at.invariant.flags

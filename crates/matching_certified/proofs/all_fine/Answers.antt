@@ -1,9 +1,7 @@
 use mathlib.Core.Path.{refl}
-use Prim.Native.Nat.{◌-◌}
 use native.Mathlib.Omega.{arith}
-use lib.ListN.{length}
 use Rattle.matching_search.proofs.Flags.{not-true, not-false}
-use Rattle.matching_certified.proofs.Reason.{Passing, ends_at, fine-on, fine-off, fine_end}
+use Rattle.matching_certified.proofs.Reason.{ends_at, fine-on, fine-off, fine_end}
 use Rattle.matching_certified.proofs.all_fine.Goals as goal
 
 pub loop-j-init : goal.loop-j-init

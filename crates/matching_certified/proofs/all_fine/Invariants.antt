@@ -1,9 +1,6 @@
-use mathlib.Core.Path.{refl}
 use Prim.Native.Nat.{◌-◌}
-use native.Mathlib.Omega.{arith}
 use lib.ListN.{length}
-use Rattle.matching_search.proofs.Flags.{not-true, not-false}
-use Rattle.matching_certified.proofs.Reason.{Passing, ends_at, fine-on, fine-off, fine_end}
+use Rattle.matching_certified.proofs.Reason.{Passing}
 use Rattle.matching_certified.proofs.all_fine.Given as goal
 
 abbrev pub invariant-loop-j : goal.invariant-loop-j

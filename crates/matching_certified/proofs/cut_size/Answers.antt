@@ -1,7 +1,5 @@
-use Prim.Native.Nat.{◌-◌}
 use native.Mathlib.Omega.{arith}
-use lib.ListN.{length}
-use Rattle.matching_certified.proofs.Count.{Counting, count-step, count-end}
+use Rattle.matching_certified.proofs.Count.{count-step, count-end}
 use Rattle.matching_certified.proofs.cut_size.Goals as goal
 
 pub overflow_add-n : goal.overflow_add-n

@@ -1,7 +1,6 @@
 use Prim.Native.Nat.{◌-◌}
-use native.Mathlib.Omega.{arith}
 use lib.ListN.{length}
-use Rattle.matching_certified.proofs.Count.{Counting, count-step, count-end}
+use Rattle.matching_certified.proofs.Count.{Counting}
 use Rattle.matching_certified.proofs.cut_size.Given as goal
 
 abbrev pub invariant-loop-v : goal.invariant-loop-v

@@ -1,7 +1,5 @@
-use Prim.Native.Nat.{◌-◌}
 use native.Mathlib.Omega.{arith}
-use lib.ListN.{length}
-use Rattle.matching_certified.proofs.Count.{Marking, mark-start, mark-step, mark-end}
+use Rattle.matching_certified.proofs.Count.{mark-start, mark-step, mark-end}
 use Rattle.matching_certified.proofs.odd_labels.Goals as goal
 
 pub loop-i-init : goal.loop-i-init

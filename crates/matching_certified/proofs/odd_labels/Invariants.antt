@@ -1,7 +1,6 @@
 use Prim.Native.Nat.{◌-◌}
-use native.Mathlib.Omega.{arith}
 use lib.ListN.{length}
-use Rattle.matching_certified.proofs.Count.{Marking, mark-start, mark-step, mark-end}
+use Rattle.matching_certified.proofs.Count.{Marking}
 use Rattle.matching_certified.proofs.odd_labels.Given as goal
 
 abbrev pub invariant-loop-i : goal.invariant-loop-i

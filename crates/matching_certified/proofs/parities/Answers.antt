@@ -1,7 +1,4 @@
-use Prim.Native.Nat.{◌-◌}
-use lib.ListN.{length}
-use Rattle.loops.proofs.Loops.{Edited, edited-start, edited-step, edited-end}
-use Rattle.matching.specs.Cut.{flips}
+use Rattle.loops.proofs.Loops.{edited-start, edited-step, edited-end}
 use Rattle.matching_certified.proofs.parities.Goals as goal
 
 pub loop-v-init : goal.loop-v-init

@@ -1,6 +1,6 @@
 use Prim.Native.Nat.{◌-◌}
 use lib.ListN.{length}
-use Rattle.loops.proofs.Loops.{Edited, edited-start, edited-step, edited-end}
+use Rattle.loops.proofs.Loops.{Edited}
 use Rattle.matching.specs.Cut.{flips}
 use Rattle.matching_certified.proofs.parities.Given as goal
 

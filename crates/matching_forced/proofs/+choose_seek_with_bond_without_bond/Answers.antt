@@ -1,15 +1,9 @@
-use mathlib.Core.Path.{refl, sym, ap, ◌∙◌}
-use Prim.Native.Nat.{◌-◌, ◌*◌, ◌+◌}
+use mathlib.Core.Path.{refl, ap, ◌∙◌}
 use native.Mathlib.Omega.{arith}
 use lib.ListN.{length, length-set}
-use borrow.Author.Rules.{rules}
-use Rattle.matching.specs.Model.{bonds_of}
-use Rattle.matching_search.proofs.Reply.{shape_at}
 use Rattle.matching_engine.proofs.Tried.{spent}
-use Rattle.matching_forced.specs.Steps.{free_total}
 use Rattle.matching_forced.proofs.Tables.{ends-long, ends_at}
 use Rattle.matching_forced.proofs.Searching.{tables-of, shape-both, chosen-ends, taken-less, taken-roomy, taken-found, taken-other, left_less, left-roomy, left-shape, left_back, tried-left, end-found, end-absent, lowest-chosen, choice-told, choice-then, none_stuck, shape-again, roomy-again, chosen-again, total-again, told-few, told-room, put_front, put-ones, forced-fewer, forced-roomy, forced-stuck, forced-back, forced-found, forced-other}
-use Prim.Native.Nat.{ℕ, ◌<◌}
 use Rattle.matching_forced.proofs.+choose_seek_with_bond_without_bond.Goals as goal
 
 pub choose-returns-then-stuck : goal.choose-returns-then-stuck
@@ -34,10 +28,16 @@ pub choose-returns-in_default : goal.choose-returns-in_default
 choose-returns-in_default t c = record { tried = choice-told c.requires.shape c.lowest_free-b.ensures c.if-ea-at.false c.with_bond-got.ensures.tried c.in_default.not-Absent; el_unchanged = c.with_bond-got.ensures.el_unchanged }
 
 pub choose-without_bond-requires : goal.choose-without_bond-requires
-choose-without_bond-requires t c = (omega (arith, total-again c.requires.shape c.with_bond-got.ensures.el_unchanged c.with_bond-got.ensures.tried.same), (shape-again c.requires.shape c.with_bond-got.ensures.el_unchanged c.with_bond-got.ensures.tried.same c.with_bond-got.auto.row, (
+choose-without_bond-requires t c = (
+  omega (arith, total-again c.requires.shape c.with_bond-got.ensures.el_unchanged c.with_bond-got.ensures.tried.same),
+  (
+    shape-again c.requires.shape c.with_bond-got.ensures.el_unchanged c.with_bond-got.ensures.tried.same c.with_bond-got.auto.row,
+    (
       roomy-again c.requires.shape c.with_bond-got.ensures.el_unchanged c.with_bond-got.ensures.tried.same c.with_bond-got.auto.pairs c.requires.roomy,
       chosen-again c.requires.shape c.with_bond-got.ensures.el_unchanged c.with_bond-got.ensures.tried.same (lowest-chosen c.requires.shape c.lowest_free-b.ensures c.if-ea-at.false),
-    )))
+    ),
+  ),
+)
 
 pub choose-returns : goal.choose-returns
 choose-returns t c = record { tried = choice-then c.requires.shape c.lowest_free-b.ensures c.if-ea-at.false c.with_bond-got.ensures.tried c.in-Absent.is c.with_bond-got.ensures.el_unchanged c.without_bond.ensures.tried; el_unchanged = c.without_bond.ensures.el_unchanged ∙ c.with_bond-got.ensures.el_unchanged }
@@ -52,10 +52,16 @@ pub seek-slice_bounds-choose-start : goal.seek-slice_bounds-choose-start
 seek-slice_bounds-choose-start t c = told-room c.requires.shape c.requires.roomy c.force-forcing.ensures c.force-forcing.auto.pairs
 
 pub seek-choose-got-requires : goal.seek-choose-got-requires
-seek-choose-got-requires t c = (omega (arith, forced-fewer c.requires.shape c.requires.roomy c.force-forcing.ensures c.force-forcing.auto.pairs), (shape-both c.requires.shape c.force-forcing.auto.need refl, (
+seek-choose-got-requires t c = (
+  omega (arith, forced-fewer c.requires.shape c.requires.roomy c.force-forcing.ensures c.force-forcing.auto.pairs),
+  (
+    shape-both c.requires.shape c.force-forcing.auto.need refl,
+    (
       forced-roomy c.requires.shape c.requires.roomy c.force-forcing.ensures c.force-forcing.auto.pairs c.force-forcing.auto.need,
       forced-stuck c.requires.shape c.requires.roomy c.force-forcing.ensures c.force-forcing.auto.pairs,
-    )))
+    ),
+  ),
+)
 
 pub seek-undo-requires : goal.seek-undo-requires
 seek-undo-requires t c = record { ones = put-ones c.requires.shape c.requires.roomy c.force-forcing.ensures c.force-forcing.auto.pairs c.choose-got.new.pairs (omega arith); by_index = λ k l. ends-long (c.choose-got.auto.need ∙ c.force-forcing.auto.need) (ends_at (tables-of c.requires.shape) k l) }

@@ -1,15 +1,10 @@
 use mathlib.Core.Path.{refl, sym, ap, ◌∙◌}
-use Prim.Native.Nat.{◌-◌, ◌*◌, ◌+◌}
 use native.Mathlib.Omega.{arith}
 use lib.ListN.{length, length-set}
-use borrow.Author.Rules.{rules}
-use Rattle.matching.specs.Model.{bonds_of}
 use Rattle.matching_search.proofs.Flags.{never}
-use Rattle.matching_forced.specs.Steps.{free_total}
 use Rattle.matching_forced.proofs.Tables.{ends-long, ends_at}
 use Rattle.matching_forced.proofs.Searching.{tables-of, shape-both, shape-again, roomy-again, chosen-again, chosen-ends, taken-less, taken-roomy, left_less, left-roomy, left-shape, left_back, lowest-chosen, told-few, told-room, put_front, put-ones, ones-fit, forced-fewer, forced-roomy, forced-back}
 use Rattle.matching_forced.proofs.Following.{kept-is, kept-searched, off-kept, off-searched, following-none, bit-zero, following-skipped, following-found, following-then, without_is, without-searched}
-use Prim.Native.Nat.{ℕ, ◌<◌}
 use Rattle.matching_forced.proofs.+later_later_left_later_with_later_without.Goals as goal
 
 pub later-force-forcing-requires : goal.later-force-forcing-requires
@@ -28,10 +23,16 @@ pub later-slice_bounds-later_left-start : goal.later-slice_bounds-later_left-sta
 later-slice_bounds-later_left-start t c = told-room c.requires.shape c.requires.roomy c.force-forcing.ensures c.force-forcing.auto.pairs
 
 pub later-later_left-found-requires : goal.later-later_left-found-requires
-later-later_left-found-requires t c = (omega (arith, forced-fewer c.requires.shape c.requires.roomy c.force-forcing.ensures c.force-forcing.auto.pairs), (shape-both c.requires.shape c.force-forcing.auto.need c.set_zeros.auto.row, (
+later-later_left-found-requires t c = (
+  omega (arith, forced-fewer c.requires.shape c.requires.roomy c.force-forcing.ensures c.force-forcing.auto.pairs),
+  (
+    shape-both c.requires.shape c.force-forcing.auto.need c.set_zeros.auto.row,
+    (
       forced-roomy c.requires.shape c.requires.roomy c.force-forcing.ensures c.force-forcing.auto.pairs c.force-forcing.auto.need,
       without_is c.requires.shape c.requires.roomy c.force-forcing.ensures c.force-forcing.auto.pairs c.requires.row_value c.set_zeros.ensures,
-    )))
+    ),
+  ),
+)
 
 pub later-undo-requires : goal.later-undo-requires
 later-undo-requires t c = record { ones = put-ones c.requires.shape c.requires.roomy c.force-forcing.ensures c.force-forcing.auto.pairs c.later_left-found.new.pairs (omega arith); by_index = λ k l. ends-long (c.later_left-found.auto.need ∙ c.force-forcing.auto.need) (ends_at (tables-of c.requires.shape) k l) }
@@ -67,10 +68,13 @@ pub later_left-returns-then-later_with : goal.later_left-returns-then-later_with
 later_left-returns-then-later_with t c = record { searched = following-found c.requires.shape c.requires.row_value c.lowest_free-b.ensures c.if-ea-at.false c.if-row-at-eq1.true c.later_with.ensures.searched c.if-later_with.true; el_unchanged = c.later_with.ensures.el_unchanged }
 
 pub later_left-first_without-requires : goal.later_left-first_without-requires
-later_left-first_without-requires t c = record { shape = shape-again c.requires.shape c.later_with.ensures.el_unchanged c.later_with.ensures.searched.same c.later_with.auto.row; roomy = (
+later_left-first_without-requires t c = record {
+  shape = shape-again c.requires.shape c.later_with.ensures.el_unchanged c.later_with.ensures.searched.same c.later_with.auto.row;
+  roomy = (
     roomy-again c.requires.shape c.later_with.ensures.el_unchanged c.later_with.ensures.searched.same c.later_with.auto.pairs c.requires.roomy,
     chosen-again c.requires.shape c.later_with.ensures.el_unchanged c.later_with.ensures.searched.same (lowest-chosen c.requires.shape c.lowest_free-b.ensures c.if-ea-at.false),
-  ) }
+  );
+}
 
 pub later_left-returns-then-row-at-eq1 : goal.later_left-returns-then-row-at-eq1
 later_left-returns-then-row-at-eq1 t c = record { searched = following-then c.requires.shape c.requires.row_value c.lowest_free-b.ensures c.if-ea-at.false c.if-row-at-eq1.true c.later_with.ensures.searched c.if-later_with.false c.later_with.ensures.el_unchanged c.first_without.ensures.searched; el_unchanged = c.first_without.ensures.el_unchanged ∙ c.later_with.ensures.el_unchanged }
@@ -88,10 +92,16 @@ pub later_with-mark-requires : goal.later_with-mark-requires
 later_with-mark-requires t c = chosen-ends c.requires.shape c.requires.roomy.1
 
 pub later_with-later-found-requires : goal.later_with-later-found-requires
-later_with-later-found-requires t c = (omega (arith, taken-less c.requires.shape c.requires.roomy.1 c.mark.ensures), (shape-both c.requires.shape c.mark.auto.need (length-set c.args.row.now c.args.b.0 0), (
+later_with-later-found-requires t c = (
+  omega (arith, taken-less c.requires.shape c.requires.roomy.1 c.mark.ensures),
+  (
+    shape-both c.requires.shape c.mark.auto.need (length-set c.args.row.now c.args.b.0 0),
+    (
       taken-roomy c.requires.shape c.requires.roomy.1 c.mark.ensures c.mark.auto.need c.requires.roomy.0,
       kept-is c.requires.shape c.requires.row_value.0 c.requires.roomy.1 c.requires.row_value.1 refl c.mark.ensures,
-    )))
+    ),
+  ),
+)
 
 pub later_with-mark-requires-2 : goal.later_with-mark-requires-2
 later_with-mark-requires-2 t c = ends-long (c.later-found.auto.need ∙ c.mark.auto.need) (chosen-ends c.requires.shape c.requires.roomy.1)

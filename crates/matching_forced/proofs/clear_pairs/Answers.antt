@@ -1,7 +1,5 @@
-use Prim.Native.Nat.{◌-◌}
 use native.Mathlib.Omega.{arith}
-use lib.ListN.{length}
-use Rattle.loops.proofs.Clearing.{Blanking, blank-start, blank_step, blank-end, cleared}
+use Rattle.loops.proofs.Clearing.{blank-start, blank_step, blank-end, cleared}
 use Rattle.matching_forced.proofs.clear_pairs.Goals as goal
 
 pub loop-i-init : goal.loop-i-init

@@ -1,7 +1,6 @@
 use Prim.Native.Nat.{◌-◌}
-use native.Mathlib.Omega.{arith}
 use lib.ListN.{length}
-use Rattle.loops.proofs.Clearing.{Blanking, blank-start, blank_step, blank-end, cleared}
+use Rattle.loops.proofs.Clearing.{Blanking}
 use Rattle.matching_forced.proofs.clear_pairs.Given as goal
 
 abbrev pub invariant-loop-i : goal.invariant-loop-i

@@ -1,10 +1,7 @@
 use mathlib.Core.Path.{◌∙◌}
-use mathlib.Core.Logic.{⊎_elim}
-use Prim.Native.Nat.{◌-◌}
 use native.Mathlib.Omega.{arith}
-use lib.ListN.{length}
 use Rattle.matching_forced.proofs.Tables.{ends_at, elided-at}
-use Rattle.matching_forced.proofs.Tallies.{Tallied, tallied-start, tallied-ends, tallied-yes, tallied-no, tallied-end}
+use Rattle.matching_forced.proofs.Tallies.{tallied-start, tallied-ends, tallied-yes, tallied-no, tallied-end}
 use Rattle.matching_forced.proofs.fill_counts.Goals.{then-choosable, else-choosable}
 use Rattle.matching_forced.proofs.fill_counts.Goals as goal
 
@@ -19,8 +16,9 @@ raise_ends-requires c = record { ends = tallied-ends c.requires.bond_tables c.lo
 
 pub loop-i-preserved : goal.loop-i-preserved
 loop-i-preserved c = elim c.if-choosable.branch [
-      then-choosable w ↦ tallied-yes c.requires.bond_tables c.loop-i.invariant c.loop-i-test.true c.requires.need_in_bounds.0 c.choosable.ensures w.if-choosable.true (w.counts-is ∙ w.raise_ends.ensures)
-    | else-choosable w ↦ tallied-no c.requires.bond_tables c.loop-i.invariant c.loop-i-test.true c.requires.need_in_bounds.0 c.choosable.ensures w.if-choosable.false w.counts-is ]
+  | then-choosable w ↦ tallied-yes c.requires.bond_tables c.loop-i.invariant c.loop-i-test.true c.requires.need_in_bounds.0 c.choosable.ensures w.if-choosable.true (w.counts-is ∙ w.raise_ends.ensures)
+  | else-choosable w ↦ tallied-no c.requires.bond_tables c.loop-i.invariant c.loop-i-test.true c.requires.need_in_bounds.0 c.choosable.ensures w.if-choosable.false w.counts-is
+]
 
 pub shape_of-counts : goal.shape_of-counts
 shape_of-counts c = c.loop-i.invariant.long

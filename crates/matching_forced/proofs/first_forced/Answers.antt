@@ -1,6 +1,5 @@
-use mathlib.Core.Path.{refl, ◌∙◌}
+use mathlib.Core.Path.{refl}
 use native.Mathlib.Omega.{arith}
-use lib.ListN.{length}
 use Rattle.matching_forced.proofs.Searching.{shape-both, told-few, told-room, put_front, put-long, put-ones, forced-roomy}
 use Rattle.matching_forced.proofs.Replying.{first-given, first_absent}
 use Rattle.matching_forced.proofs.first_forced.Goals as goal

@@ -1,7 +1,5 @@
 use native.Mathlib.Omega.{arith}
-use Rattle.matching.specs.Model.{bonds_of}
-use Rattle.matching_forced.specs.Steps.{free_total}
-use Rattle.matching_forced.proofs.Filling.{Filling, fill_start, fill-bond, fill-ends, fill-room, fill-less, fill_step, fill-stuck, fill-rests, turn-stuck, turn-rests, turn-pair}
+use Rattle.matching_forced.proofs.Filling.{fill_start, fill-bond, fill-ends, fill-room, fill-less, fill_step, fill-stuck, fill-rests, turn-stuck, turn-rests, turn-pair}
 use Rattle.matching_forced.proofs.force.Goals as goal
 
 pub loop-bond-init : goal.loop-bond-init

@@ -1,10 +1,5 @@
-use Prim.Native.Nat.{◌-◌}
-use native.Mathlib.Omega.{arith}
-use lib.ListN.{length}
 use mathlib.Core.Path.{◌∙◌, sym}
-use Rattle.matching.specs.Model.{bonds_of}
-use Rattle.matching_forced.specs.Forced.{free_of}
-use Rattle.matching_forced.proofs.Counts.{Sought, sought-start, sought-step}
+use Rattle.matching_forced.proofs.Counts.{sought-start, sought-step}
 use Rattle.matching_forced.proofs.Finding.{found-bond, no-bond}
 use Rattle.matching_forced.proofs.free_bond.Goals as goal
 

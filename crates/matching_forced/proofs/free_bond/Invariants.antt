@@ -1,11 +1,8 @@
 use Prim.Native.Nat.{◌-◌}
-use native.Mathlib.Omega.{arith}
 use lib.ListN.{length}
-use mathlib.Core.Path.{◌∙◌, sym}
 use Rattle.matching.specs.Model.{bonds_of}
 use Rattle.matching_forced.specs.Forced.{free_of}
-use Rattle.matching_forced.proofs.Counts.{Sought, sought-start, sought-step}
-use Rattle.matching_forced.proofs.Finding.{found-bond, no-bond}
+use Rattle.matching_forced.proofs.Counts.{Sought}
 use Rattle.matching_forced.proofs.free_bond.Given as goal
 
 abbrev pub invariant-loop-i : goal.invariant-loop-i

@@ -1,4 +1,4 @@
-use mathlib.Core.Path.{sym, ◌∙◌}
+use mathlib.Core.Path.{sym}
 use Rattle.matching_forced.proofs.Tables.{ends_at, elided-at, free-at}
 use Rattle.matching_forced.proofs.free_of.Goals as goal
 

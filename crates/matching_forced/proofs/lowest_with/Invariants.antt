@@ -1,9 +1,7 @@
 use Prim.Native.Nat.{◌-◌, ◌≤◌}
-use native.Mathlib.Omega.{arith}
 use lib.ListN.{length}
 use Rattle.matching_forced.specs.Steps.{with_count}
-use Rattle.matching_forced.proofs.Counts.{Sought, sought-left, sought-fewer, sought-here, sought-end}
-use Rattle.matching_forced.proofs.Tallies.{counted-as}
+use Rattle.matching_forced.proofs.Counts.{Sought}
 use Rattle.matching_forced.proofs.lowest_with.Given as goal
 
 abbrev pub invariant-loop-left : goal.invariant-loop-left

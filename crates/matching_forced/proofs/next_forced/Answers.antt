@@ -1,5 +1,4 @@
-use mathlib.Core.Path.{refl, sym, ap, ◌∙◌}
-use lib.ListN.{length}
+use mathlib.Core.Path.{refl, sym, ◌∙◌}
 use Rattle.matching_search.proofs.Flags.{not-true, not-false}
 use Rattle.matching_search.proofs.Reply.{refused-reply, shape_at}
 use Rattle.matching_forced.proofs.Searching.{roomy-again}

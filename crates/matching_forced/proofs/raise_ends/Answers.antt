@@ -1,4 +1,3 @@
-use mathlib.Core.Path.{sym, ◌∙◌}
 use native.Mathlib.Omega.{arith}
 use Rattle.matching_forced.proofs.Tallies.{raised-same, raised-other, raised-room}
 use Rattle.matching_forced.proofs.raise_ends.Goals as goal

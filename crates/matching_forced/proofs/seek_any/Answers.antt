@@ -1,4 +1,3 @@
-use mathlib.Core.Path.{◌∙◌}
 use Rattle.matching_forced.proofs.Searching.{shape-again, any-absent, any-certified}
 use Rattle.matching_forced.proofs.seek_any.Goals as goal
 

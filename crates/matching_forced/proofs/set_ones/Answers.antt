@@ -1,8 +1,8 @@
-use mathlib.Core.Path.{◌≡◌, refl, ◌∙◌}
+use mathlib.Core.Path.{refl}
 use Prim.Native.Nat.{◌-◌}
 use native.Mathlib.Omega.{arith}
-use lib.ListN.{length, set, length-set}
-use Rattle.matching_forced.proofs.Listed.{Backward, back_start, back_step, back_end}
+use lib.ListN.{length-set}
+use Rattle.matching_forced.proofs.Listed.{back_start, back_step, back_end}
 use Rattle.matching_forced.proofs.set_ones.Goals as goal
 
 pub loop-i-init : goal.loop-i-init

@@ -1,8 +1,6 @@
-use mathlib.Core.Path.{◌≡◌, refl, ◌∙◌}
-use Prim.Native.Nat.{◌-◌}
-use native.Mathlib.Omega.{arith}
-use lib.ListN.{length, set, length-set}
-use Rattle.matching_forced.proofs.Listed.{Backward, back_start, back_step, back_end}
+use mathlib.Core.Path.{◌≡◌}
+use lib.ListN.{length, set}
+use Rattle.matching_forced.proofs.Listed.{Backward}
 use Rattle.matching_forced.proofs.set_ones.Given as goal
 
 abbrev pub invariant-loop-i : goal.invariant-loop-i

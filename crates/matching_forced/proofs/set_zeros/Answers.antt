@@ -1,6 +1,5 @@
-use Prim.Native.Nat.{◌-◌}
 use native.Mathlib.Omega.{arith}
-use Rattle.matching_forced.proofs.Listed.{Clearing, clearing-start, clearing-step, clearing-end}
+use Rattle.matching_forced.proofs.Listed.{clearing-start, clearing-step, clearing-end}
 use Rattle.matching_forced.proofs.set_zeros.Goals as goal
 
 pub loop-i-init : goal.loop-i-init

@@ -1,6 +1,5 @@
 use Prim.Native.Nat.{◌-◌}
-use native.Mathlib.Omega.{arith}
-use Rattle.matching_forced.proofs.Listed.{Clearing, clearing-start, clearing-step, clearing-end}
+use Rattle.matching_forced.proofs.Listed.{Clearing}
 use Rattle.matching_forced.proofs.set_zeros.Given as goal
 
 abbrev pub invariant-loop-i : goal.invariant-loop-i

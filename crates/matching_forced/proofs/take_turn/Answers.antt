@@ -1,7 +1,4 @@
-use mathlib.Core.List.{List}
-use Prim.Native.Nat.{ℕ}
 use native.Mathlib.Omega.{arith}
-use lib.ListN.{replicate, length-replicate}
 use Rattle.loops.proofs.Loops.{repeated-at}
 use Rattle.matching.specs.Limits.{max_atoms}
 use Rattle.matching_forced.proofs.Tallies.{said-stuck, said-pair, said-rests}

@@ -1,9 +1,7 @@
-use mathlib.Core.Path.{◌≡◌, refl, ◌∙◌}
+use mathlib.Core.Path.{refl, ◌∙◌}
 use Prim.Native.Nat.{◌-◌}
 use native.Mathlib.Omega.{arith}
-use lib.ListN.{length}
-use Rattle.matching.specs.Model.{mark_at}
-use Rattle.matching_forced.proofs.Listed.{Backward, back_start, back_step, back_end}
+use Rattle.matching_forced.proofs.Listed.{back_start, back_step, back_end}
 use Rattle.matching_forced.proofs.Tables.{ends-long}
 use Rattle.matching_forced.proofs.undo.Goals as goal
 

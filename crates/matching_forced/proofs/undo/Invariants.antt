@@ -1,10 +1,7 @@
-use mathlib.Core.Path.{◌≡◌, refl, ◌∙◌}
-use Prim.Native.Nat.{◌-◌}
-use native.Mathlib.Omega.{arith}
+use mathlib.Core.Path.{◌≡◌}
 use lib.ListN.{length}
 use Rattle.matching.specs.Model.{mark_at}
-use Rattle.matching_forced.proofs.Listed.{Backward, back_start, back_step, back_end}
-use Rattle.matching_forced.proofs.Tables.{ends-long}
+use Rattle.matching_forced.proofs.Listed.{Backward}
 use Rattle.matching_forced.proofs.undo.Given as goal
 
 abbrev pub invariant-loop-i : goal.invariant-loop-i

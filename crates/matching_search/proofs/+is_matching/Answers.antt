@@ -1,12 +1,8 @@
 use mathlib.Core.Path.{refl, sym, ◌∙◌}
-use Prim.Native.Nat.{◌-◌}
 use native.Mathlib.Omega.{arith}
-use lib.ListN.{length}
-use borrow.Author.Rules.{rules}
 use Rattle.matching_search.proofs.Choice.{here3, ends-here, shape-next}
 use Rattle.matching_search.proofs.Check.{matching-end, matching-zero, matching-other, matching-not, matching-chosen}
 use Rattle.matching_search.proofs.Flags.{not-true, not-false}
-use Prim.Native.Nat.{ℕ, ◌<◌}
 use Rattle.matching_search.proofs.+is_matching.Goals as goal
 
 pub returns-then-at-ea : goal.returns-then-at-ea

@@ -1,12 +1,9 @@
 use mathlib.Core.Path.{refl, sym, ◌∙◌}
-use Prim.Native.Nat.{◌-◌}
 use native.Mathlib.Omega.{arith}
-use lib.ListN.{length, length-set}
-use borrow.Author.Rules.{rules}
+use lib.ListN.{length-set}
 use Rattle.matching_search.proofs.Choice.{ends-here, shape-next}
 use Rattle.matching_search.proofs.Check.{matching-rest, matching-zero, matching-0or1}
 use Rattle.matching_search.proofs.After.{later-end, later-found, later-then, skipped}
-use Prim.Native.Nat.{ℕ, ◌<◌}
 use Rattle.matching_search.proofs.+later.Goals as goal
 
 pub returns-then-at-ea : goal.returns-then-at-ea

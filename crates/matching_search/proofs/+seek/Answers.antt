@@ -1,10 +1,7 @@
 use mathlib.Core.Path.{◌∙◌, refl}
-use Prim.Native.Nat.{◌-◌}
 use native.Mathlib.Omega.{arith}
-use lib.ListN.{length, length-set}
-use borrow.Author.Rules.{rules}
+use lib.ListN.{length-set}
 use Rattle.matching_search.proofs.Choice.{at-end, here3, in_row, ends-here, shape-next, found-one, then-zero, not_free}
-use Prim.Native.Nat.{ℕ, ◌<◌}
 use Rattle.matching_search.proofs.+seek.Goals as goal
 
 pub returns-then-at-ea : goal.returns-then-at-ea
@@ -41,9 +38,12 @@ pub bounds-row-at-then-choosable : goal.bounds-row-at-then-choosable
 bounds-row-at-then-choosable t c = omega (arith, in_row c.requires c.if-at-ea.false, c.seek-found.auto.row ∙ length-set c.args.row.now c.args.k.0 1)
 
 pub seek-requires : goal.seek-requires
-seek-requires t c = (omega (arith, c.requires.upto, c.if-at-ea.false), shape-next c.requires c.if-at-ea.false
+seek-requires t c = (
+  omega (arith, c.requires.upto, c.if-at-ea.false),
+  shape-next c.requires c.if-at-ea.false
       (c.mark-then-choosable.auto.need ∙ c.seek-found.auto.need ∙ c.mark.auto.need)
-      (simp length-set (c.seek-found.auto.row ∙ length-set c.args.row.now c.args.k.0 1)))
+      (simp length-set (c.seek-found.auto.row ∙ length-set c.args.row.now c.args.k.0 1)),
+)
 
 pub shape_of-row-then-choosable : goal.shape_of-row-then-choosable
 shape_of-row-then-choosable t c = c.seek.auto.row ∙ simp length-set (c.seek-found.auto.row ∙ length-set c.args.row.now c.args.k.0 1)

@@ -1,9 +1,6 @@
-use mathlib.Core.Path.{◌≡◌, refl, sym, ◌∙◌}
-use Prim.Native.Nat.{◌≤◌, ◌-◌}
+use mathlib.Core.Path.{refl, sym, ◌∙◌}
 use native.Mathlib.Omega.{arith}
 use borrow.Author.Rules.{rules}
-use lib.ListN.{length, drop}
-use Rattle.matching.specs.Graph.{none_flagged}
 use Rattle.matching_search.proofs.Flags.{none_here, none-step, none_end}
 use Rattle.matching_search.proofs.all_paired.Goals as goal
 

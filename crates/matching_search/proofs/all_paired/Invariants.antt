@@ -1,9 +1,7 @@
-use mathlib.Core.Path.{◌≡◌, refl, sym, ◌∙◌}
+use mathlib.Core.Path.{◌≡◌}
 use Prim.Native.Nat.{◌≤◌, ◌-◌}
-use native.Mathlib.Omega.{arith}
 use lib.ListN.{length, drop}
 use Rattle.matching.specs.Graph.{none_flagged}
-use Rattle.matching_search.proofs.Flags.{none_here, none-step, none_end}
 use Rattle.matching_search.proofs.all_paired.Given as goal
 
 abbrev pub invariant-loop-i : goal.invariant-loop-i

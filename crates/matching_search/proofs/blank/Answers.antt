@@ -1,6 +1,5 @@
-use Prim.Native.Nat.{◌-◌}
 use native.Mathlib.Omega.{arith}
-use Rattle.loops.proofs.Clearing.{Blanking, blank-start, blank_step, blank-end}
+use Rattle.loops.proofs.Clearing.{blank-start, blank_step, blank-end}
 use Rattle.matching_search.proofs.blank.Goals as goal
 
 pub loop-i-init : goal.loop-i-init

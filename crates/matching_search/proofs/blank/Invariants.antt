@@ -1,6 +1,5 @@
 use Prim.Native.Nat.{◌-◌}
-use native.Mathlib.Omega.{arith}
-use Rattle.loops.proofs.Clearing.{Blanking, blank-start, blank_step, blank-end}
+use Rattle.loops.proofs.Clearing.{Blanking}
 use Rattle.matching_search.proofs.blank.Given as goal
 
 abbrev pub invariant-loop-i : goal.invariant-loop-i

@@ -1,9 +1,6 @@
-use mathlib.Core.Logic.{⊎_elim}
-use Prim.Native.Nat.{◌-◌}
 use native.Mathlib.Omega.{arith}
-use lib.ListN.{length}
-use Rattle.matching_search.proofs.Flags.{not-true, not-false}
-use Rattle.matching_search.proofs.Fitting.{Fitting, fitting-start, fitting-end, fitting-ends, fitting-elided, fitting-zero, fitting-one, fitting-other, fitting-not}
+use Rattle.matching_search.proofs.Flags.{not-true}
+use Rattle.matching_search.proofs.Fitting.{fitting-start, fitting-end, fitting-ends, fitting-elided, fitting-zero, fitting-one, fitting-other, fitting-not}
 use Rattle.matching_search.proofs.fits.Goals.{then-x-ne0+else-x-ne1+else-not-choosable, else-x-ne0}
 use Rattle.matching_search.proofs.fits.Goals as goal
 
@@ -39,8 +36,9 @@ loop-i-smaller c = omega (arith, c.loop-i-test.true)
 
 pub loop-i-preserved : goal.loop-i-preserved
 loop-i-preserved c = elim c.if-x-ne0.branch [
-      then-x-ne0+else-x-ne1+else-not-choosable w ↦ fitting-one c.loop-i.invariant c.loop-i-test.true w.choosable.ensures w.if-x-ne1.false w.if-not-choosable.false w.mark.ensures w.mark.auto.need w.need-is
-    | else-x-ne0 w ↦ fitting-zero c.loop-i.invariant c.loop-i-test.true w.if-x-ne0.false w.need-is ]
+  | then-x-ne0+else-x-ne1+else-not-choosable w ↦ fitting-one c.loop-i.invariant c.loop-i-test.true w.choosable.ensures w.if-x-ne1.false w.if-not-choosable.false w.mark.ensures w.mark.auto.need w.need-is
+  | else-x-ne0 w ↦ fitting-zero c.loop-i.invariant c.loop-i-test.true w.if-x-ne0.false w.need-is
+]
 
 pub shape_of-need : goal.shape_of-need
 shape_of-need c = c.loop-i.invariant.long

@@ -1,12 +1,9 @@
 use mathlib.Core.Path.{refl, sym, ◌∙◌}
-use Prim.Native.Nat.{◌-◌}
 use native.Mathlib.Omega.{arith}
 use lib.ListN.{length-set}
-use borrow.Author.Rules.{rules}
 use Rattle.matching_search.proofs.Choice.{ends-here, shape-next}
 use Rattle.matching_search.proofs.Check.{matching-rest, matching-zero, matching-0or1}
 use Rattle.matching_skip.proofs.Laws.{in-front, next_low, later-stops, later-found, later-then, skipped}
-use Prim.Native.Nat.{ℕ, ◌<◌}
 use Rattle.matching_skip.proofs.+later.Goals as goal
 
 pub blank-requires : goal.blank-requires
