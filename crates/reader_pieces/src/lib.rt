@@ -1,5 +1,6 @@
 // Reading a text in pieces: start, feed, end.
 #![tactic(auto)]
+
 ghost use Rattle.std.specs.Prelude.{◌≡◌};
 ghost use Rattle.loops.specs.Loop.{pick};
 ghost use Rattle.reading_pieces.specs.Calls.{start_of, fed_of, end_of};

@@ -1,0 +1,47 @@
+use Rattle.std.proofs.Common.{rules}
+use Prim.Native.Nat.{◌-◌}
+use native.Mathlib.Omega.{arith}
+use mathlib.Core.Path.{◌∙◌}
+use lib.ListN.{length}
+use Rattle.reader_bytes.specs.Step.{lent}
+use Rattle.reader_pieces.proofs.Running.{Running, running-start, running-step, running-refused, running-long, running-end}
+use Rattle.reader_pieces.proofs.run.read_piece.Goals as goal
+
+pub loop-i-init : goal.loop-i-init
+loop-i-init c = running-start c.requires.from_le_max_text c.requires.ready
+
+pub overflow_sub-from : goal.overflow_sub-from
+overflow_sub-from c = omega (arith, c.loop-i.invariant.short)
+
+pub shape_of-atoms-then-from-i : goal.shape_of-atoms-then-from-i
+shape_of-atoms-then-from-i c = c.loop-i.invariant.long-atoms
+
+pub shape_of-bonds-then-from-i : goal.shape_of-bonds-then-from-i
+shape_of-bonds-then-from-i c = c.loop-i.invariant.long-bonds
+
+pub returns-then-from-i : goal.returns-then-from-i
+returns-then-from-i c = running-long c.loop-i.invariant c.loop-i-test.true c.if-from-i.true
+
+pub step-requires : goal.step-requires
+step-requires c = record { ready = c.loop-i.invariant.ready; at_lt_max_text = omega (arith, c.if-from-i.false) }
+
+pub shape_of-atoms-in-Refused : goal.shape_of-atoms-in-Refused
+shape_of-atoms-in-Refused c = c.step.auto.atoms ∙ c.loop-i.invariant.long-atoms
+
+pub shape_of-bonds-in-Refused : goal.shape_of-bonds-in-Refused
+shape_of-bonds-in-Refused c = c.step.auto.bonds ∙ c.loop-i.invariant.long-bonds
+
+pub returns-in-Refused : goal.returns-in-Refused
+returns-in-Refused c = running-refused c.loop-i.invariant c.loop-i-test.true c.if-from-i.false c.step.result (lent c.step.new.hubs c.step.new.openers c.step.new.symbols c.step.new.offsets c.step.new.outsides c.step.new.keys c.step.new.atoms c.step.new.bonds) c.step.ensures c.in-Refused.is
+
+pub loop-i-preserved : goal.loop-i-preserved
+loop-i-preserved c = running-step c.loop-i.invariant c.loop-i-test.true c.if-from-i.false c.step.result (lent c.step.new.hubs c.step.new.openers c.step.new.symbols c.step.new.offsets c.step.new.outsides c.step.new.keys c.step.new.atoms c.step.new.bonds) c.step.ensures c.in-Taken.is c.step.auto.atoms c.step.auto.bonds
+
+pub shape_of-atoms : goal.shape_of-atoms
+shape_of-atoms c = c.loop-i.invariant.long-atoms
+
+pub shape_of-bonds : goal.shape_of-bonds
+shape_of-bonds c = c.loop-i.invariant.long-bonds
+
+pub returns : goal.returns
+returns c = running-end c.loop-i.invariant c.loop-i-test.false

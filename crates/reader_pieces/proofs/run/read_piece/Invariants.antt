@@ -1,0 +1,13 @@
+use Prim.Native.Nat.{◌-◌}
+use native.Mathlib.Omega.{arith}
+use mathlib.Core.Path.{◌∙◌}
+use lib.ListN.{length}
+use Rattle.reader_bytes.specs.Step.{lent}
+use Rattle.reader_pieces.proofs.Running.{Running, running-start, running-step, running-refused, running-long, running-end}
+use Rattle.reader_pieces.proofs.run.read_piece.Given as goal
+
+abbrev pub invariant-loop-i : goal.invariant-loop-i
+invariant-loop-i l = Running l.piece l.from l.initial.h (lent l.initial.hubs l.initial.openers l.initial.symbols l.initial.offsets l.initial.outsides l.initial.keys l.initial.atoms l.initial.bonds) l.i l.h (lent l.hubs l.openers l.symbols l.offsets l.outsides l.keys l.atoms l.bonds)
+
+abbrev pub decreases-loop-i : goal.decreases-loop-i
+decreases-loop-i l = length l.piece - l.i
