@@ -30,7 +30,7 @@ ran-skip : {S : Type 0} {step : ℕ → S → S} {s₀ s : S} {n i : ℕ} (t : �
 ran-skip {i = i} zero l h f = rw (add-zero i) l
 ran-skip {s = s} {i = i} (suc t) l h f =
     let e : i + suc t ≡ i + 1 + t = omega arith in
-    rw e (ran-skip t (ran-step l s (omega arith) (f i (omega arith) (omega arith))) (omega arith) (λ j u v. f j (omega arith) (omega arith)))
+    rw e (ran-skip {i = i + 1} t (ran-step l s (omega arith) (f i (omega arith) (omega arith))) (omega arith) (λ j u v. f j (omega arith) (omega arith)))
 
 -- a bond that does not weigh adds nothing
 adds_none : (x y s : ℕ) → x ≡ 0 → s ≡ s + times_low x y

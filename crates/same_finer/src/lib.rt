@@ -1,5 +1,6 @@
 // Keys of atoms that see the orders of two matrices and the atoms that were placed. Every function here is internal.
 #![tactic(auto)]
+
 ghost use Rattle.std.specs.Prelude.{◌≡◌, ◌++◌, ◌*◌, ◌<◌, ◌≤◌, ◌%◌, length, get_or, drop};
 ghost use Rattle.loops.specs.Loop.{run, up_to, each};
 ghost use Rattle.same_model.specs.Same.{max_same};

@@ -1,0 +1,13 @@
+use Prim.Native.Nat.{◌-◌, ◌≤◌}
+use mathlib.Core.Path.{refl}
+use native.Mathlib.Omega.{arith}
+use lib.ListN.{length, length-set}
+use Rattle.same_open.proofs.Seeking.{Filled, filled-start, filled-step}
+use Rattle.same_finer.specs.Finer.{Near}
+use Rattle.same_finer.proofs.fill_weighty.Given as goal
+
+abbrev pub invariant-loop-a : goal.invariant-loop-a
+invariant-loop-a l = Filled (Near l.w l.n) l.n l.a l.near × (l.n ≤ length l.near)
+
+abbrev pub decreases-loop-a : goal.decreases-loop-a
+decreases-loop-a l = l.n - l.a

@@ -1,0 +1,14 @@
+use Prim.Native.Nat.{◌-◌, ◌*◌, ◌+◌, ◌≤◌}
+use native.Mathlib.Omega.{arith}
+use mathlib.Core.Path.{sym}
+use borrow.Author.Tests.{eq-eqb, ne_eqb}
+use Rattle.loops.proofs.Loops.{Left, left-start, left-pass, left-fail, left_end}
+use Rattle.same_finer.specs.Finer.{mirror}
+use Rattle.same_finer.proofs.Low.{row_low, column-low}
+use Rattle.same_finer.proofs.is_mirrored.Given as goal
+
+abbrev pub invariant-loop-i : goal.invariant-loop-i
+invariant-loop-i l = Left (mirror l.w) l.end l.i
+
+abbrev pub decreases-loop-i : goal.decreases-loop-i
+decreases-loop-i l = l.end - l.i

@@ -1,0 +1,14 @@
+use Prim.Native.Nat.{◌-◌, ◌≤◌}
+use native.Mathlib.Omega.{arith}
+use mathlib.Core.Path.{ap}
+use lib.ListN.{length}
+use Rattle.loops.proofs.Loops.{Ran, ran-start, ran-step, ran-end}
+use Rattle.same_finer.specs.Finer.{rounded_again, finer}
+use Rattle.same_finer.proofs.Keeping.{as-rounded, rounded-long}
+use Rattle.same_finer.proofs.make_finer.Given as goal
+
+abbrev pub invariant-loop-i : goal.invariant-loop-i
+invariant-loop-i l = Ran (rounded_again l.w l.n) l.initial.keys l.r l.i l.keys × (l.n ≤ length l.keys)
+
+abbrev pub decreases-loop-i : goal.decreases-loop-i
+decreases-loop-i l = l.r - l.i

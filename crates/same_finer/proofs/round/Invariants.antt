@@ -1,0 +1,14 @@
+use Prim.Native.Nat.{ℕ, ◌-◌}
+use mathlib.Core.Path.{refl}
+use native.Mathlib.Omega.{arith}
+use lib.ListN.{length-replicate}
+use Rattle.loops.proofs.Loops.{Edited, fills, edited-start, filled-step, filled-end}
+use Rattle.same_finer.specs.Finer.{next_key}
+use Rattle.same_finer.proofs.Low.{as-next-key}
+use Rattle.same_finer.proofs.round.Given as goal
+
+abbrev pub invariant-loop-a : goal.invariant-loop-a
+invariant-loop-a l = Edited (fills (next_key l.w l.n l.old)) l.initial.keys l.n l.a l.keys
+
+abbrev pub decreases-loop-a : goal.decreases-loop-a
+decreases-loop-a l = l.n - l.a
