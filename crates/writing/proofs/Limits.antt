@@ -9,7 +9,6 @@ use lib.IntN.{ℤ}
 use mathlib.Core.Logic.{◌⊎◌, inl, inr, ⊎_elim}
 use borrow.Author.Tests.{eqb-true, eqb-false, ltb-true, lt-ltb, lt-leb, ltb-false}
 use Rattle.loops.proofs.Loops.{and_left, and_right}
-use Rattle.table.specs.Limits.{max_atoms, max_bonds}
 use Rattle.table.specs.Sound.{sound}
 use Rattle.table.proofs.Sound.{sound-valid}
 use Rattle.ids.specs.Limits.{max_depth, bridges}

@@ -1,5 +1,5 @@
 -- 01, Writing: the bytes of an atom, of a bond symbol, of a bridge, and of a walk's tokens
-use Rattle.std.specs.Prelude.{ℕ, zero, suc, ◌+◌, ◌-◌, ◌*◌, ◌/◌, ◌%◌, Bool, true, false, ◌&&◌, not, List, [], ◌∷◌, ◌++◌, ℤ, pos, negsuc, eqb, leb, ltb}
+use Rattle.std.specs.Prelude.{ℕ, suc, ◌+◌, ◌/◌, ◌%◌, Bool, false, ◌&&◌, List, [], ◌∷◌, ◌++◌, ℤ, pos, negsuc, eqb, ltb}
 use Rattle.kinds.specs.Kind.{bond_symbol}
 use Rattle.loops.specs.Loop.{pick}
 use Rattle.element.specs.Lookup.{bare, bytes_of, selected_bytes}

@@ -1,7 +1,7 @@
 -- 01, Writing: the text and the renumbering of a molecule, the refusals 1, 13, 14, 15, 16, and what every answer leaves behind
-use Rattle.std.specs.Prelude.{ℕ, zero, suc, ◌+◌, ◌-◌, Bool, true, false, ◌&&◌, List, [], ◌∷◌, ◌++◌, length, replicate, ℤ, leb, ltb}
+use Rattle.std.specs.Prelude.{ℕ, suc, ◌-◌, Bool, true, ◌&&◌, List, [], ◌∷◌, ◌++◌, length, replicate, ℤ, leb, ltb}
 use Rattle.loops.specs.Loop.{pick, up_to}
-use Rattle.table.specs.Limits.{max_atoms, max_bonds}
+use Rattle.table.specs.Limits.{max_atoms}
 use Rattle.table.specs.Cells.{end1, end2, kind}
 use Rattle.table.specs.Valid.{enough}
 use Rattle.table.specs.Sound.{sound}

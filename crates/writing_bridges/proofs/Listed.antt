@@ -8,7 +8,6 @@ use lib.ListN.{length, get_or, set}
 use lib.Dec.{eqb}
 use borrow.Author.Tests.{eq-eqb}
 use Rattle.loops.specs.Loop.{pick, run, up_to}
-use Rattle.table.specs.Limits.{max_bonds}
 use Rattle.writing_walk.specs.Token.{Bond, bond}
 use Rattle.writing_walk.specs.Emit.{pre}
 use Rattle.writing_walk.specs.Walk.{forest_of, renumber, renumbered, unused, keep_if, keep}

@@ -1,18 +1,18 @@
 -- The array of slots does what the list of slots does. Assumes nothing.
-use Prim.Native.Nat.{ℕ, zero, suc, ◌+◌, ◌<◌, ◌≤◌}
+use Prim.Native.Nat.{ℕ, suc, ◌+◌, ◌<◌, ◌≤◌}
 use native.Mathlib.Omega.{arith}
 use native.Mathlib.Numerals.{add-one}
 use mathlib.Core.Path.{◌≡◌, refl, sym, ap, ◌∙◌, subst}
-use mathlib.Core.Bool.{Bool, true, false, ◌&&◌, cond}
-use mathlib.Core.List.{List, [], ◌∷◌, ◌++◌}
-use lib.ListN.{length, get_or, set, drop, drop_of_length-le}
+use mathlib.Core.Bool.{Bool, true, false, cond}
+use mathlib.Core.List.{List, ◌∷◌}
+use lib.ListN.{length, get_or, set, drop_of_length-le}
 use lib.Seq.{drop-cons}
 use lib.Dec.{eqb}
 use borrow.Author.Tests.{eq-eqb, ne_eqb, eqb-true, eqb-false}
 use Rattle.loops.specs.Loop.{pick}
 use Rattle.writing_walk.specs.Token.{Bond, eq_bond}
 use Rattle.writing_walk.specs.Emit.{Slot, free, held, find, release, lowest, insert}
-use Rattle.writing_walk.proofs.Count.{bit, count, and_left, and_right, bond-eq, bond-same, never}
+use Rattle.writing_walk.proofs.Count.{bit, count, bond-eq, bond-same, never}
 use Rattle.writing_walk.proofs.Read.{open_of}
 use Rattle.writing_bridges.specs.Slots.{index_of, Looked, Slots, end, rest, gap, full, Bridged}
 

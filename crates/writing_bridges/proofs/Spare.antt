@@ -3,8 +3,8 @@ use Prim.Native.Nat.{ℕ, zero, suc, ◌+◌, ◌-◌, ◌<◌, ◌≤◌}
 use native.Mathlib.Omega.{arith}
 use mathlib.Core.Path.{◌≡◌, refl, sym, ap, ◌∙◌, subst}
 use mathlib.Core.Bool.{Bool, true, false, ◌&&◌, not, cond}
-use mathlib.Core.List.{List, [], ◌∷◌, ◌++◌, map, append_assoc}
-use lib.ListN.{length, get_or, get_or-append, length-append}
+use mathlib.Core.List.{List, [], ◌∷◌, ◌++◌, append_assoc}
+use lib.ListN.{get_or, get_or-append}
 use lib.Seq.{get_or-append-add}
 use lib.Dec.{eqb, ltb}
 use borrow.Author.Tests.{eq-eqb, ne_eqb, eqb-true, eqb-false, ltb-true, ltb-false}
@@ -13,7 +13,7 @@ use Rattle.writing_walk.specs.Emit.{Forest, leaf, node, size, pre, tree, trees}
 use Rattle.writing_walk.specs.Walk.{forest_of, remove, remove_all, keep_if, keep, renumbered, unused}
 use Rattle.writing_walk.specs.Check.{ends}
 use Rattle.writing_walk.specs.Flat.{ups}
-use Rattle.writing_walk.proofs.Count.{bit, count, count-append, All, none, more, and_left, and_right, bond-same, bond-eq, eqb_same, never, all_map}
+use Rattle.writing_walk.proofs.Count.{bit, count, count-append, All, none, more, bond-same, bond-eq, eqb_same, never, all_map}
 use Rattle.writing_walk.proofs.Walk.{Inside}
 use Rattle.writing_walk.proofs.Trip.{within, keep-count, renumbering, size-length, inside-renumbered}
 use Rattle.writing_walk.proofs.Twice.{Distinct, distinct-map}

@@ -2,17 +2,17 @@
 use Prim.Native.Nat.{ℕ, zero, suc, ◌+◌, ◌-◌, ◌<◌, ◌≤◌}
 use native.Mathlib.Omega.{arith}
 use native.Mathlib.Numerals.{add-one}
-use mathlib.Core.Path.{◌≡◌, refl, sym, ap, ◌∙◌, subst}
+use mathlib.Core.Path.{◌≡◌, refl, sym, ap, ◌∙◌}
 use mathlib.Core.Bool.{Bool, true, false, ◌&&◌}
-use mathlib.Core.List.{List, [], ◌∷◌, ◌++◌}
-use lib.ListN.{length, get_or}
+use mathlib.Core.List.{List, [], ◌∷◌}
+use lib.ListN.{get_or}
 use lib.Dec.{eqb}
-use borrow.Author.Tests.{eq-eqb, ne_eqb, eqb-true, eqb-false}
+use borrow.Author.Tests.{eq-eqb, eqb-true, eqb-false}
 use Rattle.loops.specs.Loop.{up_to}
 use Rattle.writing_walk.specs.Token.{Bond}
 use Rattle.writing_walk.specs.Walk.{keep_if, keep, sweep}
-use Rattle.writing_walk.proofs.Count.{and_left, and_right, never}
-use Rattle.writing_bridges.specs.Slots.{Near, Bridged, closes_from, opens_from}
+use Rattle.writing_walk.proofs.Count.{and_left, and_right}
+use Rattle.writing_bridges.specs.Slots.{Near}
 
 -- keeping twice
 keep-both : (p q : Bond → Bool) (l : List Bond) → keep p (keep q l) ≡ keep (λ b. q b && p b) l

@@ -1,17 +1,17 @@
 -- The marks of the atoms that were visited. Assumes nothing.
-use Prim.Native.Nat.{ℕ, zero, suc, ◌+◌, ◌*◌, ◌<◌, ◌≤◌}
+use Prim.Native.Nat.{ℕ, zero, suc, ◌+◌, ◌<◌, ◌≤◌}
 use native.Mathlib.Omega.{arith}
 use native.Mathlib.Numerals.{add-one}
 use mathlib.Core.Path.{◌≡◌, refl, sym, ap, ◌∙◌, subst}
 use mathlib.Core.Bool.{Bool, true, false, ◌||◌, cond}
 use mathlib.Core.List.{List, [], ◌∷◌, ◌++◌}
-use lib.ListN.{length, get_or, set, length-append, length-set}
+use lib.ListN.{length, get_or, set, length-append}
 use lib.Seq.{get_or-set_same, get_or-set_other}
 use lib.Dec.{eqb, ltb}
-use borrow.Author.Tests.{eq-eqb, ne_eqb, eqb-true, eqb-false, lt-ltb, ltb-true, ltb-false, le-ltb}
+use borrow.Author.Tests.{eq-eqb, ne_eqb, eqb-true, eqb-false, le-ltb}
 use Rattle.loops.specs.Loop.{pick}
 use Rattle.writing_walk.specs.Walk.{member, place}
-use Rattle.writing_walk.proofs.Count.{bit, count, All, none, more, all_append, eqb_same, never}
+use Rattle.writing_walk.proofs.Count.{bit, count, none, more, all_append, eqb_same, never}
 use Rattle.writing_walk.proofs.Walk.{times, Once, absent, once-add, member-append}
 use Rattle.writing_walk.proofs.Trip.{below_suc, all-count, place_at}
 use Rattle.writing_visit.specs.Visit.{walk_mark, unseen, Visited}

@@ -12,7 +12,7 @@ use Rattle.writing_walk.specs.Token.{Bond, bond, eq_bond}
 use Rattle.writing_walk.specs.Emit.{Forest, leaf, node, size, pre, done, done_all}
 use Rattle.writing_walk.specs.Walk.{Neighbour, neighbour, member, neighbours, roots, place, renumber}
 use Rattle.writing_walk.proofs.Count.{bit, count, count-append, eqb_same, bond-same, All, none, more, all_map, all_append}
-use Rattle.writing_walk.proofs.Read.{Back, below, closes_at, ClosesAt}
+use Rattle.writing_walk.proofs.Read.{Back, closes_at, ClosesAt}
 use Rattle.writing_walk.proofs.Walk.{times, range, Once, Dfs, end, skip, visit, Inside}
 use Rattle.writing_walk.proofs.Trip.{dfs-all, placed, place-inj, size-length, all-has}
 

@@ -1,5 +1,5 @@
 -- 01, When a call says no, 15: "the written branches nest over 64 deep"
-use Rattle.std.specs.Prelude.{Bool, true, false, ◌&&◌, List, [], ◌∷◌, ℕ, zero, suc, ltb}
+use Rattle.std.specs.Prelude.{Bool, true, ◌&&◌, List, [], ◌∷◌, ℕ, zero, suc, ltb}
 use Rattle.writing_walk.specs.Token.{Tok, apart, along, ring, branch, back}
 
 -- the most open branches

@@ -1,7 +1,7 @@
 -- auxiliary: emission by rows in walk order, with no tree and no stack: what stands before an atom depends on two flags of its row
-use Rattle.std.specs.Prelude.{Bool, true, false, cond, List, [], ◌∷◌, ◌++◌, ℕ, zero, suc, ◌+◌, eqb}
+use Rattle.std.specs.Prelude.{Bool, true, false, cond, List, [], ◌∷◌, ◌++◌, ℕ, zero, suc, eqb}
 use Rattle.writing_walk.specs.Token.{Bond, Tok, apart, along, branch, back}
-use Rattle.writing_walk.specs.Emit.{Forest, leaf, node, size, Slot, rings, ring_toks}
+use Rattle.writing_walk.specs.Emit.{Forest, leaf, node, Slot, rings, ring_toks}
 use Rattle.writing_walk.specs.Walk.{member}
 pub use Rattle.writing_walk.specs.Parents.{ups}
 

@@ -1,5 +1,5 @@
 -- auxiliary: reading tokens as a fold of a token step, for the round trip
-use Rattle.std.specs.Prelude.{Bool, true, false, cond, List, [], ◌∷◌, ◌++◌, ℕ, zero, suc}
+use Rattle.std.specs.Prelude.{Bool, true, false, List, [], ◌∷◌, ◌++◌, ℕ, zero, suc}
 use Rattle.kinds.specs.Kind.{meet}
 use Rattle.writing_walk.specs.Token.{Bond, bond, bond_between, Tok, apart, along, ring, branch, back}
 

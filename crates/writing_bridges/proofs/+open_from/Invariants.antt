@@ -1,8 +1,4 @@
-use Prim.Native.Nat.{ℕ, ◌-◌, ◌<◌}
-use mathlib.Core.Path.{refl, ◌∙◌}
-use native.Mathlib.Omega.{arith}
-use borrow.Author.Tests.{not-true, not-false}
-use Rattle.writing_bridges.proofs.Laws.{open-end, open_full, open_next}
+use Prim.Native.Nat.{◌-◌}
 use Rattle.writing_bridges.proofs.+open_from.Given as goal
 
 abbrev pub decreases-open_from : goal.decreases-open_from

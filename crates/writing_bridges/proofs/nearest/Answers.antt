@@ -1,7 +1,7 @@
 use Rattle.writing_bridges.proofs.Laws.{near-start}
 use Rattle.writing_bridges.specs.Slots.{Near}
 use mathlib.Core.Path.{◌≡◌, subst}
-use Prim.Native.Nat.{ℕ, ◌-◌, ◌≤◌}
+use Prim.Native.Nat.{ℕ}
 use native.Mathlib.Omega.{arith}
 use Rattle.writing_bridges.proofs.nearest.Goals as goal
 

@@ -1,8 +1,5 @@
-use Rattle.writing_bridges.proofs.Laws.{near-start}
 use Rattle.writing_bridges.specs.Slots.{Near}
-use mathlib.Core.Path.{◌≡◌, subst}
-use Prim.Native.Nat.{ℕ, ◌-◌, ◌≤◌}
-use native.Mathlib.Omega.{arith}
+use Prim.Native.Nat.{◌-◌, ◌≤◌}
 use Rattle.writing_bridges.proofs.nearest.Given as goal
 
 abbrev pub invariant-loop-i : goal.invariant-loop-i

@@ -1,7 +1,4 @@
 use Rattle.writing_bridges.proofs.Slots.{looked-hit, looked-pass, looked-end}
-use Rattle.writing_bridges.specs.Slots.{Looked}
-use lib.ListN.{length}
-use Prim.Native.Nat.{◌-◌}
 use native.Mathlib.Omega.{arith}
 use Rattle.writing_bridges.proofs.slot_from.Goals as goal
 

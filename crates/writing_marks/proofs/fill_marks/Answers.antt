@@ -1,7 +1,5 @@
-use Prim.Native.Nat.{◌-◌}
 use native.Mathlib.Omega.{arith}
-use Rattle.loops.proofs.Loops.{Edited, fills, edited-start, filled-step, filled-end}
-use Rattle.table.specs.Orders.{turned_mark, at_end}
+use Rattle.loops.proofs.Loops.{edited-start, filled-step, filled-end}
 use Rattle.table.proofs.Valid.{mark-small}
 use Rattle.table.proofs.Sound.{not-unfit}
 use Rattle.writing_marks.proofs.fill_marks.Goals as goal

@@ -1,9 +1,6 @@
 use Prim.Native.Nat.{◌-◌}
-use native.Mathlib.Omega.{arith}
-use Rattle.loops.proofs.Loops.{Edited, fills, edited-start, filled-step, filled-end}
+use Rattle.loops.proofs.Loops.{Edited, fills}
 use Rattle.table.specs.Orders.{turned_mark, at_end}
-use Rattle.table.proofs.Valid.{mark-small}
-use Rattle.table.proofs.Sound.{not-unfit}
 use Rattle.writing_marks.proofs.fill_marks.Given as goal
 
 abbrev pub invariant-loop-a : goal.invariant-loop-a

@@ -1,8 +1,5 @@
-use Prim.Native.Nat.{◌-◌}
 use native.Mathlib.Omega.{arith}
-use mathlib.Core.Path.{◌≡◌, refl, ◌∙◌}
-use lib.ListN.{length}
-use Rattle.writing_marks.specs.Marks.{Ranked}
+use mathlib.Core.Path.{refl, ◌∙◌}
 use Rattle.writing_marks.proofs.Laws.{ranked-start, ranked-step, ranked-end}
 use Rattle.writing_marks.proofs.fill_ranks.Goals as goal
 

@@ -1,9 +1,7 @@
 use Prim.Native.Nat.{◌-◌}
-use native.Mathlib.Omega.{arith}
-use mathlib.Core.Path.{◌≡◌, refl, ◌∙◌}
+use mathlib.Core.Path.{◌≡◌}
 use lib.ListN.{length}
 use Rattle.writing_marks.specs.Marks.{Ranked}
-use Rattle.writing_marks.proofs.Laws.{ranked-start, ranked-step, ranked-end}
 use Rattle.writing_marks.proofs.fill_ranks.Given as goal
 
 abbrev pub invariant-loop-b : goal.invariant-loop-b

@@ -1,9 +1,7 @@
-use Prim.Native.Nat.{◌-◌}
 use native.Mathlib.Omega.{arith}
 use mathlib.Core.Path.{sym, ◌∙◌}
 use borrow.Author.Tests.{eq-eqb, ne_eqb}
-use Rattle.loops.proofs.Loops.{Left, left-start, left-pass, left-fail, left_end}
-use Rattle.writing_marks.specs.Marks.{unmarked}
+use Rattle.loops.proofs.Loops.{left-start, left-pass, left-fail, left_end}
 use Rattle.writing_marks.proofs.none_marked.Goals as goal
 
 pub loop-a-init : goal.loop-a-init

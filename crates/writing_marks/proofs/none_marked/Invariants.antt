@@ -1,8 +1,5 @@
 use Prim.Native.Nat.{◌-◌}
-use native.Mathlib.Omega.{arith}
-use mathlib.Core.Path.{sym, ◌∙◌}
-use borrow.Author.Tests.{eq-eqb, ne_eqb}
-use Rattle.loops.proofs.Loops.{Left, left-start, left-pass, left-fail, left_end}
+use Rattle.loops.proofs.Loops.{Left}
 use Rattle.writing_marks.specs.Marks.{unmarked}
 use Rattle.writing_marks.proofs.none_marked.Given as goal
 

@@ -1,6 +1,4 @@
-use Rattle.writing_visit.specs.Straight.{Cleared}
-use Rattle.writing_visit.proofs.Passed.{cleared-start, cleared-step, cleared-end}
-use Prim.Native.Nat.{◌-◌, ◌≤◌}
+use Rattle.writing_visit.proofs.Passed.{cleared-step, cleared-end}
 use mathlib.Core.Path.{refl}
 use native.Mathlib.Omega.{arith}
 use Rattle.writing_visit.proofs.clear.Goals as goal

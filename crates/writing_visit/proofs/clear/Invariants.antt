@@ -1,8 +1,5 @@
 use Rattle.writing_visit.specs.Straight.{Cleared}
-use Rattle.writing_visit.proofs.Passed.{cleared-start, cleared-step, cleared-end}
 use Prim.Native.Nat.{◌-◌, ◌≤◌}
-use mathlib.Core.Path.{refl}
-use native.Mathlib.Omega.{arith}
 use Rattle.writing_visit.proofs.clear.Given as goal
 
 abbrev pub invariant-loop-a : goal.invariant-loop-a

@@ -1,7 +1,6 @@
 use borrow.Author.Tests.{eqb-true}
-use Rattle.writing_visit.specs.Straight.{Held}
-use Rattle.writing_visit.proofs.Passed.{held_start, up-less, held_up, held-cast}
-use Prim.Native.Nat.{ℕ, ◌-◌, ◌<◌, ◌≤◌}
+use Rattle.writing_visit.proofs.Passed.{up-less, held_up, held-cast}
+use Prim.Native.Nat.{ℕ, ◌-◌, ◌<◌}
 use mathlib.Core.Path.{◌≡◌}
 use native.Mathlib.Omega.{arith}
 use Rattle.writing_visit.proofs.is_above.Goals as goal

@@ -1,9 +1,5 @@
-use borrow.Author.Tests.{eqb-true}
 use Rattle.writing_visit.specs.Straight.{Held}
-use Rattle.writing_visit.proofs.Passed.{held_start, up-less, held_up, held-cast}
-use Prim.Native.Nat.{ℕ, ◌-◌, ◌<◌, ◌≤◌}
-use mathlib.Core.Path.{◌≡◌}
-use native.Mathlib.Omega.{arith}
+use Prim.Native.Nat.{◌≤◌}
 use Rattle.writing_visit.proofs.is_above.Given as goal
 
 abbrev pub invariant-loop-a : goal.invariant-loop-a

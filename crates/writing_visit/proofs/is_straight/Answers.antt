@@ -1,8 +1,5 @@
-use Rattle.writing_visit.specs.Straight.{Passed}
-use Rattle.writing_visit.specs.Wires.{wires}
 use Rattle.writing_visit.proofs.Passed.{nested-of, passed_start, passed-clear, passed-all}
-use lib.ListN.{length}
-use Prim.Native.Nat.{ℕ, ◌-◌, ◌<◌, ◌≤◌}
+use Prim.Native.Nat.{ℕ, ◌<◌}
 use mathlib.Core.Path.{◌≡◌, refl, ◌∙◌}
 use native.Mathlib.Omega.{arith}
 use native.Mathlib.Numerals.{add-one}

@@ -1,11 +1,8 @@
 use Rattle.writing_visit.specs.Straight.{Passed}
 use Rattle.writing_visit.specs.Wires.{wires}
-use Rattle.writing_visit.proofs.Passed.{nested-of, passed_start, passed-clear, passed-all}
 use lib.ListN.{length}
-use Prim.Native.Nat.{ℕ, ◌-◌, ◌<◌, ◌≤◌}
-use mathlib.Core.Path.{◌≡◌, refl, ◌∙◌}
-use native.Mathlib.Omega.{arith}
-use native.Mathlib.Numerals.{add-one}
+use Prim.Native.Nat.{◌-◌, ◌≤◌}
+use mathlib.Core.Path.{◌≡◌}
 use Rattle.writing_visit.proofs.is_straight.Given as goal
 
 abbrev pub invariant-loop-b : goal.invariant-loop-b

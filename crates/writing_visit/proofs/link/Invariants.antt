@@ -1,6 +1,4 @@
-use Rattle.writing_visit.proofs.Wires.{Joined, LinkedLengths, linked-lengths, linked-then, joined-start, joined_step, joined_end}
-use native.Mathlib.Omega.{arith}
-use Prim.Native.Nat.{◌-◌, ◌<◌}
+use Rattle.writing_visit.proofs.Wires.{Joined, LinkedLengths}
 use Rattle.writing_visit.proofs.link.Given as goal
 
 abbrev pub invariant-loop-b : goal.invariant-loop-b

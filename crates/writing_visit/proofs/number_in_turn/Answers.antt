@@ -1,8 +1,6 @@
-use Rattle.writing_visit.specs.Straight.{InTurn}
-use Rattle.writing_visit.proofs.Passed.{turn-start, turn_step, turn_end}
-use lib.ListN.{length, length-set}
-use Prim.Native.Nat.{◌-◌, ◌≤◌}
-use mathlib.Core.Path.{◌≡◌, refl}
+use Rattle.writing_visit.proofs.Passed.{turn_step, turn_end}
+use lib.ListN.{length-set}
+use mathlib.Core.Path.{refl}
 use native.Mathlib.Omega.{arith}
 use Rattle.writing_visit.proofs.number_in_turn.Goals as goal
 

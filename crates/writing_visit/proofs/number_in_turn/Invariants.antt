@@ -1,9 +1,7 @@
 use Rattle.writing_visit.specs.Straight.{InTurn}
-use Rattle.writing_visit.proofs.Passed.{turn-start, turn_step, turn_end}
-use lib.ListN.{length, length-set}
-use Prim.Native.Nat.{◌-◌, ◌≤◌}
-use mathlib.Core.Path.{◌≡◌, refl}
-use native.Mathlib.Omega.{arith}
+use lib.ListN.{length}
+use Prim.Native.Nat.{◌-◌}
+use mathlib.Core.Path.{◌≡◌}
 use Rattle.writing_visit.proofs.number_in_turn.Given as goal
 
 abbrev pub invariant-loop-a : goal.invariant-loop-a

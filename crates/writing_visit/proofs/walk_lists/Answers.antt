@@ -1,10 +1,7 @@
 use Rattle.writing_visit.proofs.Lists.{fit_wide}
 use Rattle.writing_visit.proofs.Wires.{fit_same, linked-same, wired-at, walked-table, link-room, places-kept}
 use Rattle.writing_visit.proofs.Laws.{kept_same, kept_then, room-kept}
-use Rattle.writing_visit.proofs.Roots.{Sofar, sofar-start, sofar-step, sofar-end}
-use Rattle.writing_visit.specs.Visit.{Kept, walk_arrays}
-use Rattle.writing_visit.specs.Wires.{wires}
-use Prim.Native.Nat.{◌-◌}
+use Rattle.writing_visit.proofs.Roots.{sofar-start, sofar-step, sofar-end}
 use mathlib.Core.Path.{refl}
 use native.Mathlib.Omega.{arith}
 use Rattle.writing_visit.proofs.walk_lists.Goals as goal

@@ -1,10 +1,8 @@
 use Rattle.writing_bridges.proofs.BondArrays.{bag-grows, bag-room, marked_start}
-use Rattle.writing_bridges.specs.Unused.{BondArrays, bond_arrays, add_bond, in_walk, Marked}
+use Rattle.writing_bridges.specs.Unused.{BondArrays, bond_arrays, in_walk}
 use Rattle.writing_visit.specs.Wires.{wires}
-use Rattle.loops.proofs.Loops.{Ran, ran-start, ran-step, ran-end}
-use mathlib.Core.Path.{◌≡◌, refl, ap, ◌∙◌}
-use lib.ListN.{length}
-use Prim.Native.Nat.{◌-◌, ◌≤◌}
+use Rattle.loops.proofs.Loops.{ran-start, ran-step, ran-end}
+use mathlib.Core.Path.{refl, ap, ◌∙◌}
 use native.Mathlib.Omega.{arith}
 use Rattle.writing_bridges.proofs.unused.unused.Goals as goal
 

@@ -1,11 +1,9 @@
-use Rattle.writing_bridges.proofs.BondArrays.{bag-grows, bag-room, marked_start}
-use Rattle.writing_bridges.specs.Unused.{BondArrays, bond_arrays, add_bond, in_walk, Marked}
+use Rattle.writing_bridges.specs.Unused.{bond_arrays, add_bond, in_walk, Marked}
 use Rattle.writing_visit.specs.Wires.{wires}
-use Rattle.loops.proofs.Loops.{Ran, ran-start, ran-step, ran-end}
-use mathlib.Core.Path.{◌≡◌, refl, ap, ◌∙◌}
+use Rattle.loops.proofs.Loops.{Ran}
+use mathlib.Core.Path.{◌≡◌}
 use lib.ListN.{length}
 use Prim.Native.Nat.{◌-◌, ◌≤◌}
-use native.Mathlib.Omega.{arith}
 use Rattle.writing_bridges.proofs.unused.unused.Given as goal
 
 abbrev pub invariant-loop-b : goal.invariant-loop-b
