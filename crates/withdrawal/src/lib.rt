@@ -1,5 +1,6 @@
 // The withdrawal check: a withdrawn text is withdrawn in every drawing.
 #![tactic(auto)]
+
 ghost use Rattle.std.specs.Prelude.{◌≡◌};
 ghost use Rattle.withdrawal.specs.Withdrawal.{withdrew, withdraw_of, Answered};
 ghost use Rattle.withdrawal.specs.Answer.{out_of};
