@@ -1,5 +1,6 @@
 // Atoms that are alike: where the image of one under a list that keeps all that is looked at cannot come next, neither can it. The lists are guesses, and checked. Every function here is internal.
 #![tactic(auto)]
+
 ghost use Rattle.std.specs.Prelude.{◌≡◌, true, List, [], ℕ, ◌+◌, ◌-◌, ◌<◌, ◌≤◌, take, get_or, length};
 ghost use Rattle.loops.specs.Loop.{each};
 ghost use Rattle.same_model.specs.Same.{max_same};

@@ -1,5 +1,6 @@
 // The search for a renumbering between matrices with open bonds, which passes over atoms like one that led nowhere: which atoms are alike is guessed and checked. Every function here is internal.
 #![tactic(auto)]
+
 ghost use Rattle.std.specs.Prelude.{◌≡◌, true, false, List, ℕ, ◌<◌, ◌≤◌};
 ghost use Rattle.same_model.specs.Same.{max_same, image};
 ghost use Rattle.same_open.specs.Open.{bit, Goes, Faces, Among};

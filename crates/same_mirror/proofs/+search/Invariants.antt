@@ -1,0 +1,12 @@
+use Rattle.std.proofs.Common.{◌-◌}
+use Rattle.same_mirror.proofs.Passing.{Passed}
+use Rattle.same_mirror.proofs.+search.Given as goal
+
+abbrev pub decreases-search : goal.decreases-search
+decreases-search l = l.rest
+
+abbrev pub invariant-loop-d : goal.invariant-loop-d
+invariant-loop-d l = Passed l.p l.allowed l.cand l.n l.v l.budget l.dead l.left l.d
+
+abbrev pub decreases-loop-d : goal.decreases-loop-d
+decreases-loop-d l = l.n - l.d

@@ -1,0 +1,12 @@
+use Prim.Native.Nat.{◌-◌}
+use mathlib.Core.Path.{◌≡◌}
+use native.Mathlib.Omega.{arith}
+use Rattle.same_model.specs.Same.{image}
+use Rattle.same_mirror.proofs.Checking.{All, all_start, all-step, all_end, refused}
+use Rattle.same_mirror.proofs.is_own.Given as goal
+
+abbrev pub invariant-loop-e : goal.invariant-loop-e
+invariant-loop-e l = All (λ x. image l.like x ≡ image l.like l.d → ⊥) l.d l.e
+
+abbrev pub decreases-loop-e : goal.decreases-loop-e
+decreases-loop-e l = l.d - l.e

@@ -1,0 +1,11 @@
+use Prim.Native.Nat.{◌-◌}
+use mathlib.Core.Logic.{⊎_elim}
+use native.Mathlib.Omega.{arith}
+use Rattle.same_mirror.proofs.Passing.{Marked, mark-start, mark-same, mark-more, mark-own}
+use Rattle.same_mirror.proofs.mark.Given as goal
+
+abbrev pub invariant-loop-e : goal.invariant-loop-e
+invariant-loop-e l = Marked l.allowed l.cand l.n l.v l.d l.initial.dead l.budget l.dead l.left l.e
+
+abbrev pub decreases-loop-e : goal.decreases-loop-e
+decreases-loop-e l = l.n - l.e
