@@ -1,5 +1,6 @@
 // The key of a molecule: redrawings have equal keys.
 #![tactic(auto)]
+
 ghost use Rattle.std.specs.Prelude.{◌≡◌, ◌*◌, ◌≤◌, length};
 ghost use Rattle.ids.specs.Small.{small};
 ghost use Rattle.table.specs.Limits.{atom_cells, bond_cells};
