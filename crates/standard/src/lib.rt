@@ -1,5 +1,6 @@
 // One call from a text to the text kekulized: reading, the first matching, kekulizing and writing.
 #![tactic(auto)]
+
 ghost use Rattle.std.specs.Prelude.{◌≡◌, true, ◌≤◌, length, replicate};
 ghost use Rattle.refusal.specs.Code.{code_of};
 ghost use Rattle.table.specs.Limits.{max_atoms, max_bonds};
