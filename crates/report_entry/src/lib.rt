@@ -1,5 +1,6 @@
 // The line of the report for a text, by the functions behind the call from text to text.
 #![tactic(auto)]
+
 ghost use Rattle.std.specs.Prelude.{◌≤◌, length, replicate};
 ghost use Rattle.refusal.specs.Code.{code_of};
 ghost use Rattle.table.specs.Limits.{max_atoms};
