@@ -1,5 +1,6 @@
 // The search for the smallest renumbering that carries one matrix onto another: first as it comes, under a budget, then with keys made finer at each step. Every function here is internal.
 #![tactic(auto)]
+
 ghost use Rattle.std.specs.Prelude.{◌≡◌, List, [], ℕ, ◌<◌, ◌≤◌, ◌-◌, ◌*◌, take, get_or, length};
 ghost use Rattle.loops.specs.Loop.{each};
 ghost use Rattle.same_model.specs.Same.{max_same};
