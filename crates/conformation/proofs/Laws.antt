@@ -1,14 +1,14 @@
 -- A law for each way through the code. Assumes nothing.
 use Prim.Native.Nat.{ℕ, ◌-◌, ◌≤◌, ◌<◌}
 use native.Mathlib.Omega.{arith}
-use mathlib.Core.Path.{◌≡◌, refl, sym, ap, ◌∙◌}
-use mathlib.Core.Bool.{Bool, true, false, ◌&&◌, ◌||◌, not}
+use mathlib.Core.Path.{◌≡◌, sym, ap, ◌∙◌}
+use mathlib.Core.Bool.{true, false, ◌||◌}
 use mathlib.Core.List.{List, ◌++◌}
 use lib.ListN.{length, take, drop, replicate}
 use lib.IntN.{ℤ}
-use lib.Dec.{eqb, leb, ltb}
+use lib.Dec.{eqb, ltb}
 use borrow.Author.Tests.{eq-eqb, ne_eqb, le-leb, lt-leb}
-use Rattle.loops.specs.Loop.{pick, up_to}
+use Rattle.loops.specs.Loop.{up_to}
 use Rattle.loops.proofs.Loops.{filled-part}
 use Rattle.kinds.specs.Kind.{elided, double}
 use Rattle.table.specs.Limits.{max_bonds}
@@ -17,7 +17,7 @@ use Rattle.table.specs.Valid.{enough}
 use Rattle.table.specs.Sound.{sound}
 use Rattle.table.specs.Marks.{side}
 use Rattle.conformation.specs.declared.Lowest.{Lowest}
-use Rattle.conformation.specs.Sides.{other_end, is_lower, lower, lowest_of, compared, side_of, SidesReply, sides_reply, sides_of}
+use Rattle.conformation.specs.Sides.{other_end, lower, lowest_of, compared, side_of, sides_reply, sides_of}
 
 -- ---- the other end
 module _ (bonds : List ℤ) (a b : ℕ) {e : ℕ} (e1 : e ≡ end1 bonds b) where

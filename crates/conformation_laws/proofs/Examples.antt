@@ -30,7 +30,7 @@ use Rattle.reading.specs.Bracket.{symbolled}
 use Rattle.reading.specs.Act.{atom_act, bridge_act, branch_act, mode_act, act}
 use Rattle.reading.specs.Read.{hydrogenated, overfull_atoms, text_rank, leftmost, ended, read_from, read_of}
 use Rattle.examples.specs.Said.{said}
-use Rattle.writing_walk.specs.Same.{Perm, nil, cons, swap}
+use Rattle.writing_walk.specs.Same.{nil, cons, swap}
 use Rattle.roundtrip.specs.Claims.{numbered}
 use Rattle.conformation_laws.specs.Claims.{Renumbers, swaps}
 

@@ -1,9 +1,8 @@
 -- The texts that 01 marks with †, and those of 02's P1, P5 and P8, as one table under one theorem, by computation. Assumes nothing.
 use mathlib.Core.Path.{◌≡◌, refl}
-use mathlib.Core.Bool.{Bool, true, false, ◌&&◌, ◌||◌, not}
 use mathlib.Core.List.{List, [], ◌∷◌, map}
 use Prim.Native.Nat.{ℕ}
-use lib.IntN.{ℤ, pos, negsuc}
+use lib.IntN.{pos, negsuc}
 use Rattle.kinds.specs.Kind.{order, symbol_kind, bond_symbol, mark_of, turned}
 use Rattle.loops.specs.Loop.{each, how_many, run, up_to}
 use Rattle.element.specs.Symbols.{among, listed, starts, same_bytes, symbols, letters, marks}

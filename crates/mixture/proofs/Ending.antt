@@ -15,7 +15,7 @@ use Rattle.reading_grammar.specs.declared.MachineState.{MachineState}
 use Rattle.reading_grammar.specs.Machine.{accepting}
 use Rattle.reading_grammar.specs.Fold.{going}
 use Rattle.table.specs.Limits.{atom_cells}
-use Rattle.table.specs.Cells.{number, element, selected}
+use Rattle.table.specs.Cells.{number}
 use Rattle.table.specs.declared.Atom.{Atom}
 use Rattle.table.specs.Rows.{atom_row}
 use Rattle.table.specs.Orders.{turns}

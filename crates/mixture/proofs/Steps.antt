@@ -22,7 +22,7 @@ use Rattle.table.specs.Rows.{atom_row, with_bond}
 use Rattle.reading.specs.Memory.{Memory, kind_of, new_bond, bare_row, bonded, begun, described}
 use Rattle.reading.specs.Act.{first_byte_of, atom_act}
 use Rattle.reading.proofs.Cases.{by-test}
-use Rattle.reading.proofs.Atoms.{Ready, Held, begun-held, bond-room}
+use Rattle.reading.proofs.Atoms.{Ready, Held, begun-held}
 use Rattle.mixture_rows.specs.Beside.{raised_row, BondsBeside}
 use Rattle.mixture.proofs.Rows.{clear-rows, atoms-written, bonds-written}
 use Rattle.mixture.proofs.Behind.{Grounded, Behind, Grown, Room, Side, Both}

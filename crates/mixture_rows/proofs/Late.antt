@@ -6,7 +6,7 @@ use mathlib.Core.List.{List}
 use lib.IntN.{ℤ}
 use lib.Dec.{eqb, leb, ltb}
 use Rattle.kinds.specs.Kind.{double, up, down, is_mark}
-use Rattle.table.specs.Cells.{number, end1, end2, selected}
+use Rattle.table.specs.Cells.{number, end1, end2}
 use Rattle.table.specs.Marks.{crowded, crowded_bond, none_crowded, stray, none_stray, double_count}
 use Rattle.table.specs.Sound.{loose, none_loose, unfit, none_unfit, late_code}
 use Rattle.table.proofs.Sound.{late-none, late-fine}

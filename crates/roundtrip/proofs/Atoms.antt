@@ -15,7 +15,6 @@ use Rattle.element.specs.Symbols.{among, letters}
 use Rattle.element.specs.Lookup.{selected_of, letter_of, bare}
 use Rattle.reading_grammar.specs.declared.Last.TheVariants.{Plain as plain}
 use Rattle.reading_grammar.specs.declared.MachineState.{MachineState}
-use Rattle.reading_grammar.specs.declared.MachineState.TheVariants.{At as at}
 use Rattle.reading_grammar.specs.Machine.{atom_or}
 use Rattle.valence.specs.Valence.{implied}
 use Rattle.table_graph.specs.Graph.{bond_sum}

@@ -11,7 +11,7 @@ use borrow.Author.Tests.{eqb-true, eq-eqb}
 use Rattle.kinds.specs.Kind.{max_kind}
 use Rattle.loops.specs.Loop.{up_to}
 use Rattle.loops.proofs.Loops.{and_left, and_right, length-up_to}
-use Rattle.table.specs.Cells.{number, end1, end2, kind, bond_cell}
+use Rattle.table.specs.Cells.{number, end1, end2, bond_cell}
 use Rattle.table.specs.Limits.{FIRST, SECOND, KIND}
 use Rattle.table.specs.Valid.{Valid, same_ends}
 use Rattle.table.proofs.Valid.{kind-small, apart-at}

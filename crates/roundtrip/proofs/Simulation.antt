@@ -23,7 +23,6 @@ use Rattle.reading.specs.Memory as bytes
 use Rattle.reading.specs.Act.{bridge_bond, bridge_act}
 use Rattle.writing_walk.specs.Token.{Bond, bond, bond_between, ring}
 use Rattle.writing_walk.specs.Reading.{Closure, vacant, at, closure_at, St, st, bridge}
-use Rattle.writing_walk.specs.Reading as token
 use Rattle.writing_walk.specs.Check.{ends, some, refused_bridge}
 use Rattle.writing_walk.specs.Keyed.{Keys, Keyed, keyed, state_of, time_of, stamps_of, keys_of, set_stamp, stamp_for, bridge_keys, step_keyed}
 use Rattle.writing_walk.proofs.Count.{All, more, all_map, all-at}

@@ -8,7 +8,7 @@ use Rattle.table.specs.Limits.{atom_cells, bond_cells, MARK}
 use Rattle.table.specs.Cells.{atom_cell, mark}
 use Rattle.table.specs.Sound.{sound}
 use Rattle.table.specs.Orders.{bonds_at}
-use Rattle.ids.specs.Limits.{bridges, max_text}
+use Rattle.ids.specs.Limits.{max_text}
 use Rattle.reading.specs.Read.{ReadResult, refused, read_of}
 use Rattle.writing_walk.specs.Token.{Bond, bond_between}
 use Rattle.writing_walk.specs.Same.{Perm}

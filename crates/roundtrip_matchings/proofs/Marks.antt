@@ -1,5 +1,5 @@
 -- How many marks place a neighbour on a side of an atom, and how many double bonds an atom has, are sums over its bonds: so a renumbering keeps them, and with them that 20 and 21 are not given. Assumes nothing.
-use Prim.Native.Nat.{ℕ, zero, suc, ◌+◌, ◌<◌, ◌≤◌}
+use Prim.Native.Nat.{ℕ, zero, suc, ◌+◌, ◌<◌}
 use native.Mathlib.Omega.{arith}
 use mathlib.Core.Path.{◌≡◌, refl, sym, ap, subst, ◌∙◌}
 use mathlib.Core.Bool.{Bool, true, false, ◌&&◌, ◌||◌, not, cond}
@@ -11,8 +11,8 @@ use Rattle.kinds.proofs.Kind.{turned-mark_of, turned-double, turned-mark}
 use Rattle.loops.specs.Loop.{pick, each, how_many, up_to}
 use Rattle.loops.proofs.Loops.{each_at, each_all, length-up_to, up_to-at}
 use Rattle.table.specs.Cells.{end1, end2, kind, touches}
-use Rattle.table.specs.Marks.{side, side_count, double_at, double_count, crowded, crowded_bond, none_crowded, stray, none_stray}
-use lib.ListN.{length, get_or}
+use Rattle.table.specs.Marks.{side, side_count, double_at, double_count, crowded, none_crowded, none_stray}
+use lib.ListN.{length}
 use Rattle.writing_walk.specs.Token.{Bond, bond}
 use Rattle.writing_walk.specs.Emit.{pre}
 use Rattle.writing_walk.specs.Walk.{forest_of, place}

@@ -17,7 +17,6 @@ use Rattle.valence.specs.Valence.{delocalized}
 use Rattle.table.specs.Cells.{touches}
 use Rattle.table.specs.Sound.{count_bond, bond_degree}
 use Rattle.table_graph.specs.Graph.{share, add_share, bond_sum, flag, delocalized_flag, delocalized_flags, graph_of}
-use Rattle.writing_walk.specs.Token.{bond}
 use Rattle.writing_walk.specs.Walk.{place, renumber}
 use Rattle.writing_walk.proofs.Walk.{Inside}
 use Rattle.writing_walk.proofs.Trip.{Renumbering, place-lt}

@@ -1,16 +1,15 @@
 -- What each answer of writing leaves behind. Assumes nothing.
 use Prim.Native.Nat.{ℕ, zero, suc, ◌+◌, ◌-◌, ◌<◌, ◌≤◌}
 use native.Mathlib.Omega.{arith}
-use native.Mathlib.Numerals.{add-one}
-use mathlib.Core.Path.{◌≡◌, refl, sym, ap, ◌∙◌, subst}
-use mathlib.Core.Bool.{Bool, true, false, ◌&&◌}
-use mathlib.Core.List.{List, [], ◌∷◌, ◌++◌, append_assoc, append-nil}
-use lib.ListN.{length, get_or, set, take, drop, replicate, length-append, length-replicate, length-take, length-drop, take-append-drop, drop_of_length-le, replicate-append-replicate}
-use lib.Seq.{drop-cons, set_at, take_at, take-append-le, length-take-le}
+use mathlib.Core.Path.{◌≡◌, refl, sym, ap, ◌∙◌}
+use mathlib.Core.Bool.{Bool, true, false}
+use mathlib.Core.List.{List, ◌∷◌, ◌++◌}
+use lib.ListN.{length, get_or, take, drop, replicate, length-append, length-drop}
+use lib.Seq.{take_at, take-append-le, length-take-le}
 use lib.IntN.{ℤ}
-use lib.Dec.{leb, ltb}
-use borrow.Author.Tests.{le-leb, lt-leb, leb-true, leb-false, lt-ltb, le-ltb}
-use Rattle.loops.specs.Loop.{pick, up_to}
+use lib.Dec.{leb}
+use borrow.Author.Tests.{le-leb, lt-leb, leb-true, leb-false}
+use Rattle.loops.specs.Loop.{up_to}
 use Rattle.loops.proofs.Loops.{length-up_to}
 use Rattle.table.specs.Limits.{max_atoms}
 use Rattle.table.specs.Valid.{enough}
@@ -18,7 +17,7 @@ use Rattle.table.specs.Sound.{sound}
 use Rattle.ids.specs.Limits.{max_text}
 use Rattle.writing_walk.specs.Emit.{pre}
 use Rattle.writing_walk.specs.Walk.{forest_of, place}
-use Rattle.writing.specs.Write.{WriteResult, bond_list, tokens, text_of, renumbering, few_bridges, shallow, write_refused, write_short, filled, write_accepted, write_valid, lent, write_of}
+use Rattle.writing.specs.Write.{WriteResult, bond_list, text_of, renumbering, write_refused, write_short, filled, write_accepted, write_valid, write_of}
 use Rattle.buffer.specs.Buffer.{BufferAt, buffer_at, Wrote}
 use Rattle.buffer.proofs.Laws.{Laid, laid, over}
 use Rattle.writer.specs.Told.{Said}

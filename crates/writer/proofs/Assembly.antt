@@ -11,7 +11,7 @@ use borrow.Author.Tests.{eqb-true, eq-eqb}
 use Rattle.loops.specs.Loop.{up_to, run}
 use Rattle.loops.proofs.Loops.{length-up_to, up_to-at}
 use Rattle.table.specs.Limits.{ISOTOPE, EXTENSION, ELEMENT}
-use Rattle.table.specs.Cells.{number, atom_cell, mark, end1, end2}
+use Rattle.table.specs.Cells.{atom_cell, mark, end1, end2}
 use Rattle.table.specs.Valid.{Valid, same_ends}
 use Rattle.table.proofs.Valid.{atom-row, bond-row, kind-small, hydrogens-small, apart-at, range-high}
 use Rattle.table_graph.specs.Graph.{bond_sum}

@@ -1,19 +1,18 @@
 -- The nesting of the tokens, as the parents in walk order give it. Assumes nothing.
-use Prim.Native.Nat.{ℕ, zero, suc, ◌+◌, ◌-◌, ◌<◌, ◌≤◌}
+use Prim.Native.Nat.{ℕ, zero, suc, ◌+◌, ◌-◌, ◌≤◌}
 use native.Mathlib.Omega.{arith}
 use native.Mathlib.Numerals.{add-one}
-use mathlib.Core.Path.{◌≡◌, refl, sym, ap, ◌∙◌, subst}
+use mathlib.Core.Path.{◌≡◌, refl, sym, ap, ◌∙◌}
 use mathlib.Core.Bool.{Bool, true, false, ◌&&◌, cond}
 use mathlib.Core.List.{List, [], ◌∷◌, ◌++◌, append_assoc}
 use lib.ListN.{length, get_or}
 use lib.Dec.{eqb, leb, ltb}
-use borrow.Author.Tests.{eq-eqb, ne_eqb, le-leb, lt-leb, leb-true, leb-false, lt-ltb, le-ltb}
-use Rattle.loops.specs.Loop.{pick, up_to}
-use Rattle.table.specs.Limits.{max_atoms, max_bonds}
+use borrow.Author.Tests.{ne_eqb, le-leb, leb-true, leb-false, lt-ltb, le-ltb}
+use Rattle.loops.specs.Loop.{pick}
 use Rattle.ids.specs.Limits.{max_depth}
-use Rattle.writing_walk.specs.Token.{Bond, Tok, apart, along, ring, branch, back}
-use Rattle.writing_walk.specs.Emit.{Slot, find, release, lowest, insert, close_all, close_toks, open_toks, ring_toks}
-use Rattle.writing_walk.specs.Flat.{Position, root, first, later, WalkRow, lead, child, flat, position_of, rows_of}
+use Rattle.writing_walk.specs.Token.{Bond, Tok, back}
+use Rattle.writing_walk.specs.Emit.{Slot, release, insert, close_all, close_toks, open_toks, ring_toks}
+use Rattle.writing_walk.specs.Flat.{first, later, WalkRow, lead, child, flat, position_of}
 use Rattle.writing_walk.specs.Depth.{nests}
 use Rattle.writing_bridges.specs.Slots.{Bridged}
 use Rattle.writer.specs.Emit.{next_slots}

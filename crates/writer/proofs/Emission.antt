@@ -3,22 +3,21 @@ use Prim.Native.Nat.{ℕ, zero, suc, ◌+◌, ◌-◌, ◌<◌, ◌≤◌}
 use native.Mathlib.Omega.{arith}
 use native.Mathlib.Numerals.{add-one}
 use mathlib.Core.Path.{◌≡◌, refl, sym, ap, ◌∙◌, subst}
-use mathlib.Core.Bool.{Bool, true, false, not, ◌&&◌}
-use mathlib.Core.List.{List, [], ◌∷◌, ◌++◌, append_assoc, append-nil}
+use mathlib.Core.Bool.{Bool, true, false}
+use mathlib.Core.List.{List, [], ◌∷◌, ◌++◌}
 use lib.ListN.{length, get_or}
 use lib.IntN.{ℤ}
-use lib.Dec.{eqb}
 use borrow.Author.Tests.{eq-eqb, ne_eqb}
-use Rattle.loops.specs.Loop.{pick, up_to}
+use Rattle.loops.specs.Loop.{up_to}
 use Rattle.writing_walk.specs.Token.{Bond}
 use Rattle.writing_walk.specs.Emit.{Slot, close_all, open_all}
 use Rattle.writing_walk.specs.Walk.{closing_bonds, opening_bonds}
-use Rattle.writing_walk.proofs.Count.{count, All, none, more}
-use Rattle.writing_walk.proofs.Read.{open_of, Within, pending, Back, closes-within, inv-rings}
+use Rattle.writing_walk.proofs.Count.{All, none, more}
+use Rattle.writing_walk.proofs.Read.{open_of, Within, closes-within, inv-rings}
 use Rattle.writing_walk.proofs.Walk.{Inside}
 use Rattle.writing_walk.proofs.Trip.{back-of}
 use Rattle.writing.specs.Spell.{kind_bytes, spelled_atom}
-use Rattle.buffer.specs.Buffer.{BufferAt, buffer_at, Wrote}
+use Rattle.buffer.specs.Buffer.{BufferAt, Wrote}
 use Rattle.buffer.proofs.Laws.{also, as_is, nothing}
 use Rattle.writing_bridges.specs.Slots.{Bridged, Slots, closes_from, opens_from, fits, Ended}
 use Rattle.writer.specs.Emit.{leave_bytes, enter_bytes, lead_bytes, head_bytes, more_at, Emitted, Texted, Pending, next_slots, bytes_from, few_from}

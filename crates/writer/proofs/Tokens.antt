@@ -1,13 +1,13 @@
 -- The tokens of the walk, as the emission by arrays writes them. Assumes nothing.
-use Prim.Native.Nat.{ℕ, zero, suc, ◌+◌, ◌-◌, ◌<◌, ◌≤◌}
+use Prim.Native.Nat.{ℕ, zero, suc, ◌+◌, ◌<◌, ◌≤◌}
 use native.Mathlib.Omega.{arith}
-use mathlib.Core.Path.{◌≡◌, refl, sym, ap, ◌∙◌, subst}
-use mathlib.Core.Bool.{Bool, true, false, not, ◌&&◌, cond}
+use mathlib.Core.Path.{◌≡◌, refl, sym, ap, ◌∙◌}
+use mathlib.Core.Bool.{Bool, true, false, ◌&&◌, cond}
 use mathlib.Core.List.{List, [], ◌∷◌, ◌++◌, append_assoc, append-nil}
 use lib.ListN.{length, get_or, drop, drop_of_length-le}
 use lib.Seq.{drop-cons}
 use lib.Dec.{eqb, ltb}
-use borrow.Author.Tests.{eq-eqb, ne_eqb, eqb-true, eqb-false, lt-ltb, le-ltb, ltb-true, ltb-false}
+use borrow.Author.Tests.{ne_eqb, lt-ltb, le-ltb, ltb-true, ltb-false}
 use Rattle.kinds.specs.Kind.{bond_symbol}
 use Rattle.loops.specs.Loop.{pick, up_to}
 use Rattle.ids.specs.Limits.{bridges}
@@ -15,8 +15,7 @@ use Rattle.writing_walk.specs.Token.{Bond, Tok, apart, along, ring, branch, back
 use Rattle.writing_walk.specs.Emit.{Slot, find, release, lowest, insert, close_all, close_toks, open_all, open_toks, rings, ring_toks}
 use Rattle.writing_walk.specs.Walk.{member, closing_bonds, opening_bonds}
 use Rattle.writing_walk.specs.Flat.{Position, root, first, later, WalkRow, walk_row, lead, child, flat, position_of, rows_of}
-use Rattle.writing_walk.proofs.Count.{All, none, more, all_append}
-use Rattle.writing_walk.proofs.Read.{open_of, Within}
+use Rattle.writing_walk.proofs.Count.{All, none, more}
 use Rattle.writing_walk.proofs.Bridges.{Low, close-low, close-length, insert-length}
 use Rattle.writing.specs.Spell.{kind_bytes, bridge_bytes, token_bytes, rest_bytes, tokens_bytes}
 use Rattle.writing.specs.Write.{few_bridges}

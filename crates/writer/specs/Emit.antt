@@ -1,5 +1,5 @@
 -- auxiliary: emission by arrays: what is written at an atom of the walk (01, Writing)
-use Rattle.std.specs.Prelude.{ℕ, zero, suc, ◌+◌, ◌<◌, ◌≤◌, ◌≡◌, Bool, true, false, not, ◌&&◌, List, [], ◌∷◌, ◌++◌, length, get_or, ℤ, eqb}
+use Rattle.std.specs.Prelude.{ℕ, zero, suc, ◌<◌, ◌≤◌, ◌≡◌, Bool, true, false, not, ◌&&◌, List, [], ◌∷◌, ◌++◌, length, get_or, ℤ, eqb}
 use Rattle.loops.specs.Loop.{pick, up_to}
 use Rattle.table.specs.Limits.{max_atoms, max_bonds}
 use Rattle.writing_walk.specs.Token.{Bond}

@@ -1,5 +1,5 @@
 -- auxiliary: how deep the written branches nest, by the parents in walk order (01, Writing; refusal 15)
-use Rattle.std.specs.Prelude.{ℕ, zero, suc, ◌+◌, ◌-◌, Bool, true, false, ◌&&◌, List, get_or, eqb, leb, ltb}
+use Rattle.std.specs.Prelude.{ℕ, zero, suc, ◌+◌, ◌-◌, Bool, true, ◌&&◌, List, get_or, eqb, leb}
 use Rattle.loops.specs.Loop.{pick}
 use Rattle.ids.specs.Limits.{max_depth}
 

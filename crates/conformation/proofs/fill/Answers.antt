@@ -1,7 +1,5 @@
-use Prim.Native.Nat.{◌-◌}
 use native.Mathlib.Omega.{arith}
-use Rattle.loops.proofs.Loops.{Edited, fills, edited-start, filled-step, filled-end}
-use Rattle.conformation.specs.Sides.{side_of}
+use Rattle.loops.proofs.Loops.{edited-start, filled-step, filled-end}
 use Rattle.conformation.proofs.fill.Goals as goal
 
 pub loop-i-init : goal.loop-i-init

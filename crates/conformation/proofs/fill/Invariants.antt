@@ -1,6 +1,5 @@
 use Prim.Native.Nat.{◌-◌}
-use native.Mathlib.Omega.{arith}
-use Rattle.loops.proofs.Loops.{Edited, fills, edited-start, filled-step, filled-end}
+use Rattle.loops.proofs.Loops.{Edited, fills}
 use Rattle.conformation.specs.Sides.{side_of}
 use Rattle.conformation.proofs.fill.Given as goal
 

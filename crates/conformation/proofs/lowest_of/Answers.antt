@@ -1,7 +1,5 @@
-use Prim.Native.Nat.{◌-◌}
-use native.Mathlib.Omega.{arith}
-use Rattle.loops.proofs.Loops.{Ran, ran-start, ran-step, ran-end}
-use Rattle.conformation.specs.Sides.{none_yet, lower, lowest_of}
+use Rattle.loops.proofs.Loops.{ran-start, ran-step, ran-end}
+use Rattle.conformation.specs.Sides.{lowest_of}
 use Rattle.conformation.proofs.lowest_of.Goals as goal
 
 pub loop-i-init : goal.loop-i-init

@@ -1,7 +1,6 @@
 use Prim.Native.Nat.{◌-◌}
-use native.Mathlib.Omega.{arith}
-use Rattle.loops.proofs.Loops.{Ran, ran-start, ran-step, ran-end}
-use Rattle.conformation.specs.Sides.{none_yet, lower, lowest_of}
+use Rattle.loops.proofs.Loops.{Ran}
+use Rattle.conformation.specs.Sides.{none_yet, lower}
 use Rattle.conformation.proofs.lowest_of.Given as goal
 
 abbrev pub invariant-loop-i : goal.invariant-loop-i

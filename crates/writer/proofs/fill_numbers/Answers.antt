@@ -1,7 +1,5 @@
-use Rattle.loops.proofs.Loops.{Edited, fills, edited-start, filled-step, filled-end}
+use Rattle.loops.proofs.Loops.{edited-start, filled-step, filled-end}
 use mathlib.Core.Path.{refl}
-use lib.ListN.{get_or}
-use Prim.Native.Nat.{◌-◌}
 use native.Mathlib.Omega.{arith}
 use Rattle.writer.proofs.fill_numbers.Goals as goal
 

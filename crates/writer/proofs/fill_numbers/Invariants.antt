@@ -1,8 +1,6 @@
-use Rattle.loops.proofs.Loops.{Edited, fills, edited-start, filled-step, filled-end}
-use mathlib.Core.Path.{refl}
+use Rattle.loops.proofs.Loops.{Edited, fills}
 use lib.ListN.{get_or}
 use Prim.Native.Nat.{◌-◌}
-use native.Mathlib.Omega.{arith}
 use Rattle.writer.proofs.fill_numbers.Given as goal
 
 abbrev pub invariant-loop-a : goal.invariant-loop-a

@@ -1,11 +1,6 @@
-use Rattle.writer.proofs.Emission.{Onward, onward-start, onward-stop, onward-step, onward-end}
-use Rattle.writer.specs.Emit.{head_bytes}
-use Rattle.buffer.specs.Buffer.{buffer_at}
-use Rattle.writing_bridges.specs.Slots.{slot_count}
+use Rattle.writer.proofs.Emission.{onward-start, onward-stop, onward-step, onward-end}
 use borrow.Author.Tests.{not-true, not-false}
-use mathlib.Core.Path.{◌≡◌, refl, sym, ◌∙◌}
-use lib.ListN.{length, replicate}
-use Prim.Native.Nat.{◌-◌, ◌≤◌}
+use mathlib.Core.Path.{refl, sym, ◌∙◌}
 use native.Mathlib.Omega.{arith}
 use Rattle.writer.proofs.emit.emit.Goals as goal
 

@@ -1,12 +1,10 @@
-use Rattle.writer.proofs.Emission.{Onward, onward-start, onward-stop, onward-step, onward-end}
+use Rattle.writer.proofs.Emission.{Onward}
 use Rattle.writer.specs.Emit.{head_bytes}
 use Rattle.buffer.specs.Buffer.{buffer_at}
 use Rattle.writing_bridges.specs.Slots.{slot_count}
-use borrow.Author.Tests.{not-true, not-false}
-use mathlib.Core.Path.{◌≡◌, refl, sym, ◌∙◌}
+use mathlib.Core.Path.{◌≡◌}
 use lib.ListN.{length, replicate}
 use Prim.Native.Nat.{◌-◌, ◌≤◌}
-use native.Mathlib.Omega.{arith}
 use Rattle.writer.proofs.emit.emit.Given as goal
 
 abbrev pub invariant-loop-x : goal.invariant-loop-x

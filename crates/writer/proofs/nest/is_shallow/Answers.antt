@@ -1,7 +1,5 @@
-use Rattle.writer.proofs.Nesting.{Nests, nests-start, nests-deep, nests-step, nests-end, few-nest}
-use Rattle.writer.specs.Emit.{more_at}
+use Rattle.writer.proofs.Nesting.{nests-start, nests-deep, nests-step, nests-end, few-nest}
 use lib.ListN.{get_or}
-use Prim.Native.Nat.{◌-◌}
 use native.Mathlib.Omega.{arith}
 use Rattle.writer.proofs.nest.is_shallow.Goals as goal
 

@@ -1,8 +1,6 @@
-use Rattle.writer.proofs.Nesting.{Nests, nests-start, nests-deep, nests-step, nests-end, few-nest}
+use Rattle.writer.proofs.Nesting.{Nests}
 use Rattle.writer.specs.Emit.{more_at}
-use lib.ListN.{get_or}
 use Prim.Native.Nat.{◌-◌}
-use native.Mathlib.Omega.{arith}
 use Rattle.writer.proofs.nest.is_shallow.Given as goal
 
 abbrev pub invariant-loop-x : goal.invariant-loop-x

@@ -1,7 +1,6 @@
-use Rattle.loops.proofs.Loops.{Edited, edited-start, edited-step, edited-end}
+use Rattle.loops.proofs.Loops.{edited-start, edited-step, edited-end}
 use mathlib.Core.Path.{refl}
-use lib.ListN.{get_or, set, length-set}
-use Prim.Native.Nat.{◌-◌}
+use lib.ListN.{length-set}
 use native.Mathlib.Omega.{arith}
 use Rattle.writer.proofs.nest.last_children.Goals as goal
 

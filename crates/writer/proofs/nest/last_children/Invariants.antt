@@ -1,8 +1,6 @@
-use Rattle.loops.proofs.Loops.{Edited, edited-start, edited-step, edited-end}
-use mathlib.Core.Path.{refl}
-use lib.ListN.{get_or, set, length-set}
+use Rattle.loops.proofs.Loops.{Edited}
+use lib.ListN.{get_or, set}
 use Prim.Native.Nat.{◌-◌}
-use native.Mathlib.Omega.{arith}
 use Rattle.writer.proofs.nest.last_children.Given as goal
 
 abbrev pub invariant-loop-x : goal.invariant-loop-x
