@@ -1,5 +1,6 @@
 // The rows of two molecules walked in their order, until two settle to the same. Every function here is internal.
 #![tactic(auto)]
+
 ghost use Rattle.std.specs.Prelude.{◌≡◌, true, false, ◌&&◌, ◌++◌, ◌+◌, ◌<◌, ◌≤◌, length, take, drop};
 ghost use Rattle.loops.specs.Loop.{up_to};
 ghost use Rattle.table.specs.Limits.{max_bonds};

@@ -1,0 +1,10 @@
+use Prim.Native.Nat.{◌+◌, ◌-◌, ◌≤◌}
+use native.Mathlib.Omega.{arith}
+use Rattle.matching_search.proofs.Flags.{not-true}
+use Rattle.same_decide.proofs.clash.Given as goal
+
+abbrev pub invariant-loop-to : goal.invariant-loop-to
+invariant-loop-to l = l.to ≤ l.m + 1
+
+abbrev pub decreases-loop-to : goal.decreases-loop-to
+decreases-loop-to l = l.m + 2 - l.to
