@@ -1,5 +1,6 @@
 // The report of an input: whole in memory (`whole`), or as it comes in blocks.
 #![tactic(auto)]
+
 ghost use Rattle.std.specs.Prelude.{◌≡◌, []};
 ghost use Rattle.buffer.specs.Buffer.{buffer_at, Wrote};
 ghost use Rattle.report_lines.specs.Cut.{gathered, Bounded};
