@@ -26,7 +26,7 @@ use Rattle.table_graph.specs.Graph.{bond_sum}
 use Rattle.ids.specs.Limits.{max_text}
 use Rattle.reading.specs.Memory.{Memory}
 use Rattle.reading.specs.Act.{act}
-use Rattle.reading.specs.Read.{ReadResult, zeros, short, beginning, hydrogenated, overfull_at, overfull_atoms, text_rank, read_of}
+use Rattle.reading.specs.Read.{ReadResult, zeros, beginning, hydrogenated, overfull_at, overfull_atoms, text_rank, read_of}
 use Rattle.reading.specs.Conditions.{bytes_read, atoms_of, overfull_of, Fits}
 use Rattle.reading.specs.Claims.{with_hydrogens, with_mark, stored_mark, Given, Accepted}
 use Rattle.reading.proofs.Sane.{Sane, SaneReading}

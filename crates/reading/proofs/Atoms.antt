@@ -10,7 +10,6 @@ use Rattle.loops.specs.Loop.{pick}
 use Rattle.loops.proofs.Loops.{and_left}
 use Rattle.element.specs.declared.Letter.{Letter}
 use Rattle.element.specs.Lookup.{letter_of}
-use Rattle.reading_grammar.specs.declared.Last.TheVariants.{Plain as plain}
 use Rattle.reading_grammar.specs.declared.Mode.{Mode}
 use Rattle.reading_grammar.specs.declared.Mode.TheVariants.{Seq as seq, LetterA as letterA, LetterT as letterT, Bracket as bracket}
 use Rattle.reading_grammar.specs.declared.Move.{Move}

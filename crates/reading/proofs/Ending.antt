@@ -8,7 +8,7 @@ use lib.ListN.{length}
 use lib.IntN.{ℤ}
 use borrow.Author.Tests.{ne_eqb, le-leb, le-ltb, lt-ltb}
 use Rattle.ids.specs.Limits.{max_text}
-use Rattle.reading.specs.Read.{ReadResult, refused, short, leftmost, ended, read_from, read_of}
+use Rattle.reading.specs.Read.{ReadResult, refused, leftmost, ended, read_from, read_of}
 use Rattle.table.specs.Marks.{CrowdedEnd, StrayMark}
 use Rattle.table.specs.Sound.{LooseAtom, UnfitAtom}
 use Rattle.table.proofs.Sound.{crowded-late, stray-late, loose-late, unfit-late}

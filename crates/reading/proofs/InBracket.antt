@@ -16,7 +16,6 @@ use Rattle.reading_grammar.specs.declared.Mode.TheVariants.{Seq as seq, Bracket 
 use Rattle.reading_grammar.specs.declared.Move.{Move}
 use Rattle.reading_grammar.specs.declared.Move.TheVariants.{Stop as stop, To as to}
 use Rattle.reading_grammar.specs.declared.MachineState.{MachineState}
-use Rattle.reading_grammar.specs.declared.MachineState.TheVariants.{At as at}
 use Rattle.reading_grammar.specs.Machine.{alive, turn, symbol_or, next}
 use Rattle.reading_grammar.specs.Machine as machine
 use Rattle.reading_grammar.specs.Fold.{keeps}

@@ -27,7 +27,7 @@ use Rattle.reading_grammar.specs.Fold.{keeps, refuses}
 use Rattle.reading_grammar.proofs.Ends.{never}
 use Rattle.table.specs.Limits.{max_atoms, max_bonds}
 use Rattle.ids.specs.Limits.{max_depth}
-use Rattle.reading_state.specs.State.{opened, joined}
+use Rattle.reading_state.specs.State.{joined}
 use Rattle.kinds.specs.Kind.{clash}
 use Rattle.reading.specs.Memory.{Memory, kind_of, bonded, moved, joined_already, close_refusal}
 use Rattle.reading.specs.Bracket.{digit}

@@ -17,7 +17,7 @@ use Rattle.reading_grammar.proofs.Viable.{place-unique, text-no-place}
 use Rattle.reading_grammar.proofs.Fold.{good-text, bad-3, other-first}
 use Rattle.reading.specs.Memory.{Memory}
 use Rattle.reading.specs.Act.{act}
-use Rattle.reading.specs.Read.{ReadResult, zeros, refused, short, beginning, read_of}
+use Rattle.reading.specs.Read.{ReadResult, zeros, refused, beginning, read_of}
 use Rattle.reading.specs.Conditions.{bytes_read, Fits}
 use Rattle.reading.specs.Claims.{ReadsTexts}
 use Rattle.reading.proofs.Refusals.{never-3, in-time}

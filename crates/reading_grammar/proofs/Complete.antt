@@ -4,8 +4,7 @@ use mathlib.Core.Bool.{Bool, true, false}
 use mathlib.Core.List.{List, [], ◌∷◌, ◌++◌}
 use Prim.Native.Nat.{ℕ, zero, suc}
 use lib.Dec.{eqb, leb}
-use Rattle.reading_grammar.specs.Grammar
-use Rattle.reading_grammar.specs.Grammar.{starts, pick, among, listed, same_bytes, nonzero, digits, several, bond_symbols, signs, letters, marks, symbols, Digits, number, Isotope, mark, element, Tetrahedral, Hydrogens, Charge, Extension, Atom, letter, Cl, Br, At, Ts, Bridge, short, long, Bond, elided, Joint, Sequence, sequence, Pieces, Piece, branch, Text, empty, text}
+use Rattle.reading_grammar.specs.Grammar.{starts, pick, among, listed, same_bytes, nonzero, digits, several, bond_symbols, signs, letters, marks, symbols, Digits, number, Isotope, mark, element, Tetrahedral, Hydrogens, Charge, Extension, Atom, letter, Cl, Br, At, Ts, Bridge, short, long, Bond, elided, Joint, Sequence, sequence, Pieces, Piece, Text, empty, text}
 use Rattle.reading_grammar.specs.Machine.{Last, plain, afterC, afterB, Mode, seq, bond, atomNext, inside, percent, percent1, letterA, letterT, bracket, isotope, symbol1, symbolled, at1, at2, hydrogen, hydrogens, sign, charged, colon, extension, Move, stop, to, up, down, MachineState, start, at, last_of, atom_or, bridge_or, closing, extending, charging, hydrating, marking, symbol_or, next, turn, step, run, resting, accepting}
 use Rattle.reading_grammar.proofs.Ends.{EndExtension, EndCharge, EndHydrogens, EndMark, EndSymbol, EndIsotope, All, each, never, run-append, all, all_listed}
 

@@ -1,5 +1,5 @@
 -- auxiliary: bytes that complete what the machine has read to a text, for the place of refusal 3
-use Rattle.std.specs.Prelude.{List, [], ◌∷◌, ◌++◌, ℕ, zero, suc, eqb, replicate}
+use Rattle.std.specs.Prelude.{List, [], ◌∷◌, ◌++◌, ℕ, eqb, replicate}
 use Rattle.reading_grammar.specs.Grammar.{pick, symbols}
 use Rattle.reading_grammar.specs.Machine.{Mode, seq, bond, atomNext, inside, percent, percent1, letterA, letterT, bracket, isotope, symbol1, symbolled, at1, at2, hydrogen, hydrogens, sign, charged, colon, extension, MachineState, dead, start, at}
 

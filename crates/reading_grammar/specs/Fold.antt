@@ -1,5 +1,5 @@
 -- 01, The text: reading as a fold that computes beside the grammar: an action at each byte changes the memory, or refuses with a number and a place
-use Rattle.std.specs.Prelude.{◌≡◌, refl, Bool, true, false, List, [], ◌∷◌, ◌++◌, ℕ, zero, suc, length}
+use Rattle.std.specs.Prelude.{List, [], ◌∷◌, ℕ, suc, length}
 use Rattle.reading_grammar.specs.Grammar.{pick}
 use Rattle.reading_grammar.specs.Machine.{MachineState, start, step, alive, accepting}
 

@@ -1,5 +1,5 @@
 -- 01, The text: the grammar of texts as inductive definitions on lists of bytes, apart from any reader
-use Rattle.std.specs.Prelude.{◌≡◌, refl, Bool, true, false, List, [], ◌∷◌, ◌++◌, ℕ, zero, suc}
+use Rattle.std.specs.Prelude.{◌≡◌, true, List, [], ◌∷◌, ◌++◌, ℕ, suc}
 pub use Rattle.loops.specs.Loop.{pick}
 unfoldable pub use Rattle.element.specs.Symbols.{among, same_bytes, listed, starts, letters, marks, symbols}
 

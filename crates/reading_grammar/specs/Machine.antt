@@ -1,5 +1,5 @@
 -- 01, The text: a machine that reads a text byte by byte, by the grammar alone (it accepts exactly the texts of the grammar, a theorem)
-use Rattle.std.specs.Prelude.{◌≡◌, refl, Bool, true, false, List, [], ◌∷◌, ◌++◌, ℕ, zero, suc, eqb, leb, replicate}
+use Rattle.std.specs.Prelude.{Bool, true, false, List, [], ◌∷◌, ℕ, zero, suc, eqb}
 pub use Rattle.reading_grammar.specs.declared.Last.{Last}
 pub use Rattle.reading_grammar.specs.declared.Last.TheVariants.{Plain as plain, AfterC as afterC, AfterB as afterB}
 pub use Rattle.reading_grammar.specs.declared.Mode.{Mode}
@@ -8,7 +8,7 @@ pub use Rattle.reading_grammar.specs.declared.Move.{Move}
 pub use Rattle.reading_grammar.specs.declared.Move.TheVariants.{Stop as stop, To as to, Up as up, Down as down}
 pub use Rattle.reading_grammar.specs.declared.MachineState.{MachineState}
 pub use Rattle.reading_grammar.specs.declared.MachineState.TheVariants.{Dead as dead, Start as start, At as at}
-use Rattle.reading_grammar.specs.Grammar.{pick, among, listed, same_bytes, starts, nonzero, digits, several, bond_symbols, signs, letters, marks, symbols}
+use Rattle.reading_grammar.specs.Grammar.{pick, among, listed, starts, nonzero, digits, several, bond_symbols, signs, letters, marks, symbols}
 
 abbrev pub last_of : ℕ → Last
 last_of b = pick (eqb b 67) afterC (pick (eqb b 66) afterB plain)

@@ -1,5 +1,5 @@
 -- 01, When a call says no, 3: "place is the first byte at which no accepted text can continue, taking the grammar alone, or the length if the text ends too soon"
-use Rattle.std.specs.Prelude.{◌≡◌, refl, List, [], ◌∷◌, ◌++◌, ℕ, zero, suc, ◌≤◌, ◌<◌, length, take}
+use Rattle.std.specs.Prelude.{◌≡◌, List, ◌++◌, ℕ, suc, ◌≤◌, ◌<◌, length, take}
 use Rattle.reading_grammar.specs.Grammar.{Text}
 
 -- some text begins with these bytes

@@ -1,5 +1,5 @@
-use Rattle.std.proofs.Common.{rules, refl}
-use Rattle.reading_state.specs.State.{steering, started}
+use Rattle.std.proofs.Common.{refl}
+use Rattle.reading_state.specs.State.{started}
 use Rattle.reading_state.proofs.State.new.Goals as goal
 
 -- src/lib.rt:53:5
