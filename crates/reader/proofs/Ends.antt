@@ -43,7 +43,7 @@ use Rattle.reading_state.specs.State.{Steering, key_count, steering, started}
 use Rattle.reading_state.specs.declared.State.{State}
 use Rattle.reading.specs.Memory.{Memory, nothing, blank}
 use Rattle.reading.specs.Act.{act, mode_act}
-use Rattle.reading.specs.Read.{ReadResult, zeros, refused, short, beginning, hydrogenate, hydrogenated, overfull_atoms, earlier, leftmost, text_rank, ended, finished, read_from, read_of}
+use Rattle.reading.specs.Read.{ReadResult, zeros, refused, beginning, hydrogenate, hydrogenated, overfull_atoms, earlier, leftmost, text_rank, ended, finished, read_from, read_of}
 use Rattle.reading.proofs.Hydrogens.{implied-small}
 use Rattle.reading.proofs.Sane.{Steers}
 use Rattle.reading.proofs.Valid.{sane-filled}

@@ -20,7 +20,7 @@ use Rattle.reading_grammar.specs.declared.Mode.TheVariants.{Seq as seq, Bond as 
 use Rattle.reading_grammar.specs.declared.MachineState.TheVariants.{Start as start, At as at}
 use Rattle.reading_grammar.specs.Fold.{going}
 use Rattle.reading_state.specs.declared.Fields.{Fields}
-use Rattle.reading.specs.Memory.{nothing, dotted, symbol}
+use Rattle.reading.specs.Memory.{dotted, symbol}
 use Rattle.reading_pieces.specs.declared.Paused.{Paused}
 use Rattle.reading_pieces.specs.State.{isotope_mode, extension_mode, mode_of, machine_of, memory_of, steering_of, fields_of, extension_in, pending_of, pending_number, paused_in, paused_at}
 use Rattle.reading_pieces.specs.Broken.{broken_of, FieldAbove}

@@ -1,7 +1,7 @@
 -- The common letters outside brackets: c, C, O, N and n. Assumes nothing.
 use Prim.Native.Nat.{ℕ, suc, ◌<◌}
 use native.Mathlib.Omega.{arith}
-use mathlib.Core.Path.{◌≡◌, refl, ap, ◌∙◌}
+use mathlib.Core.Path.{◌≡◌}
 use mathlib.Core.List.{List}
 use lib.ListN.{length}
 use Rattle.element.specs.Symbols.{same_bytes, symbols, among, letters}

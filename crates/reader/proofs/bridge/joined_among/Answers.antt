@@ -1,9 +1,5 @@
-use Prim.Native.Nat.{◌-◌}
-use mathlib.Core.Bool.{not}
 use mathlib.Core.Path.{sym, ◌∙◌}
-use native.Mathlib.Omega.{arith}
-use Rattle.reading.specs.Memory.{joins}
-use Rattle.loops.proofs.Loops.{Left, left-start}
+use Rattle.loops.proofs.Loops.{left-start}
 use Rattle.reader.proofs.Bridges.{found, passed, none_found}
 use Rattle.reader.proofs.bridge.joined_among.Goals as goal
 

@@ -1,10 +1,7 @@
 use Prim.Native.Nat.{◌-◌}
 use mathlib.Core.Bool.{not}
-use mathlib.Core.Path.{sym, ◌∙◌}
-use native.Mathlib.Omega.{arith}
 use Rattle.reading.specs.Memory.{joins}
-use Rattle.loops.proofs.Loops.{Left, left-start}
-use Rattle.reader.proofs.Bridges.{found, passed, none_found}
+use Rattle.loops.proofs.Loops.{Left}
 use Rattle.reader.proofs.bridge.joined_among.Given as goal
 
 abbrev pub invariant-loop-i : goal.invariant-loop-i

@@ -1,7 +1,5 @@
-use Prim.Native.Nat.{◌-◌}
 use native.Mathlib.Omega.{arith}
-use Rattle.ids.specs.Limits.{bridges}
-use Rattle.reader.proofs.Ends.{Closed, closed-start, closed-step}
+use Rattle.reader.proofs.Ends.{closed-start, closed-step}
 use Rattle.reader.proofs.ending.all_closed.Goals as goal
 
 pub loop-i-init : goal.loop-i-init

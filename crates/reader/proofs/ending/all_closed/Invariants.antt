@@ -1,7 +1,6 @@
 use Prim.Native.Nat.{◌-◌}
-use native.Mathlib.Omega.{arith}
 use Rattle.ids.specs.Limits.{bridges}
-use Rattle.reader.proofs.Ends.{Closed, closed-start, closed-step}
+use Rattle.reader.proofs.Ends.{Closed}
 use Rattle.reader.proofs.ending.all_closed.Given as goal
 
 abbrev pub invariant-loop-i : goal.invariant-loop-i

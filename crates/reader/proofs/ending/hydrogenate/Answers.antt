@@ -1,6 +1,5 @@
-use Prim.Native.Nat.{◌-◌}
 use native.Mathlib.Omega.{arith}
-use Rattle.reader.proofs.Filling.{Filling, filling-start, filling_step, filling-adds, filling-end}
+use Rattle.reader.proofs.Filling.{filling-start, filling_step, filling-adds, filling-end}
 use Rattle.reader.proofs.ending.hydrogenate.Goals as goal
 
 pub loop-i-init : goal.loop-i-init

@@ -1,6 +1,5 @@
 use Prim.Native.Nat.{◌-◌}
-use native.Mathlib.Omega.{arith}
-use Rattle.reader.proofs.Filling.{Filling, filling-start, filling_step, filling-adds, filling-end}
+use Rattle.reader.proofs.Filling.{Filling}
 use Rattle.reader.proofs.ending.hydrogenate.Given as goal
 
 abbrev pub invariant-loop-i : goal.invariant-loop-i

@@ -1,9 +1,5 @@
-use Prim.Native.Nat.{◌-◌}
-use native.Mathlib.Omega.{arith}
-use lib.ListN.{get_or}
-use Rattle.loops.proofs.Loops.{Ran, ran-start, ran-step, ran-end}
-use Rattle.ids.specs.Limits.{bridges, max_text}
-use Rattle.reading.specs.Read.{earlier, leftmost}
+use Rattle.loops.proofs.Loops.{ran-start, ran-step, ran-end}
+use Rattle.reading.specs.Read.{leftmost}
 use Rattle.reader.proofs.Ends.{closed-leftmost}
 use Rattle.reader.proofs.ending.leftmost.Goals as goal
 

@@ -1,10 +1,8 @@
 use Prim.Native.Nat.{◌-◌}
-use native.Mathlib.Omega.{arith}
 use lib.ListN.{get_or}
-use Rattle.loops.proofs.Loops.{Ran, ran-start, ran-step, ran-end}
+use Rattle.loops.proofs.Loops.{Ran}
 use Rattle.ids.specs.Limits.{bridges, max_text}
-use Rattle.reading.specs.Read.{earlier, leftmost}
-use Rattle.reader.proofs.Ends.{closed-leftmost}
+use Rattle.reading.specs.Read.{earlier}
 use Rattle.reader.proofs.ending.leftmost.Given as goal
 
 abbrev pub invariant-loop-i : goal.invariant-loop-i

@@ -1,6 +1,5 @@
-use Prim.Native.Nat.{◌-◌}
 use native.Mathlib.Omega.{arith}
-use Rattle.reader.proofs.Ranks.{Ranking, ranking-start, ranking-key, ranking-next, ranking-step, ranking-end}
+use Rattle.reader.proofs.Ranks.{ranking-start, ranking-key, ranking-next, ranking-step, ranking-end}
 use Rattle.reader.proofs.ending.rank_bonds.Goals as goal
 
 pub loop-i-init : goal.loop-i-init

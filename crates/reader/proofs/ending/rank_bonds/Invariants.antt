@@ -1,6 +1,5 @@
 use Prim.Native.Nat.{◌-◌}
-use native.Mathlib.Omega.{arith}
-use Rattle.reader.proofs.Ranks.{Ranking, ranking-start, ranking-key, ranking-next, ranking-step, ranking-end}
+use Rattle.reader.proofs.Ranks.{Ranking}
 use Rattle.reader.proofs.ending.rank_bonds.Given as goal
 
 abbrev pub invariant-loop-i : goal.invariant-loop-i

@@ -1,6 +1,6 @@
-use Rattle.std.proofs.Common.{arith, rules, [], ◌∙◌}
+use Rattle.std.proofs.Common.{arith, []}
 use Rattle.reader.proofs.Branches.{bounded-opened, inner-closable, branch-ends}
-use Rattle.reader.proofs.Turns.{bounded-beside, closable-alone, Turn, turn-start, atom-lies, atom-in, atom-later, atom-room, turn-atom, end-atom, bridge-lies, bridge-later, turn-bridge, end-bridge, branch-moved, branch-lies, branch_in, branch-byte, branch-past, turn-branch, end-deep, end_branch, end-wrong, end-fine}
+use Rattle.reader.proofs.Turns.{closable-alone, atom-in, atom-later, atom-room, turn-atom, end-atom, turn-bridge, end-bridge, turn-branch, end-deep, end-wrong}
 use Rattle.reader.proofs.sequence.+branch_sequence.Goals as goal
 
 pub branch-sequence-o-requires : goal.branch-sequence-o-requires

@@ -1,11 +1,6 @@
-use Prim.Native.Nat.{◌-◌, ◌≤◌}
 use native.Mathlib.Omega.{arith}
-use mathlib.Core.Path.{◌≡◌, refl}
-use mathlib.Core.Bool.{not}
-use lib.ListN.{get_or}
-use lib.Dec.{leb}
+use mathlib.Core.Path.{refl}
 use Rattle.loops.specs.Loop.{each}
-use Rattle.ids.specs.Limits.{bridges}
 use Rattle.reader_checks.proofs.Astray.{bridge-more, bridge-all}
 use Rattle.reader_checks.proofs.broken.bridge_astray.Goals as goal
 

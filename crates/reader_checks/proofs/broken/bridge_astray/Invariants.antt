@@ -1,12 +1,10 @@
 use Prim.Native.Nat.{◌-◌, ◌≤◌}
-use native.Mathlib.Omega.{arith}
-use mathlib.Core.Path.{◌≡◌, refl}
+use mathlib.Core.Path.{◌≡◌}
 use mathlib.Core.Bool.{not}
 use lib.ListN.{get_or}
 use lib.Dec.{leb}
 use Rattle.loops.specs.Loop.{each}
 use Rattle.ids.specs.Limits.{bridges}
-use Rattle.reader_checks.proofs.Astray.{bridge-more, bridge-all}
 use Rattle.reader_checks.proofs.broken.bridge_astray.Given as goal
 
 abbrev pub invariant-loop-r : goal.invariant-loop-r

@@ -1,10 +1,7 @@
-use Prim.Native.Nat.{◌-◌}
-use native.Mathlib.Omega.{arith}
 use mathlib.Core.Path.{ap}
-use lib.ListN.{get_or, set}
-use Rattle.loops.proofs.Loops.{Ran, ran-start, ran-step, ran-end}
-use Rattle.ids.specs.Limits.{bridges}
-use Rattle.reading_pieces.specs.State.{cap, capped}
+use lib.ListN.{set}
+use Rattle.loops.proofs.Loops.{ran-start, ran-step, ran-end}
+use Rattle.reading_pieces.specs.State.{capped}
 use Rattle.reader_checks.proofs.limit.cap_offsets.Goals as goal
 
 pub loop-i-init : goal.loop-i-init

@@ -1,10 +1,8 @@
 use Prim.Native.Nat.{◌-◌}
-use native.Mathlib.Omega.{arith}
-use mathlib.Core.Path.{ap}
 use lib.ListN.{get_or, set}
-use Rattle.loops.proofs.Loops.{Ran, ran-start, ran-step, ran-end}
+use Rattle.loops.proofs.Loops.{Ran}
 use Rattle.ids.specs.Limits.{bridges}
-use Rattle.reading_pieces.specs.State.{cap, capped}
+use Rattle.reading_pieces.specs.State.{cap}
 use Rattle.reader_checks.proofs.limit.cap_offsets.Given as goal
 
 abbrev pub invariant-loop-i : goal.invariant-loop-i

@@ -1,7 +1,5 @@
-use Prim.Native.Nat.{◌-◌}
 use native.Mathlib.Omega.{arith}
-use lib.ListN.{length}
-use Rattle.reader_pieces.proofs.Cleared.{Clearing, clearing-start, clearing-step, clearing-end}
+use Rattle.reader_pieces.proofs.Cleared.{clearing-start, clearing-step, clearing-end}
 use Rattle.reader_pieces.proofs.answer.clear_from.Goals as goal
 
 pub loop-i-init : goal.loop-i-init

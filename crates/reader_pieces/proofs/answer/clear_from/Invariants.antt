@@ -1,7 +1,6 @@
 use Prim.Native.Nat.{◌-◌}
-use native.Mathlib.Omega.{arith}
 use lib.ListN.{length}
-use Rattle.reader_pieces.proofs.Cleared.{Clearing, clearing-start, clearing-step, clearing-end}
+use Rattle.reader_pieces.proofs.Cleared.{Clearing}
 use Rattle.reader_pieces.proofs.answer.clear_from.Given as goal
 
 abbrev pub invariant-loop-i : goal.invariant-loop-i

@@ -1,7 +1,5 @@
 use Rattle.std.proofs.Common.{rules}
-use lib.ListN.{length-map}
 use native.Mathlib.Omega.{arith}
-use mathlib.Core.Path.{sym, ◌∙◌}
 use Rattle.reader_pieces.proofs.Ends.{end-few, end-valid, end-rankable, molecule-few, end-molecule, end_refused}
 use Rattle.reader_pieces.proofs.ending.conclude.Goals as goal
 

@@ -1,10 +1,7 @@
-use Rattle.std.proofs.Common.{rules}
-use Prim.Native.Nat.{◌-◌}
 use native.Mathlib.Omega.{arith}
 use mathlib.Core.Path.{◌∙◌}
-use lib.ListN.{length}
 use Rattle.reader_bytes.specs.Step.{lent}
-use Rattle.reader_pieces.proofs.Running.{Running, running-start, running-step, running-refused, running-long, running-end}
+use Rattle.reader_pieces.proofs.Running.{running-start, running-step, running-refused, running-long, running-end}
 use Rattle.reader_pieces.proofs.run.read_piece.Goals as goal
 
 pub loop-i-init : goal.loop-i-init

@@ -1,9 +1,7 @@
 use Prim.Native.Nat.{◌-◌}
-use native.Mathlib.Omega.{arith}
-use mathlib.Core.Path.{◌∙◌}
 use lib.ListN.{length}
 use Rattle.reader_bytes.specs.Step.{lent}
-use Rattle.reader_pieces.proofs.Running.{Running, running-start, running-step, running-refused, running-long, running-end}
+use Rattle.reader_pieces.proofs.Running.{Running}
 use Rattle.reader_pieces.proofs.run.read_piece.Given as goal
 
 abbrev pub invariant-loop-i : goal.invariant-loop-i
