@@ -1,5 +1,6 @@
 // Whether two molecules are the same compound, drawn differently (02, P4).
 #![tactic(auto)]
+
 ghost use Rattle.std.specs.Prelude.{◌≡◌, ◌≤◌, ltb, length, take, replicate, get_or};
 ghost use Rattle.loops.specs.Loop.{pick};
 ghost use Rattle.matching.specs.Enumeration.{fill};
