@@ -21,7 +21,7 @@ use Rattle.table_graph.specs.Graph.{share, bond_sum, none_selected}
 use Rattle.table_graph.proofs.Localized.{unselected-one}
 use Rattle.same_model.specs.Same.{Molecule, settled, eq_z, same_cells, joins, order_between, image, carries, carries_atoms, carries_bonds, same?}
 use Rattle.same_model.specs.Redrawing.{Placement, Same}
-use Rattle.same_model.proofs.Lists.{In, here}
+use Rattle.same_model.proofs.Lists.{In, here, there}
 use Rattle.same_model.proofs.Cells.{alike}
 use Rattle.same_model.proofs.Relation.{identity, identity-renumbers}
 use Rattle.same_model.proofs.Sameness.{Carried, carried-facts, placement-in, same-fact, fact-same}
@@ -69,6 +69,7 @@ second-ring =
 -- ---- no: in the first drawing a double bond joins the two ring atoms without hydrogens, in the second it does not
 one_in : {r s : Row} → In r (s ∷ []) → r ≡ s
 one_in here = refl
+one_in (there i) = elim i [ ]
 
 -- where no atom is selected, zeros are the one placement
 only-zeros : (x : Molecule) → none_selected x.atoms x.n ≡ true → (r : Row) → Placement x r → r ≡ replicate x.m 0
