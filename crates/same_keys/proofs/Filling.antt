@@ -1,13 +1,13 @@
 -- The keys that are filled in are the molecule's. Assumes nothing.
-use mathlib.Core.Path.{◌≡◌, refl, sym, ap, ◌∙◌}
+use mathlib.Core.Path.{◌≡◌, sym, ap, ◌∙◌}
 use mathlib.Core.List.{List, ◌++◌}
-use Prim.Native.Nat.{ℕ, zero, suc, ◌+◌, ◌<◌, ◌≤◌}
+use Prim.Native.Nat.{ℕ, ◌+◌, ◌<◌, ◌≤◌}
 use native.Mathlib.Omega.{arith}
 use native.Mathlib.Nat.{div-add-mod'}
 use lib.IntN.{ℤ}
-use lib.ListN.{length, get_or, take, drop, replicate, length-replicate}
+use lib.ListN.{length, get_or, drop, replicate, length-replicate}
 use lib.Seq.{get_or-take}
-use Rattle.loops.specs.Loop.{run, up_to}
+use Rattle.loops.specs.Loop.{up_to}
 use Rattle.loops.proofs.Loops.{up_to-at, filled_at}
 use Rattle.table.specs.Limits.{CHARGE}
 use Rattle.table.specs.Cells.{atom_cell, element, selected, hydrogens, end1, end2}

@@ -6,18 +6,17 @@ use Prim.Native.Nat.{ℕ, zero, suc, ◌+◌, ◌<◌, ◌≤◌}
 use native.Mathlib.Omega.{arith}
 use native.Mathlib.Nat.{add-zero}
 use lib.Dec.{eqb}
-use lib.ListN.{length, get_or, drop, replicate, length-set, length-append, length-drop, length-replicate}
+use lib.ListN.{length, drop, replicate, length-set, length-append, length-drop, length-replicate}
 use borrow.Author.Tests.{eqb-true}
 use Rattle.loops.specs.Loop.{pick, run, up_to}
 use Rattle.loops.proofs.Loops.{length-up_to, up_to-at, filled_at}
-use Rattle.table.specs.Limits.{ELEMENT, ISOTOPE, HYDROGENS, CHARGE, EXTENSION}
-use Rattle.table.specs.Cells.{number, atom_cell, end1, end2}
+use Rattle.table.specs.Cells.{number, end1, end2}
 use Rattle.table.specs.Valid.{Valid}
 use Rattle.table.proofs.Valid.{bond-row}
 use Rattle.table_graph.specs.Built.{bump}
 use Rattle.same_model.specs.Same.{max_same, Molecule, image, joins}
-use Rattle.same_model.specs.Redrawing.{Renumbering, settled_sum, joined, Redrawing}
-use Rattle.same_model.proofs.Cells.{Alike, alike}
+use Rattle.same_model.specs.Redrawing.{settled_sum, joined, Redrawing}
+use Rattle.same_model.proofs.Cells.{alike}
 use Rattle.same_model.proofs.Totals.{total, run_more, run-total, total-same, total-none, total-at, total-exchange, total-permuted}
 use Rattle.same_model.proofs.Single.{joined-total}
 use Rattle.same_keys.specs.Keys.{mixed, stirred, charge_number, first_key, at, filled_to, mixed_at, join_keys, spread, next_keys, rounds, refined, keys_of, key_sum}

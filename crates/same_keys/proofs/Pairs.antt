@@ -6,24 +6,23 @@ use Prim.Native.Nat.{ℕ, zero, suc, ◌+◌, ◌*◌, ◌<◌, ◌≤◌, ◌%�
 use native.Mathlib.Omega.{arith}
 use native.Mathlib.Nat.{mod-lt, div-add-mod'}
 use lib.Dec.{eqb, ltb}
-use lib.IntN.{ℤ}
 use lib.ListN.{length, get_or, set, replicate, length-set, length-replicate, get_or-eq_default}
 use lib.Seq.{get_or-set_same, get_or-set_other}
-use borrow.Author.Tests.{eqb-true, eqb-false, eq-eqb, ne_eqb, ltb-true, ltb-false}
+use borrow.Author.Tests.{eqb-true, eqb-false, eq-eqb, ltb-true, ltb-false}
 use Rattle.loops.specs.Loop.{pick, run}
 use Rattle.matching.proofs.Graph.{same_bool}
 use Rattle.table.specs.Cells.{end1, end2}
 use Rattle.table.specs.Valid.{Valid}
 use Rattle.table_graph.specs.Built.{bump, Wired}
-use Rattle.same_model.specs.Same.{max_same, Molecule, molecule, image}
+use Rattle.same_model.specs.Same.{max_same, Molecule, image}
 use Rattle.same_model.specs.Redrawing.{settled_sum, Redrawing}
 use Rattle.same_place.specs.Place.{entry}
-use Rattle.same_keys.specs.Keys.{prime, first_key, at, filled_to, next_keys, rounds, refined, keys_of, apart_by, pair_rounds, pair_limit, told_apart, pair_cell, set_cell, row_filled, pairs_filled, pairs_of, pair_key, Low, highest}
+use Rattle.same_keys.specs.Keys.{prime, first_key, at, filled_to, rounds, refined, keys_of, apart_by, pair_rounds, pair_limit, told_apart, pair_cell, set_cell, row_filled, pairs_filled, pairs_of, pair_key, Low, highest}
 use Rattle.same_keys.proofs.Low.{bump_at, low-more, low-filled, zeros-low}
 use Rattle.same_keys.proofs.Mixing.{first-key-low}
 use Rattle.same_keys.proofs.Spreading.{refined-low, run_agree}
 use Rattle.same_keys.proofs.Filling.{first-at, second_at, refined-agree}
-use Rattle.same_keys.proofs.Kept.{Kept, t, few2, below, rounds-kept, keys_kept}
+use Rattle.same_keys.proofs.Kept.{Kept, below, rounds-kept, keys_kept}
 
 -- the keys of a molecule stay low
 pub keys-low : (x : Molecule) → Valid x.atoms x.bonds x.n x.m → x.n ≤ max_same → Low (keys_of x) (highest 33)

@@ -1,19 +1,15 @@
 -- A round over the bonds: how high keys get, and what an atom's key becomes. Assumes nothing.
 use mathlib.Core.Path.{◌≡◌, refl, sym, ap, ◌∙◌}
-use mathlib.Core.Bool.{Bool, true, false, ◌&&◌, ◌||◌}
 use mathlib.Core.List.{List, ◌++◌}
 use Prim.Native.Nat.{ℕ, zero, suc, ◌+◌, ◌*◌, ◌<◌, ◌≤◌}
 use native.Mathlib.Omega.{arith}
-use lib.Dec.{eqb}
-use lib.ListN.{length, get_or, drop, length-set}
-use borrow.Author.Tests.{eqb-true}
-use Rattle.loops.specs.Loop.{pick, run, up_to}
+use lib.ListN.{length, drop, length-set}
+use Rattle.loops.specs.Loop.{run, up_to}
 use Rattle.loops.proofs.Loops.{Ran, ran-start, ran-step, ran-end, up_to-at, filled_at}
 use Rattle.table.specs.Limits.{max_bonds}
 use Rattle.table_graph.specs.Built.{bump}
-use Rattle.same_model.specs.Same.{max_same}
-use Rattle.same_keys.specs.Keys.{prime, mixed, at, mixed_at, join_keys, spread, next_keys, refined, Low, highest, Inside}
-use Rattle.same_keys.proofs.Low.{bump_at, bump-low, low-more, low_same, low-append, low-drop, low-up_to}
+use Rattle.same_keys.specs.Keys.{prime, at, mixed_at, join_keys, spread, next_keys, refined, Low, highest}
+use Rattle.same_keys.proofs.Low.{bump-low, low-more, low_same, low-append, low-drop, low-up_to}
 use Rattle.same_keys.proofs.Mixing.{mixed-low}
 
 pub join-length : (mx : List ℕ) (a b : ℕ) (keys : List ℕ) → length (join_keys mx a b keys) ≡ length keys

@@ -1,5 +1,5 @@
 -- auxiliary: keys of atoms that every redrawing keeps: numbers that grow, round by round, by those of the atoms they are joined to; no claim rests on how well they tell atoms apart
-use Rattle.std.specs.Prelude.{ℕ, ◌+◌, ◌*◌, ◌<◌, ◌≤◌, ◌/◌, ◌%◌, ◌≡◌, Bool, List, ◌++◌, length, get_or, set, drop, replicate, ℤ, pos, negsuc}
+use Rattle.std.specs.Prelude.{ℕ, ◌+◌, ◌*◌, ◌<◌, ◌≤◌, ◌/◌, ◌%◌, Bool, List, ◌++◌, length, get_or, set, drop, replicate, ℤ, pos, negsuc}
 use Rattle.loops.specs.Loop.{pick, run, up_to}
 use Rattle.table.specs.Limits.{max_bonds, ELEMENT, ISOTOPE, HYDROGENS, CHARGE, EXTENSION}
 use Rattle.table.specs.Cells.{number, atom_cell, end1, end2}

@@ -1,9 +1,7 @@
-use Prim.Native.Nat.{◌-◌, ◌*◌, ◌≤◌}
 use native.Mathlib.Omega.{arith}
 use mathlib.Core.Path.{ap, ◌∙◌}
-use Prim.Native.Nat.{ℕ}
-use Rattle.loops.proofs.Loops.{Edited, fills, edited-start, filled-step, filled-end}
-use Rattle.same_keys.specs.Keys.{first_key, sum_key}
+use Rattle.loops.proofs.Loops.{edited-start, filled-step, filled-end}
+use Rattle.same_keys.specs.Keys.{first_key}
 use Rattle.same_keys.proofs.fill_first.Goals as goal
 
 pub loop-i-init : goal.loop-i-init

@@ -1,9 +1,6 @@
-use Prim.Native.Nat.{◌-◌, ◌*◌, ◌≤◌}
-use native.Mathlib.Omega.{arith}
-use mathlib.Core.Path.{ap, ◌∙◌}
-use Prim.Native.Nat.{ℕ}
-use Rattle.loops.proofs.Loops.{Edited, fills, edited-start, filled-step, filled-end}
-use Rattle.same_keys.specs.Keys.{first_key, sum_key}
+use Prim.Native.Nat.{◌-◌}
+use Rattle.loops.proofs.Loops.{Edited, fills}
+use Rattle.same_keys.specs.Keys.{sum_key}
 use Rattle.same_keys.proofs.fill_first.Given as goal
 
 abbrev pub invariant-loop-i : goal.invariant-loop-i

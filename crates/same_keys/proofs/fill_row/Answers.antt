@@ -1,9 +1,8 @@
-use Prim.Native.Nat.{ℕ, ◌+◌, ◌-◌, ◌*◌}
+use Prim.Native.Nat.{ℕ, ◌+◌, ◌*◌}
 use lib.ListN.{set}
-use native.Mathlib.Omega.{arith}
 use mathlib.Core.Path.{ap}
-use Rattle.loops.proofs.Loops.{Ran, ran-start, ran-step, ran-end}
-use Rattle.same_keys.specs.Keys.{pair_cell, set_cell, row_filled}
+use Rattle.loops.proofs.Loops.{ran-start, ran-step, ran-end}
+use Rattle.same_keys.specs.Keys.{row_filled}
 use Rattle.same_keys.proofs.fill_row.Goals as goal
 
 pub loop-b-init : goal.loop-b-init

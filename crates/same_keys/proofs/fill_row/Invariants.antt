@@ -1,9 +1,6 @@
-use Prim.Native.Nat.{ℕ, ◌+◌, ◌-◌, ◌*◌}
-use lib.ListN.{set}
-use native.Mathlib.Omega.{arith}
-use mathlib.Core.Path.{ap}
-use Rattle.loops.proofs.Loops.{Ran, ran-start, ran-step, ran-end}
-use Rattle.same_keys.specs.Keys.{pair_cell, set_cell, row_filled}
+use Prim.Native.Nat.{◌-◌}
+use Rattle.loops.proofs.Loops.{Ran}
+use Rattle.same_keys.specs.Keys.{pair_cell, set_cell}
 use Rattle.same_keys.proofs.fill_row.Given as goal
 
 abbrev pub invariant-loop-b : goal.invariant-loop-b

@@ -1,4 +1,3 @@
-use native.Mathlib.Omega.{arith}
 use mir.Facts.{to_z-of_z}
 use mathlib.Core.Path.{◌∙◌}
 use Rattle.same_keys.proofs.Mixing.{cells-stirred}

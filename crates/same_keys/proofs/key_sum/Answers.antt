@@ -1,7 +1,6 @@
-use Prim.Native.Nat.{◌-◌, ◌*◌, ◌≤◌}
 use native.Mathlib.Omega.{arith}
-use Rattle.loops.proofs.Loops.{Ran, ran-start, ran-step, ran-end}
-use Rattle.same_keys.specs.Keys.{prime, mixed, at, add_mixed, key_sum}
+use Rattle.loops.proofs.Loops.{ran-start, ran-step, ran-end}
+use Rattle.same_keys.specs.Keys.{at, key_sum}
 use Rattle.same_keys.proofs.Mixing.{mixed-low}
 use mathlib.Core.Path.{ap}
 use Prim.Native.Nat.{ℕ, ◌+◌}

@@ -1,10 +1,6 @@
 use Prim.Native.Nat.{◌-◌, ◌*◌, ◌≤◌}
-use native.Mathlib.Omega.{arith}
-use Rattle.loops.proofs.Loops.{Ran, ran-start, ran-step, ran-end}
-use Rattle.same_keys.specs.Keys.{prime, mixed, at, add_mixed, key_sum}
-use Rattle.same_keys.proofs.Mixing.{mixed-low}
-use mathlib.Core.Path.{ap}
-use Prim.Native.Nat.{ℕ, ◌+◌}
+use Rattle.loops.proofs.Loops.{Ran}
+use Rattle.same_keys.specs.Keys.{prime, add_mixed}
 use Rattle.same_keys.proofs.key_sum.Given as goal
 
 abbrev pub invariant-loop-i : goal.invariant-loop-i

@@ -1,5 +1,4 @@
-use Prim.Native.Nat.{◌-◌, ◌*◌, ◌≤◌}
-use native.Mathlib.Omega.{arith}
+use Prim.Native.Nat.{◌-◌, ◌≤◌}
 use Rattle.same_keys.proofs.mark_seconds.Given as goal
 
 abbrev pub invariant-loop-k : goal.invariant-loop-k

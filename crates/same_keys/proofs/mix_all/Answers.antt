@@ -1,7 +1,4 @@
-use Prim.Native.Nat.{◌-◌}
-use native.Mathlib.Omega.{arith}
-use Rattle.loops.proofs.Loops.{Edited, fills, edited-start, filled-step, filled-end}
-use Rattle.same_keys.specs.Keys.{mixed_at}
+use Rattle.loops.proofs.Loops.{edited-start, filled-step, filled-end}
 use Rattle.same_keys.proofs.mix_all.Goals as goal
 
 pub loop-i-init : goal.loop-i-init

@@ -1,6 +1,5 @@
 use Prim.Native.Nat.{◌-◌}
-use native.Mathlib.Omega.{arith}
-use Rattle.loops.proofs.Loops.{Edited, fills, edited-start, filled-step, filled-end}
+use Rattle.loops.proofs.Loops.{Edited, fills}
 use Rattle.same_keys.specs.Keys.{mixed_at}
 use Rattle.same_keys.proofs.mix_all.Given as goal
 

@@ -1,8 +1,6 @@
-use Prim.Native.Nat.{ℕ, ◌-◌}
-use mathlib.Core.List.{List}
 use native.Mathlib.Omega.{arith}
-use Rattle.loops.proofs.Loops.{Ran, ran-start, ran-step, ran-end}
-use Rattle.same_keys.specs.Keys.{at, pair_cell, told_apart, row_filled, pairs_filled}
+use Rattle.loops.proofs.Loops.{ran-start, ran-step, ran-end}
+use Rattle.same_keys.specs.Keys.{pairs_filled}
 use Rattle.same_keys.proofs.pair_rows.Goals as goal
 
 pub loop-a-init : goal.loop-a-init

@@ -1,8 +1,6 @@
-use Prim.Native.Nat.{◌-◌}
 use native.Mathlib.Omega.{arith}
-use Rattle.same_keys.specs.Keys.{at}
 use Rattle.same_keys.proofs.Low.{low-more}
-use Rattle.same_keys.proofs.Spreading.{Refining, refining-start, refining-step, refining-end}
+use Rattle.same_keys.proofs.Spreading.{refining-start, refining-step, refining-end}
 use Rattle.same_keys.proofs.refine.Goals as goal
 
 pub loop-i-init : goal.loop-i-init

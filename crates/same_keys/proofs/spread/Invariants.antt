@@ -1,9 +1,6 @@
 use Prim.Native.Nat.{◌-◌}
-use native.Mathlib.Omega.{arith}
-use mathlib.Core.Path.{refl}
 use Rattle.same_keys.specs.Keys.{at, highest}
-use Rattle.same_keys.proofs.Spreading.{Spreading, spreading-start, spreading-step, spreading-end}
-use Rattle.same_keys.proofs.Low.{low-more}
+use Rattle.same_keys.proofs.Spreading.{Spreading}
 use Rattle.same_keys.proofs.spread.Given as goal
 
 abbrev pub invariant-loop-k : goal.invariant-loop-k
