@@ -1,5 +1,6 @@
 // The public calls for C and Rust: slices, counts and numbers in, codes out.
 #![tactic(auto)]
+
 ghost use Rattle.std.specs.Prelude.{◌≡◌};
 ghost use Rattle.matching.specs.declared.Call.TheVariants.{First, Next};
 ghost use Rattle.kekule.specs.Kekule.{call_reply, call_on, asked_of, kekulize_reply, kekulized_of};

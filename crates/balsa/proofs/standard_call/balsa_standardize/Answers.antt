@@ -1,0 +1,5 @@
+use Rattle.balsa.proofs.Laws.{standard-law}
+use Rattle.balsa.proofs.standard_call.balsa_standardize.Goals as goal
+
+pub returns : goal.returns
+returns c = standard-law c.standardize.result c.standard_reply.ensures c.standardize.ensures

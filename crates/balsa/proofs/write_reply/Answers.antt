@@ -1,0 +1,7 @@
+use Rattle.balsa.proofs.write_reply.Goals as goal
+
+pub returns-in-Text : goal.returns-in-Text
+returns-in-Text c = simp c.in-Text.is
+
+pub returns-in-Refused : goal.returns-in-Refused
+returns-in-Refused c = simp (c.in-Refused.is, c.code.ensures)
