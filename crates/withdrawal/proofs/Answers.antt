@@ -5,7 +5,7 @@ use mathlib.Core.Bool.{Bool, true, false}
 use mathlib.Core.List.{List}
 use lib.ListN.{length}
 use lib.IntN.{ℤ}
-use lib.Dec.{eqb, ltb}
+use lib.Dec.{ltb}
 use borrow.Author.Tests.{lt-ltb, le-ltb}
 use Rattle.refusal.specs.declared.Refusal.{Refusal}
 use Rattle.refusal.specs.Code.{code_of}
@@ -13,13 +13,13 @@ use Rattle.table.proofs.Keys.{never}
 use Rattle.reading.specs.Read.{ReadResult}
 use Rattle.reader.specs.declared.ending.ReadAnswer as reply
 use Rattle.reader.specs.Ending.{told}
-use Rattle.register.specs.Layout.{size, valid, count, body_of}
+use Rattle.register.specs.Layout.{size, valid, body_of}
 use Rattle.same_model.specs.Same.{molecule}
 use Rattle.folding.specs.Folding.{folded}
 use Rattle.redrawing.specs.Redrawn.{Redrawn}
 use Rattle.withdrawal.specs.declared.verdict.Verdict.{Verdict}
 use Rattle.withdrawal.specs.declared.walk.Withdrawn.{Withdrawn}
-use Rattle.withdrawal.specs.Withdrawal.{read_text, accepted, drawn, Drawings, WithdrawnOut, refused_with, True, Answered}
+use Rattle.withdrawal.specs.Withdrawal.{read_text, accepted, drawn, Drawings, refused_with, Answered}
 use Rattle.withdrawal.specs.Verdict.{Holds}
 use Rattle.withdrawal.specs.Answer.{out_of}
 use Rattle.withdrawal.specs.Walk.{Walked}

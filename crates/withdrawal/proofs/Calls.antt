@@ -1,7 +1,7 @@
 -- From what reading and adding hand back to what withdrawing answers. Assumes nothing.
 use Prim.Native.Nat.{ℕ, ◌*◌, ◌≤◌, ◌<◌}
-use mathlib.Core.Path.{◌≡◌, refl, sym, ap, ◌∙◌}
-use mathlib.Core.Bool.{Bool, true, false}
+use mathlib.Core.Path.{◌≡◌, sym, ap, ◌∙◌}
+use mathlib.Core.Bool.{Bool, false}
 use mathlib.Core.List.{List}
 use lib.ListN.{length, replicate}
 use lib.IntN.{ℤ, pos}
@@ -19,7 +19,7 @@ use Rattle.reader.specs.Ending.{told}
 use Rattle.register.specs.Layout.{size}
 use Rattle.register.specs.declared.RegisterAnswer.{RegisterAnswer}
 use Rattle.register.specs.Answers as register
-use Rattle.withdrawal.specs.Withdrawal.{WithdrawOut, read_text, accepted, withdrew, withdraw_of}
+use Rattle.withdrawal.specs.Withdrawal.{WithdrawOut, read_text, withdrew, withdraw_of}
 
 -- a refusal's code is not 0
 pub code-not-zero : (c : Refusal) → eqb (code_of c) 0 ≡ false

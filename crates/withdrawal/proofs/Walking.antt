@@ -6,13 +6,13 @@ use native.Mathlib.Decide.{ℕ_discrete, dec_lt}
 use mathlib.Core.Path.{◌≡◌, refl, sym, ap, ◌∙◌, subst}
 use mathlib.Core.Bool.{Bool, true, false, ◌&&◌}
 use mathlib.Core.List.{List}
-use lib.ListN.{length, get_or}
+use lib.ListN.{get_or}
 use lib.Dec.{eqb, leb, ltb}
-use borrow.Author.Tests.{eq-eqb, ne_eqb, eqb-true, lt-ltb, le-ltb, leb-true}
+use borrow.Author.Tests.{eq-eqb, ne_eqb, lt-ltb, le-ltb, leb-true}
 use Rattle.loops.specs.Loop.{pick, each}
 use Rattle.loops.proofs.Loops.{and_left, and_right}
 use Rattle.table.proofs.Keys.{never}
-use Rattle.register.specs.Layout.{size, max_entries, count, tag_of, body_of, valid_entry, valid}
+use Rattle.register.specs.Layout.{max_entries, count, tag_of, body_of, valid_entry, valid}
 use Rattle.same_model.specs.Same.{Molecule}
 use Rattle.folding.specs.Folding.{folded}
 use Rattle.withdrawal.specs.declared.verdict.Verdict.{Verdict}

@@ -1,7 +1,7 @@
 -- auxiliary: what a walk over the entries of a register promises
 use Rattle.std.specs.Prelude.{ℕ, ◌≤◌, ◌<◌, ◌≡◌, false, List, eqb}
 use Rattle.loops.specs.Loop.{pick}
-use Rattle.register.specs.Layout.{max_entries, count, tag_of, body_of}
+use Rattle.register.specs.Layout.{max_entries, count, body_of}
 use Rattle.same_model.specs.Same.{Molecule}
 use Rattle.withdrawal.specs.declared.verdict.Verdict.{Verdict}
 use Rattle.withdrawal.specs.declared.walk.Withdrawn.{Withdrawn}

@@ -1,5 +1,5 @@
 -- The withdrawal check: withdrawing a text, and whether a text is withdrawn in any drawing
-use Rattle.std.specs.Prelude.{ℕ, zero, suc, ◌*◌, ◌<◌, ◌≡◌, Bool, true, false, not, ◌⊎◌, List, length, replicate, pos, eqb, ltb}
+use Rattle.std.specs.Prelude.{ℕ, zero, suc, ◌*◌, ◌<◌, ◌≡◌, Bool, true, false, ◌⊎◌, List, length, replicate, pos, eqb, ltb}
 use Rattle.loops.specs.Loop.{pick}
 use Rattle.table.specs.Limits.{max_atoms, max_bonds, atom_cells, bond_cells}
 use Rattle.reading.specs.Read.{ReadResult, read_of}

@@ -1,5 +1,4 @@
 use Rattle.withdrawal.proofs.Calls.{short-register, unread-text, added-text}
-use Rattle.refusal.proofs.code.Reads as code_Reads
 use Rattle.withdrawal.proofs.withdraw.Goals as goal
 
 pub returns-then-held-lt-SIZE : goal.returns-then-held-lt-SIZE

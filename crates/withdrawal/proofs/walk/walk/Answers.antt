@@ -1,12 +1,10 @@
 use mathlib.Core.Path.{◌∙◌}
 use Rattle.withdrawal.proofs.Walking.{said, seen_same}
 use Rattle.withdrawal.proofs.Walking.{seen_start, seen_other, seen-unsure, walked_end, walked-listed, few-entries}
-use Rattle.withdrawal.specs.Walk.{Seen}
 use Rattle.register.specs.Layout.{count as entries}
 use Rattle.same_model.specs.Same.{molecule}
-use mathlib.Core.Path.{◌≡◌}
 use native.Mathlib.Omega.{arith}
-use Prim.Native.Nat.{◌-◌, ◌<◌}
+use Prim.Native.Nat.{◌<◌}
 use Rattle.withdrawal.proofs.walk.walk.Goals as goal
 use Rattle.withdrawal.proofs.walk.walk.Goals.{in-Other, in-Unsure}
 
@@ -24,7 +22,7 @@ loop-p-preserved c = let a = c.args in
     let l : c.loop-p.p < entries a.held.now = omega (arith, c.loop-p-test.true, c.count-count.ensures) in
     let k : c.loop-p.p < 64 = omega (arith, few-entries _ c.requires.size_in_bounds.1, l) in
     elim c.match-v.branch [
-      in-Other w ↦ seen_same a.held.now (molecule a.atoms.now a.bonds.now a.n a.m) w.unsure-is (seen_other _ _ c.loop-p.invariant l (said _ c.body-body.ensures w.in-Other.is c.judge-v.ensures))
+      | in-Other w ↦ seen_same a.held.now (molecule a.atoms.now a.bonds.now a.n a.m) w.unsure-is (seen_other _ _ c.loop-p.invariant l (said _ c.body-body.ensures w.in-Other.is c.judge-v.ensures))
       | in-Unsure w ↦ seen-unsure _ _ c.loop-p.invariant l k (said _ c.body-body.ensures w.in-Unsure.is c.judge-v.ensures) (w.unsure-is ∙ w.noted-unsure.ensures)
     ]
 
