@@ -4,26 +4,25 @@ use mathlib.Core.List.{List, ◌++◌}
 use Prim.Native.Nat.{ℕ, zero, suc, ◌+◌, ◌*◌, ◌<◌, ◌≤◌, ◌%◌}
 use native.Mathlib.Omega.{arith}
 use lib.IntN.{ℤ}
-use lib.ListN.{length, get_or, take, drop, replicate, length-replicate, get_or-replicate}
+use lib.ListN.{length, get_or, take, drop, get_or-replicate}
 use lib.Seq.{length-take-le, get_or-take, ext_get_or}
 use Rattle.loops.specs.Loop.{pick, run, up_to}
-use Rattle.loops.proofs.Loops.{length-up_to, up_to-at, filled_at, filled-part}
-use Rattle.table.specs.Limits.{max_bonds}
+use Rattle.loops.proofs.Loops.{length-up_to, up_to-at, filled-part}
 use Rattle.table.specs.Cells.{end1, end2}
 use Rattle.table.specs.Valid.{Valid}
 use Rattle.table_graph.specs.Graph.{bond_sum}
 use Rattle.table_graph.specs.Built.{sum_flag, Wired}
 use Rattle.table_graph.proofs.Graph.{up_to-ext}
 use Rattle.same_model.specs.Same.{Molecule, molecule}
-use Rattle.same_model.specs.Redrawing.{settled_sum, joined}
-use Rattle.same_model.proofs.Totals.{total, run-total, total-same}
+use Rattle.same_model.specs.Redrawing.{joined}
+use Rattle.same_model.proofs.Totals.{run-total, total-same}
 use Rattle.same_keys.specs.Keys.{prime, mixed, at, mixed_at, join_keys, spread, next_keys, refined, Low, highest}
 use Rattle.same_keys.proofs.Low.{low-more, low_same, alike-low, low-append, low-drop, low-up_to}
 use Rattle.same_keys.proofs.Mixing.{mixed-low}
 use Rattle.same_keys.proofs.Spreading.{run-low, run_length, next-length, run_agree}
 use Rattle.same_keys.proofs.Filling.{first-at, second_at, refined-agree, settled_at}
 use Rattle.same_keys.proofs.Kept.{spread_at, next-at}
-use Rattle.drawing_key.specs.Key.{cells_number, joined_sum, degree, hashed, first_key, next_round, key_rounds, atom_keys, word, add_key, half, mixed_again, summed, key_of}
+use Rattle.drawing_key.specs.Key.{cells_number, joined_sum, degree, hashed, first_key, next_round, key_rounds, atom_keys, word, half, mixed_again, summed, key_of}
 use Rattle.drawing_key.specs.Filled.{sum_key, Even}
 use Rattle.drawing_key.proofs.Joined.{joined-sum, joined-agree}
 

@@ -1,6 +1,6 @@
 -- Sums over the atoms that an atom is joined to. Assumes nothing.
-use mathlib.Core.Path.{◌≡◌, refl, sym, ap, ◌∙◌}
-use Prim.Native.Nat.{ℕ, ◌+◌, ◌<◌}
+use mathlib.Core.Path.{◌≡◌, sym, ap, ◌∙◌}
+use Prim.Native.Nat.{ℕ, ◌<◌}
 use Rattle.loops.specs.Loop.{pick}
 use Rattle.same_model.specs.Same.{Molecule}
 use Rattle.same_model.specs.Redrawing.{joined}

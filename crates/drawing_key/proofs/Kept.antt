@@ -3,16 +3,16 @@ use mathlib.Core.Path.{◌≡◌, refl, sym, ap, ◌∙◌}
 use mathlib.Core.List.{List}
 use Prim.Native.Nat.{ℕ, zero, suc, ◌+◌, ◌*◌, ◌<◌, ◌%◌}
 use native.Mathlib.Omega.{arith}
-use lib.IntN.{ℤ, pos, ◌+ℤ◌}
+use lib.IntN.{pos, ◌+ℤ◌}
 use Rattle.loops.specs.Loop.{pick, run, up_to}
 use Rattle.loops.proofs.Loops.{up_to-at}
 use Rattle.table.specs.Cells.{number}
 use Rattle.same_model.specs.Same.{Molecule, image}
-use Rattle.same_model.specs.Redrawing.{settled_sum, joined, Redrawing}
-use Rattle.same_model.proofs.Cells.{Alike, alike}
+use Rattle.same_model.specs.Redrawing.{joined, Redrawing}
+use Rattle.same_model.proofs.Cells.{alike}
 use Rattle.same_model.proofs.Totals.{total, run-total, total-same, total-permuted}
 use Rattle.same_keys.specs.Keys.{mixed, at, mixed_at}
-use Rattle.drawing_key.specs.Key.{cells_number, joined_sum, degree, hashed, first_key, next_round, key_rounds, atom_keys, word, add_key, half, mixed_again, summed, key_of}
+use Rattle.drawing_key.specs.Key.{cells_number, joined_sum, hashed, first_key, next_round, key_rounds, atom_keys, word, half, mixed_again, summed, key_of}
 use Rattle.drawing_key.proofs.Joined.{joined-sum}
 
 module _ {x y : Molecule} (w : Redrawing x y) where

@@ -2,7 +2,7 @@
 use mathlib.Core.Path.{◌≡◌, refl}
 use mathlib.Core.List.{List, [], ◌∷◌, map}
 use Prim.Native.Nat.{ℕ}
-use lib.IntN.{pos, negsuc}
+use lib.IntN.{pos}
 use Rattle.kinds.specs.Kind.{order}
 use Rattle.loops.specs.Loop.{run, up_to}
 use Rattle.valence.specs.Valence.{targets, first_target, shifted_target, delocalized}

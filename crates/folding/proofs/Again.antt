@@ -1,32 +1,29 @@
 -- Where no atom folds, nothing changes; and of what was folded no atom folds. Assumes nothing.
 use mathlib.Core.Path.{◌≡◌, refl, sym, ap, ◌∙◌}
-use mathlib.Core.Bool.{Bool, true, false, ◌&&◌, not}
-use mathlib.Core.List.{List}
+use mathlib.Core.Bool.{Bool, true, false, ◌&&◌}
 use Prim.Native.Nat.{ℕ, zero, suc, ◌+◌, ◌*◌, ◌<◌, ◌≤◌}
 use native.Mathlib.Omega.{arith}
 use lib.Dec.{eqb, ltb}
-use lib.ListN.{length, get_or}
+use lib.ListN.{get_or}
 use lib.IntN.{ℤ, pos}
 use borrow.Author.Tests.{eqb-true, eqb-false, eq-eqb, ltb-true, ltb-false, not-true}
 use Rattle.loops.specs.Loop.{pick}
-use Rattle.loops.proofs.Loops.{and_left, and_right}
 use Rattle.kinds.specs.Kind.{is_mark}
-use Rattle.table.specs.Limits.{atom_cells, bond_cells, ELEMENT, SELECTED, ISOTOPE, HYDROGENS, CHARGE, EXTENSION, MARK, FIRST, SECOND, KIND}
-use Rattle.table.specs.Cells.{number, atom_place, atom_cell, bond_cell, hydrogens, end1, end2, kind}
+use Rattle.table.specs.Limits.{atom_cells, bond_cells, ELEMENT, SELECTED, ISOTOPE, HYDROGENS, CHARGE, EXTENSION, MARK}
+use Rattle.table.specs.Cells.{number, atom_cell, hydrogens, end1, end2, kind}
 use Rattle.table.specs.Rows.{atom_row, cells_of, bond_cells_of}
-use Rattle.table.specs.Valid.{Valid}
 use Rattle.table.proofs.Valid.{atom-row, bond-row, bond-fine-back, range-pos, first-end, second-end}
 use Rattle.table.proofs.Keys.{bond-ends}
-use Rattle.matching.proofs.Graph.{never, and_intro}
+use Rattle.matching.proofs.Graph.{and_intro}
 use Rattle.table_graph.specs.Graph.{bond_sum}
 use Rattle.same_model.specs.Same.{Molecule, order_between}
 use Rattle.same_model.proofs.Totals.{total}
-use Rattle.folding.specs.Folding.{bared_atoms, bared_bonds, bared, is_cell, neighbour, plain_hydrogen, folds, fold_into, folded_to, goes, stays, new_atom, bond_stays, new_bond, moved_bond, merged, Complete}
+use Rattle.folding.specs.Folding.{bared, is_cell, neighbour, plain_hydrogen, folds, fold_into, folded_to, goes, stays, new_atom, bond_stays, new_bond, moved_bond, merged, Complete}
 use Rattle.folding.proofs.Ranks.{rank-all}
 use Rattle.folding.proofs.Packed.{packed-same}
 use Rattle.folding.proofs.Bared.{atoms-same, bonds-same, atoms-extension, atoms-mark, bonds-unmarked}
 use Rattle.folding.proofs.Neighbours.{sum-degree, neighbour-below, lone-order}
-use Rattle.folding.proofs.Plain.{is-cell, cell-is, Plain, plain-facts, plain-test, to_none, to-more, gained, to-count, goes-when}
+use Rattle.folding.proofs.Plain.{Plain, plain-facts, plain-test, to_none, to-more, gained, to-count, goes-when}
 use Rattle.folding.proofs.Merged.{row-cell, old, old_bond, old-at, old-bond, merged-field, merged-hydrogens, merged-kind, merged-complete, merged-order}
 use Rattle.folding.proofs.Sums.{merged-sum}
 

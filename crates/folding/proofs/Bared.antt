@@ -1,8 +1,8 @@
 -- Bare tables: extensions and marks are 0, no bond is marked, and all else is as it was. Assumes nothing.
 use mathlib.Core.Path.{◌≡◌, refl, sym, ap, ◌∙◌}
-use mathlib.Core.Bool.{Bool, true, false, ◌&&◌, ◌||◌, not}
+use mathlib.Core.Bool.{Bool, true, false, ◌||◌, not}
 use mathlib.Core.List.{List}
-use Prim.Native.Nat.{ℕ, zero, suc, ◌+◌, ◌*◌, ◌<◌, ◌≤◌}
+use Prim.Native.Nat.{ℕ, zero, suc, ◌+◌, ◌<◌, ◌≤◌}
 use native.Mathlib.Omega.{arith}
 use lib.Dec.{eqb, ltb}
 use lib.ListN.{length, get_or, set, length-set, get_or-eq_default}
@@ -21,7 +21,7 @@ use Rattle.table.proofs.Sound.{run-last, degree-same}
 use Rattle.table_graph.specs.Graph.{share, bond_sum, delocalized_at, flag}
 use Rattle.same_model.specs.Same.{Molecule, joins, order_between}
 use Rattle.same_model.specs.Redrawing.{settled_sum, joined}
-use Rattle.same_model.proofs.Totals.{total, total-same}
+use Rattle.same_model.proofs.Totals.{total-same}
 use Rattle.same_model.proofs.Orders.{between, order-total, sum-total}
 use Rattle.folding.specs.Folding.{bare_atom, bared_atoms, bare_bond, bared_bonds, bared, Complete}
 

@@ -1,22 +1,21 @@
 -- Folding as the code does it: links tell the neighbours of atoms with one single bond, and new numbers who stays; rows moved by them are those of the definition. Assumes nothing.
 use mathlib.Core.Path.{◌≡◌, refl, sym, ap, ◌∙◌}
-use mathlib.Core.Bool.{Bool, true, false, ◌&&◌, ◌||◌, not}
+use mathlib.Core.Bool.{Bool, true, false, ◌&&◌, not}
 use mathlib.Core.List.{List, [], ◌∷◌, ◌++◌}
 use Prim.Native.Nat.{ℕ, zero, suc, ◌+◌, ◌*◌, ◌-◌, ◌<◌, ◌≤◌}
 use native.Mathlib.Omega.{arith}
 use native.Mathlib.Numerals.{add-one}
-use native.Mathlib.Nat.{add-zero}
 use lib.Dec.{eqb, leb, ltb}
-use lib.ListN.{length, get_or, set, drop, replicate, length-set, get_or-append}
+use lib.ListN.{length, get_or, set, replicate, length-set}
 use lib.Seq.{sets, get_or-set_same, get_or-set_other, ext_get_or}
-use lib.IntN.{ℤ, pos}
-use borrow.Author.Tests.{eqb-true, eqb-false, eq-eqb, ne_eqb, le-leb, lt-ltb, le-ltb, not-true}
-use Rattle.loops.specs.Loop.{pick, each, run, up_to, how_many}
+use lib.IntN.{ℤ}
+use borrow.Author.Tests.{eqb-true, eqb-false, ne_eqb, le-leb, lt-ltb, le-ltb, not-true}
+use Rattle.loops.specs.Loop.{pick, run, up_to, how_many}
 use Rattle.loops.proofs.Loops.{length-up_to, up_to-at, each_at, filled_at}
 use Rattle.loops.proofs.Counting.{many-same}
-use Rattle.kinds.specs.Kind.{order, max_kind}
+use Rattle.kinds.specs.Kind.{order}
 use Rattle.table.specs.Limits.{max_atoms, atom_cells, bond_cells, ELEMENT, FIRST, SECOND, KIND}
-use Rattle.table.specs.Cells.{number, atom_cell, bond_cell, element, hydrogens, end1, end2, kind, touches}
+use Rattle.table.specs.Cells.{number, bond_cell, element, hydrogens, end1, end2, kind, touches}
 use Rattle.table.specs.declared.Atom.{Atom}
 use Rattle.table.specs.declared.Bond.{Bond}
 use Rattle.table.specs.Rows.{atom_row, cells_of, bond_cells_of, with_atom, with_bond}

@@ -1,28 +1,26 @@
 -- The molecule of those that stay: its cells, its validity, and the orders between its atoms, by the numbers that they had. Assumes nothing.
 use mathlib.Core.Path.{◌≡◌, refl, sym, ap, ◌∙◌}
-use mathlib.Core.Bool.{Bool, true, false, ◌&&◌, ◌||◌, not}
+use mathlib.Core.Bool.{Bool, true, false, ◌&&◌, not}
 use mathlib.Core.List.{List}
 use Prim.Native.Nat.{ℕ, zero, suc, ◌+◌, ◌*◌, ◌<◌, ◌≤◌}
 use native.Mathlib.Omega.{arith}
-use lib.Dec.{eqb, leb}
+use lib.Dec.{eqb}
 use lib.ListN.{length, get_or}
 use lib.IntN.{ℤ, pos}
-use lib.Signed.{le_z}
-use borrow.Author.Tests.{eqb-true, eq-eqb, le-leb, not-true}
-use Rattle.loops.specs.Loop.{pick, how_many}
+use borrow.Author.Tests.{eqb-true, eq-eqb, le-leb}
+use Rattle.loops.specs.Loop.{pick}
 use Rattle.loops.proofs.Loops.{and_left, and_right, each_all}
 use Rattle.kinds.specs.Kind.{order}
 use Rattle.table.specs.Limits.{atom_cells, bond_cells, ELEMENT, SELECTED, ISOTOPE, HYDROGENS, CHARGE, EXTENSION, MARK, FIRST, SECOND, KIND}
 use Rattle.table.specs.Cells.{number, atom_cell, bond_cell, hydrogens, end1, end2, kind}
 use Rattle.table.specs.Rows.{atom_row, cells_of, bond_cells_of}
-use Rattle.table.specs.declared.Bond.{Bond}
 use Rattle.table.specs.Valid.{selected_ok, same_ends, fresh, distinct, atom_ok, bond_ok, Valid}
-use Rattle.table.proofs.Valid.{range-of, AtomFine, atom-row, atom-fine-back, BondFine, bond-row, bond-fine-back, first-end, second-end, apart-at}
+use Rattle.table.proofs.Valid.{range-of, AtomFine, atom-row, atom-fine-back, BondFine, bond-row, bond-fine-back, apart-at}
 use Rattle.matching.proofs.Graph.{and_intro, same_bool, or_cases}
 use Rattle.same_model.specs.Same.{Molecule, joins, order_between}
 use Rattle.same_model.proofs.Totals.{total, total-same}
 use Rattle.same_model.proofs.Orders.{between, order-total}
-use Rattle.folding.specs.Folding.{folded_to, goes, stays, new_atom, bond_stays, new_bond, moved_bond, packed, merged, Complete}
+use Rattle.folding.specs.Folding.{folded_to, stays, new_atom, bond_stays, new_bond, moved_bond, merged, Complete}
 use Rattle.folding.proofs.Ranks.{rank-low, rank_mono, rank_less, rank-one, nth, Nth, nth-rank, nth-at, total-nth}
 use Rattle.folding.proofs.Packed.{packed-length, packed-at}
 use Rattle.folding.proofs.Plain.{to-length, to-field, gained, to-hydrogens, to-count, to-small}

@@ -7,8 +7,8 @@ use native.Mathlib.Omega.{arith}
 use lib.Dec.{eqb, leb}
 use lib.ListN.{length, get_or}
 use lib.IntN.{ℤ}
-use borrow.Author.Tests.{eqb-true, eqb-false, eq-eqb, ne_eqb, le-leb}
-use Rattle.loops.specs.Loop.{pick, run}
+use borrow.Author.Tests.{eqb-true, eqb-false, eq-eqb, le-leb}
+use Rattle.loops.specs.Loop.{pick}
 use Rattle.kinds.specs.Kind.{order, max_kind}
 use Rattle.kinds.proofs.Kind.{order_small}
 use Rattle.parity.specs.Parity.{absent}
@@ -17,16 +17,15 @@ use Rattle.table.specs.Cells.{end1, end2, kind, touches}
 use Rattle.table.specs.Valid.{Valid}
 use Rattle.table.specs.Sound.{bond_degree}
 use Rattle.table.specs.Orders.{bonds_at}
-use Rattle.table.proofs.Valid.{bond-row, kind-small, first-end, second-end}
+use Rattle.table.proofs.Valid.{kind-small, first-end, second-end}
 use Rattle.table.proofs.Orders.{bonds-length, bonds-listed}
-use Rattle.matching.proofs.Graph.{or_cases}
 use Rattle.table_graph.specs.Graph.{share, bond_sum}
 use Rattle.same_model.specs.Same.{Molecule, joins, order_between}
 use Rattle.same_model.specs.Redrawing.{joined}
 use Rattle.same_model.proofs.Totals.{total, total-same, total-le, run-total}
 use Rattle.same_model.proofs.Orders.{between, order-total, sum-total, sum-between}
 use Rattle.same_model.proofs.Single.{joined-total}
-use Rattle.folding.specs.Folding.{other_end, neighbour}
+use Rattle.folding.specs.Folding.{neighbour}
 
 -- ---- sums of few
 pub total-has : (f : ℕ → ℕ) (n c : ℕ) → c < n → f c ≤ total f n

@@ -13,7 +13,7 @@ use borrow.Author.Tests.{eqb-true, eqb-false}
 use Rattle.loops.specs.Loop.{pick, run, how_many}
 use Rattle.table.proofs.Sound.{run-last}
 use Rattle.folding.specs.Folding.{placed, packed}
-use Rattle.folding.proofs.Ranks.{rank-more, rank-low, rank_mono, rank_less, rank-true, rank-false, rank-all}
+use Rattle.folding.proofs.Ranks.{rank-low, rank_less, rank-true, rank-false, rank-all}
 
 -- ---- cells written one after the other, from a place on
 sets-before : (vs l : List ℤ) (i j : ℕ) → j < i → get_or (sets l i vs) j (pos 0) ≡ get_or l j (pos 0)

@@ -1,29 +1,29 @@
 -- One law for each way out of the code's functions. Assumes nothing.
 use mathlib.Core.Path.{◌≡◌, refl, sym, ap, ◌∙◌}
 use mathlib.Core.Bool.{Bool, true, false, ◌&&◌, not}
-use mathlib.Core.List.{List, [], ◌∷◌, ◌++◌}
+use mathlib.Core.List.{List, [], ◌∷◌}
 use Prim.Native.Nat.{ℕ, zero, suc, ◌+◌, ◌-◌, ◌<◌, ◌≤◌}
 use native.Mathlib.Omega.{arith}
 use native.Mathlib.Numerals.{add-one}
 use lib.Dec.{eqb, leb, ltb}
 use lib.ListN.{length, get_or, set, get_or-eq_default}
 use lib.IntN.{ℤ, pos}
-use borrow.Author.Tests.{eq-eqb, ne_eqb, le-leb, lt-leb, lt-ltb, le-ltb, eqb-false, leb-true, ltb-true, not-true}
+use borrow.Author.Tests.{ne_eqb, le-leb, lt-leb, lt-ltb, le-ltb, eqb-false, leb-true, ltb-true, not-true}
 use mir.Syntax.{w32}
 use mir.Val.{SFits, to_z, of_z}
 use mir.Facts.{to_z-of_z, to_z_pos}
-use Rattle.loops.specs.Loop.{pick, run}
+use Rattle.loops.specs.Loop.{pick}
 use Rattle.loops.proofs.Loops.{and_left, and_right}
-use Rattle.kinds.specs.Kind.{single, is_mark, mark_of}
+use Rattle.kinds.specs.Kind.{single, mark_of}
 use Rattle.kinds.proofs.Kind.{mark-none, mark-some}
 use Rattle.table.specs.Limits.{max_atoms, max_bonds, ELEMENT, HYDROGENS, KIND}
-use Rattle.table.specs.Cells.{number, in_range, atom_place, bond_place, atom_cell, bond_cell, hydrogens, end1, end2, kind}
+use Rattle.table.specs.Cells.{in_range, atom_place, bond_place, atom_cell, bond_cell, hydrogens, end1, end2, kind}
 use Rattle.table.specs.declared.Atom.{Atom}
 use Rattle.table.specs.declared.Bond.{Bond}
-use Rattle.table.specs.Rows.{atom_row, atom_at, bond_row, bond_at, BondFits, with_atom, put_atom, with_bond, put_bond}
+use Rattle.table.specs.Rows.{atom_at, bond_row, bond_at, BondFits, put_atom, with_bond, put_bond}
 use Rattle.same_model.specs.Same.{Molecule, molecule}
-use Rattle.folding.specs.Folding.{bared_atoms, bare_bond, bared_bonds, bared, is_cell, plain_row, one_more, merged, folded, Complete}
-use Rattle.folding.specs.Links.{none, no_hydrogen, takes_one, folds_by, fold_by, move_atom, move_atoms, kept_by, moved_by, Placing, placing, move_bond, move_bonds}
+use Rattle.folding.specs.Folding.{bared_atoms, bare_bond, bared_bonds, bared, is_cell, plain_row, merged, folded, Complete}
+use Rattle.folding.specs.Links.{none, no_hydrogen, takes_one, folds_by, fold_by, move_atom, kept_by, moved_by, Placing, placing, move_bond, move_bonds}
 use Rattle.folding.proofs.Bared.{bared-complete}
 use Rattle.folding.proofs.Links.{heavy-merged, bonds-none, bonds-more}
 

@@ -1,7 +1,6 @@
 -- Bond sum and hydrogens together stay at every atom that stays, so the same atoms are delocalized. Assumes nothing.
-use mathlib.Core.Path.{◌≡◌, refl, sym, ap, ◌∙◌}
+use mathlib.Core.Path.{◌≡◌, refl, ap, ◌∙◌}
 use mathlib.Core.Bool.{Bool, true, false, ◌&&◌, not}
-use mathlib.Core.List.{List}
 use Prim.Native.Nat.{ℕ, ◌+◌, ◌<◌}
 use native.Mathlib.Omega.{arith}
 use lib.Dec.{eqb}
@@ -9,7 +8,7 @@ use lib.IntN.{ℤ, pos}
 use lib.Signed.{le_z}
 use Rattle.loops.specs.Loop.{pick}
 use Rattle.table.specs.Limits.{ELEMENT, SELECTED, CHARGE}
-use Rattle.table.specs.Cells.{number, atom_cell, element, selected, hydrogens}
+use Rattle.table.specs.Cells.{atom_cell, element, selected, hydrogens}
 use Rattle.valence.specs.Valence.{shifted_target, delocalized}
 use Rattle.table_graph.specs.Graph.{bond_sum, delocalized_at, flag}
 use Rattle.same_model.specs.Same.{Molecule, order_between}

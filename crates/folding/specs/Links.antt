@@ -6,7 +6,7 @@ use Rattle.table.specs.Limits.{max_atoms, max_bonds, ELEMENT, KIND}
 use Rattle.table.specs.Cells.{bond_cell, element, hydrogens, end1, end2, kind, touches}
 use Rattle.table.specs.declared.Bond.{Bond}
 use Rattle.table.specs.Rows.{atom_row, with_atom, with_bond}
-use Rattle.same_model.specs.Same.{Molecule, molecule}
+use Rattle.same_model.specs.Same.{Molecule}
 use Rattle.folding.specs.Folding.{other_end, is_cell, plain_row, one_more, Complete}
 
 -- no number of an atom

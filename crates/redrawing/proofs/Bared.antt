@@ -1,6 +1,5 @@
 -- Redrawings are redrawings without their extensions and marks. Assumes nothing.
-use mathlib.Core.Path.{◌≡◌, refl, sym, ap, ◌∙◌}
-use mathlib.Core.Bool.{true}
+use mathlib.Core.Path.{◌≡◌, sym, ◌∙◌}
 use Prim.Native.Nat.{ℕ, ◌<◌}
 use native.Mathlib.Omega.{arith}
 use Rattle.table.specs.Limits.{atom_cells, ELEMENT, ISOTOPE, HYDROGENS, CHARGE, EXTENSION, MARK}

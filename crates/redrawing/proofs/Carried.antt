@@ -1,17 +1,15 @@
 -- A redrawing carries plain hydrogens onto plain hydrogens, and their neighbours onto their neighbours. Assumes nothing.
 use mathlib.Core.Path.{◌≡◌, refl, sym, ap, ◌∙◌}
 use mathlib.Core.Bool.{Bool, true, false, ◌&&◌, ◌||◌}
-use mathlib.Core.List.{List}
-use Prim.Native.Nat.{ℕ, ◌+◌, ◌<◌}
+use Prim.Native.Nat.{ℕ, ◌<◌}
 use native.Mathlib.Omega.{arith}
-use native.Mathlib.Nat.{add-zero}
 use lib.Dec.{eqb}
-use lib.IntN.{ℤ, pos}
+use lib.IntN.{pos}
 use borrow.Author.Tests.{eqb-true, eq-eqb}
 use Rattle.loops.specs.Loop.{pick, how_many}
 use Rattle.loops.proofs.Loops.{and_left, and_right}
-use Rattle.table.specs.Limits.{ELEMENT, SELECTED, ISOTOPE, HYDROGENS, CHARGE}
-use Rattle.table.specs.Cells.{number, in_range, atom_cell, element, selected, hydrogens}
+use Rattle.table.specs.Limits.{ELEMENT, SELECTED}
+use Rattle.table.specs.Cells.{number, in_range, atom_cell, element, selected}
 use Rattle.table.specs.Valid.{selectable, selected_ok, Valid}
 use Rattle.table.proofs.Valid.{atom-row, range-pos}
 use Rattle.matching.proofs.Graph.{same_bool}

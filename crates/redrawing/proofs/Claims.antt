@@ -1,9 +1,6 @@
 -- THE LAWS of redrawing. Assumes nothing.
-use mathlib.Core.Path.{◌≡◌, refl, sym, ap, ◌∙◌, subst}
-use Prim.Native.Nat.{ℕ, ◌*◌, ◌<◌, ◌≤◌}
+use mathlib.Core.Path.{sym, subst}
 use native.Mathlib.Omega.{arith}
-use lib.ListN.{length}
-use Rattle.table.specs.Limits.{atom_cells, bond_cells}
 use Rattle.table.specs.Valid.{Valid}
 use Rattle.table.proofs.Valid.{Enough}
 use Rattle.matching.specs.Enumeration.{Row}

@@ -1,28 +1,26 @@
 -- A redrawing of bare molecules can be chosen to carry those that go onto those that go: each plain hydrogen onto the one of its rank among those of its neighbour. Assumes nothing.
 use mathlib.Core.Path.{◌≡◌, refl, sym, ap, ◌∙◌}
 use mathlib.Core.Bool.{Bool, true, false, ◌&&◌, not}
-use mathlib.Core.List.{List}
 use Prim.Native.Nat.{ℕ, ◌+◌, ◌<◌}
 use native.Mathlib.Omega.{arith}
 use lib.Dec.{eqb, ltb}
-use lib.IntN.{ℤ, pos}
+use lib.IntN.{pos}
 use borrow.Author.Tests.{eqb-true, eq-eqb, ne_eqb}
 use Rattle.loops.specs.Loop.{pick, up_to, how_many}
 use Rattle.loops.proofs.Loops.{and_left, and_right, up_to-at}
 use Rattle.table.specs.Limits.{ELEMENT, EXTENSION}
 use Rattle.table.specs.Cells.{number, atom_cell, hydrogens}
 use Rattle.matching.proofs.Graph.{never}
-use Rattle.table_graph.specs.Graph.{bond_sum}
-use Rattle.same_model.specs.Same.{Molecule, order_between, image}
+use Rattle.same_model.specs.Same.{Molecule, image}
 use Rattle.same_model.specs.Redrawing.{Redrawing, settled_sum, joined}
 use Rattle.same_model.proofs.Onto.{made}
 use Rattle.same_model.proofs.Cells.{Alike, cells-alike}
 use Rattle.folding.specs.Folding.{is_cell, neighbour, plain_hydrogen, goes, Complete}
 use Rattle.folding.proofs.Ranks.{rank_less, rank-one, nth, Nth, nth-at}
 use Rattle.folding.proofs.Neighbours.{order-turned, neighbour-below, lone-joined}
-use Rattle.folding.proofs.Plain.{cell-is, Plain, plain-facts, heavy-plain}
+use Rattle.folding.proofs.Plain.{Plain, plain-facts, heavy-plain}
 use Rattle.folding.proofs.Ranked.{hydrogen_of, goes-rank}
-use Rattle.redrawing.proofs.Carried.{plain-settled, carried-below, carried-cells, carried-eqb, plain_carried, neighbour-carried, hydrogens-carried}
+use Rattle.redrawing.proofs.Carried.{plain-settled, carried-below, carried-cells, carried-eqb, plain_carried, hydrogens-carried}
 
 -- no extensions
 pub record Bare (x : Molecule) : Type 0 where

@@ -1,12 +1,11 @@
 -- A redrawing that carries those that go onto those that go: what stays is a redrawing. Assumes nothing.
 use mathlib.Core.Path.{◌≡◌, refl, sym, ap, ◌∙◌}
 use mathlib.Core.Bool.{Bool, true, false, ◌&&◌, not}
-use mathlib.Core.List.{List}
 use Prim.Native.Nat.{ℕ, ◌+◌, ◌<◌}
 use native.Mathlib.Omega.{arith}
 use lib.Dec.{eqb}
-use lib.IntN.{ℤ, pos}
-use Rattle.loops.specs.Loop.{pick, up_to, how_many}
+use lib.IntN.{pos}
+use Rattle.loops.specs.Loop.{pick, up_to}
 use Rattle.loops.proofs.Loops.{up_to-at}
 use Rattle.table.specs.Limits.{atom_cells, ELEMENT, ISOTOPE, HYDROGENS, CHARGE, EXTENSION}
 use Rattle.table.specs.Cells.{number, atom_cell, hydrogens}
@@ -19,7 +18,7 @@ use Rattle.folding.specs.Folding.{neighbour, goes, stays, new_atom, merged, Comp
 use Rattle.folding.proofs.Ranks.{rank-total, rank-one}
 use Rattle.folding.proofs.Neighbours.{neighbour-below}
 use Rattle.folding.proofs.Plain.{plain-test, goes-plain, gained, to-hydrogens}
-use Rattle.folding.proofs.Merged.{old, merged-count, old-at, new-below, old-new, merged-cell, merged-field, merged-hydrogens, merged-order}
+use Rattle.folding.proofs.Merged.{old, merged-count, old-at, new-below, old-new, merged-cell, merged-field, merged-order}
 use Rattle.folding.proofs.Sums.{merged-settled}
 use Rattle.redrawing.proofs.Carried.{carried-below, carried-cells, carried-eqb, neighbour-carried}
 

@@ -11,13 +11,13 @@ use Rattle.loops.proofs.Loops.{and_left, and_right, up_to-at, each_at, each-fail
 use Rattle.table.specs.Cells.{end1, end2}
 use Rattle.table.specs.Valid.{Valid}
 use Rattle.table.proofs.Valid.{first-end, second-end}
-use Rattle.matching.proofs.Graph.{and_intro, same_bool, never, or_cases}
-use Rattle.same_model.specs.Same.{Molecule, joins, order_between, image}
+use Rattle.matching.proofs.Graph.{and_intro, same_bool, or_cases}
+use Rattle.same_model.specs.Same.{Molecule, joins, image}
 use Rattle.same_model.specs.Redrawing.{joined, Redrawing}
 use Rattle.same_model.proofs.Onto.{Hit, onto, made}
 use Rattle.same_model.proofs.Totals.{total, total-none}
 use Rattle.same_model.proofs.Single.{joined-total}
-use Rattle.redrawing_check.specs.Certificate.{Permutes, Shows}
+use Rattle.redrawing_check.specs.Certificate.{Shows}
 
 -- a term is at most the sum
 total-term : (f : ℕ → ℕ) (n k : ℕ) → k < n → f k ≤ total f n

@@ -1,6 +1,5 @@
 -- auxiliary: what shows two molecules to be redrawings of one another: the image in the second of each atom and of each bond of the first
 use Rattle.std.specs.Prelude.{ℕ, ◌+◌, ◌<◌, ◌≡◌, Bool, true, List, [], get_or, ℤ, eqb}
-use Rattle.loops.specs.Loop.{each}
 use Rattle.table.specs.Cells.{end1, end2}
 use Rattle.same_model.specs.Same.{Molecule, same_cells, joins, image}
 use Rattle.same_model.specs.Redrawing.{settled_sum}

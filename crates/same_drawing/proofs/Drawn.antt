@@ -7,23 +7,22 @@ use native.Mathlib.Omega.{arith}
 use native.Mathlib.Nat.{add-zero, mul-add-div, div-eq_of_lt, mul-add-mod_self_left, mod-eq_of_lt}
 use lib.IntN.{ℤ, pos}
 use lib.Dec.{eqb}
-use lib.ListN.{length, get_or, replicate, length-replicate, get_or-replicate}
+use lib.ListN.{length, get_or}
 use Rattle.loops.specs.Loop.{pick, run, up_to}
 use Rattle.loops.proofs.Loops.{filled_at}
 use Rattle.table.specs.Limits.{FIRST, SECOND, KIND}
-use Rattle.table.specs.Cells.{number, bond_place, bond_cell, end1, end2, kind}
+use Rattle.table.specs.Cells.{number, bond_cell, end1, end2, kind}
 use Rattle.table.specs.Valid.{Valid}
 use Rattle.table.specs.Edits.{doubled_bonds}
 use Rattle.table.proofs.Valid.{Enough, bond-row}
 use Rattle.table.proofs.Edits.{doubled-kind, doubled-field}
 use Rattle.kinds.specs.Kind.{order}
-use Rattle.matching.specs.Enumeration.{Row}
 use Rattle.table_graph.specs.Graph.{flag}
-use Rattle.same_model.specs.Same.{max_same, Molecule, settled, same_cells, joins, order_between}
+use Rattle.same_model.specs.Same.{max_same, Molecule, settled, same_cells, joins}
 use Rattle.same_model.proofs.Totals.{run_more, total-same}
 use Rattle.same_model.proofs.Orders.{between, order-total}
 use Rattle.same_place.specs.Place.{entry}
-use Rattle.same_drawing.specs.Drawing.{cells, settled_order, drawn_order, with_bond, Ends, Drawable, may_go, match_cell, Orders, Matches}
+use Rattle.same_drawing.specs.Drawing.{cells, drawn_order, with_bond, Drawable, may_go, match_cell, Orders, Matches}
 use Rattle.same_drawing.proofs.Matrix.{adds, run_at}
 
 -- valid tables can be drawn

@@ -2,13 +2,12 @@
 use mathlib.Core.Path.{◌≡◌, refl, sym, ap, ◌∙◌}
 use mathlib.Core.Bool.{Bool, true, false, ◌&&◌, ◌||◌, not}
 use mathlib.Core.List.{List, [], ◌∷◌, ◌++◌}
-use Prim.Native.Nat.{ℕ, zero, suc, ◌+◌, ◌*◌, ◌<◌, ◌≤◌}
+use Prim.Native.Nat.{ℕ, suc, ◌+◌, ◌*◌, ◌<◌, ◌≤◌}
 use native.Mathlib.Omega.{arith}
-use native.Mathlib.Nat.{add-zero}
 use lib.Dec.{eqb, ltb}
 use lib.ListN.{length, get_or, length-append, get_or-append}
-use lib.Seq.{get_or-append_seam, append_snoc}
-use borrow.Author.Tests.{eqb-true, eq-eqb, ne_eqb, eqb-false, ltb-true, ltb-false, not-true}
+use lib.Seq.{get_or-append_seam}
+use borrow.Author.Tests.{eqb-true, eq-eqb, ne_eqb, eqb-false, ltb-true, ltb-false}
 use Rattle.loops.specs.Loop.{pick, each}
 use Rattle.loops.proofs.Loops.{and_left, and_right, each_at, each_all, each_same}
 use Rattle.table.specs.Valid.{Valid}
@@ -19,13 +18,13 @@ use Rattle.matching.specs.Enumeration.{Row, cons_if, passing}
 use Rattle.matching.proofs.Graph.{and_intro, same_bool, never}
 use Rattle.table_graph.specs.Graph.{flag}
 use Rattle.kekule.proofs.Kekulized.{kekulized-valid}
-use Rattle.same_model.specs.Same.{max_same, Molecule, settled, same_cells, joins, order_between, image, carries, words, apart, fits, fitting}
+use Rattle.same_model.specs.Same.{max_same, Molecule, settled, same_cells, joins, order_between, image, words, apart, fits, fitting}
 use Rattle.same_model.specs.Redrawing.{Renumbering}
 use Rattle.same_model.proofs.Lists.{All, none, more, all-at}
 use Rattle.same_model.proofs.Words.{Word, words-all, apart-one, one_apart, word-renumbers}
-use Rattle.same_model.proofs.Cells.{Alike, alike, cells-alike, alike-sym, alike-trans, alike-settled}
+use Rattle.same_model.proofs.Cells.{alike, cells-alike, alike-sym, alike-trans, alike-settled}
 use Rattle.same_model.proofs.Sameness.{Carried, carried-facts, facts-carried}
-use Rattle.same_model.proofs.Totals.{total, total-same, total-none}
+use Rattle.same_model.proofs.Totals.{total-same, total-none}
 use Rattle.same_model.proofs.Orders.{between, order-total}
 use Rattle.same_model.proofs.Single.{orders-low}
 use Rattle.same_place.specs.Place.{entry, beside, placeable, good_from, goods}

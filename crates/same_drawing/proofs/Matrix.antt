@@ -1,15 +1,14 @@
 -- A matrix cell by cell: the bonds added one by one give the orders between atoms. Assumes nothing.
-use mathlib.Core.Path.{◌≡◌, refl, sym, ap, ◌∙◌}
+use mathlib.Core.Path.{◌≡◌, refl, ap, ◌∙◌}
 use mathlib.Core.Bool.{Bool, true, false, ◌&&◌, ◌||◌}
 use mathlib.Core.List.{List}
 use Prim.Native.Nat.{ℕ, zero, suc, ◌+◌, ◌*◌, ◌<◌, ◌≤◌}
 use native.Mathlib.Omega.{arith}
 use native.Mathlib.Nat.{add-zero}
 use lib.IntN.{ℤ}
-use lib.Dec.{eqb, leb, ltb}
-use lib.ListN.{length, get_or, set, replicate, length-set, length-replicate, get_or-replicate, get_or-eq_default}
-use lib.Seq.{get_or-set_same, get_or-set_other, set_out}
-use borrow.Author.Tests.{eqb-true, eqb-false, eq-eqb, ne_eqb, ltb-true, ltb-false}
+use lib.Dec.{eqb}
+use lib.ListN.{length, get_or, length-set}
+use borrow.Author.Tests.{eqb-true, eq-eqb}
 use Rattle.loops.specs.Loop.{pick, run}
 use Rattle.loops.proofs.Loops.{Ran, ran-start, ran-step, ran-end, and_left, and_right}
 use Rattle.matching.proofs.Graph.{and_intro, same_bool}
@@ -21,7 +20,7 @@ use Rattle.same_model.specs.Same.{max_same}
 use Rattle.same_place.specs.Place.{entry}
 use Rattle.same_keys.specs.Keys.{Low}
 use Rattle.same_keys.proofs.Low.{bump_at, bump-low, low-more}
-use Rattle.same_drawing.specs.Drawing.{cells, settled_order, drawn_order, with_order, with_bond, Ends, Drawable}
+use Rattle.same_drawing.specs.Drawing.{cells, settled_order, drawn_order, with_order, with_bond, Ends}
 
 pub drawn-small : (k c : ℕ) → settled_order k c ≤ 3
 drawn-small k c = go (eqb c 1)

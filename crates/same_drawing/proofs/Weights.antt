@@ -13,7 +13,7 @@ use Rattle.table.specs.Cells.{end1, end2, kind}
 use Rattle.table.specs.Valid.{Valid}
 use Rattle.table.proofs.Valid.{Enough, bond-row}
 use Rattle.matching.specs.Enumeration.{Row}
-use Rattle.same_model.specs.Same.{max_same, Molecule, settled, order_between, image}
+use Rattle.same_model.specs.Same.{Molecule, settled, order_between, image}
 use Rattle.same_model.specs.Redrawing.{Renumbering}
 use Rattle.same_model.proofs.Sameness.{Carried}
 use Rattle.same_model.proofs.Totals.{total, run-total, total-same, total-add, total-at, total-exchange, total-permuted}

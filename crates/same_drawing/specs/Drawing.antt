@@ -1,5 +1,5 @@
 -- auxiliary: a molecule settled by a row as a matrix of orders, and which atoms of two molecules may go to one another as a matrix of 0 and 1
-use Rattle.std.specs.Prelude.{ℕ, ◌*◌, ◌+◌, ◌<◌, ◌≤◌, ◌/◌, ◌%◌, ◌≡◌, Bool, ◌&&◌, List, [], length, get_or, set, ℤ, eqb}
+use Rattle.std.specs.Prelude.{ℕ, ◌*◌, ◌+◌, ◌<◌, ◌≤◌, ◌/◌, ◌%◌, ◌≡◌, Bool, ◌&&◌, List, [], length, get_or, ℤ, eqb}
 use Rattle.loops.specs.Loop.{pick, run}
 use Rattle.table.specs.Limits.{max_bonds}
 use Rattle.table.specs.Cells.{end1, end2, kind}

@@ -1,11 +1,6 @@
-use Prim.Native.Nat.{ℕ, ◌-◌}
-use native.Mathlib.Omega.{arith}
-use mathlib.Core.Path.{◌∙◌}
-use Rattle.loops.proofs.Loops.{each_at, filled-end}
-use Rattle.table.specs.Valid.{atom_ok}
-use Rattle.drawing_key.specs.Key.{cells_number, hashed}
+use Prim.Native.Nat.{◌-◌}
 use Rattle.drawing_key.specs.Filled.{sum_key}
-use Rattle.drawing_key.proofs.Making.{Replacing, replacing-start, replacing-step}
+use Rattle.drawing_key.proofs.Making.{Replacing}
 use Rattle.drawing_key.proofs.fill_first.Given as goal
 
 abbrev pub invariant-loop-i : goal.invariant-loop-i

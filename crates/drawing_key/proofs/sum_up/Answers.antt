@@ -1,11 +1,11 @@
-use Prim.Native.Nat.{ℕ, ◌+◌, ◌-◌, ◌*◌, ◌≤◌, ◌%◌}
+use Prim.Native.Nat.{ℕ, ◌+◌, ◌*◌, ◌%◌}
 use native.Mathlib.Omega.{arith}
 use native.Mathlib.Nat.{mod-lt}
 use mathlib.Core.Path.{ap, ◌∙◌}
-use Rattle.loops.proofs.Loops.{Ran, ran-start, ran-step, ran-end}
-use Rattle.same_keys.specs.Keys.{prime, mixed, at}
+use Rattle.loops.proofs.Loops.{ran-start, ran-step, ran-end}
+use Rattle.same_keys.specs.Keys.{mixed, at}
 use Rattle.same_keys.proofs.Mixing.{mixed-low}
-use Rattle.drawing_key.specs.Key.{word, add_key, mixed_again, summed}
+use Rattle.drawing_key.specs.Key.{word, summed}
 use Rattle.drawing_key.proofs.sum_up.Goals as goal
 
 pub loop-i-init : goal.loop-i-init

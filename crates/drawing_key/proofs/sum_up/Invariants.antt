@@ -1,11 +1,7 @@
-use Prim.Native.Nat.{ℕ, ◌+◌, ◌-◌, ◌*◌, ◌≤◌, ◌%◌}
-use native.Mathlib.Omega.{arith}
-use native.Mathlib.Nat.{mod-lt}
-use mathlib.Core.Path.{ap, ◌∙◌}
-use Rattle.loops.proofs.Loops.{Ran, ran-start, ran-step, ran-end}
-use Rattle.same_keys.specs.Keys.{prime, mixed, at}
-use Rattle.same_keys.proofs.Mixing.{mixed-low}
-use Rattle.drawing_key.specs.Key.{word, add_key, mixed_again, summed}
+use Prim.Native.Nat.{◌-◌, ◌*◌, ◌≤◌}
+use Rattle.loops.proofs.Loops.{Ran}
+use Rattle.same_keys.specs.Keys.{prime, mixed}
+use Rattle.drawing_key.specs.Key.{add_key, mixed_again}
 use Rattle.drawing_key.proofs.sum_up.Given as goal
 
 abbrev pub invariant-loop-i : goal.invariant-loop-i

@@ -1,13 +1,12 @@
-use Prim.Native.Nat.{◌-◌}
 use native.Mathlib.Omega.{arith}
 use mathlib.Core.Path.{ap, ◌∙◌}
 use mathlib.Core.List.{List}
 use lib.ListN.{set}
 use lib.IntN.{ℤ, pos}
-use Rattle.loops.proofs.Loops.{Edited, edited-start, edited-step, edited-end}
+use Rattle.loops.proofs.Loops.{edited-start, edited-step, edited-end}
 use Rattle.table.specs.Limits.{MARK}
 use Rattle.table.specs.Cells.{atom_place}
-use Rattle.folding.specs.Folding.{bare_atom, bared_atoms}
+use Rattle.folding.specs.Folding.{bared_atoms}
 use Rattle.folding.proofs.bare_atoms.Goals as goal
 
 pub loop-i-init : goal.loop-i-init

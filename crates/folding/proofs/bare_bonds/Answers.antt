@@ -1,7 +1,5 @@
-use Prim.Native.Nat.{◌-◌}
-use native.Mathlib.Omega.{arith}
-use Rattle.loops.proofs.Loops.{Edited, edited-start, edited-step, edited-end}
-use Rattle.folding.specs.Folding.{bare_bond, bared_bonds}
+use Rattle.loops.proofs.Loops.{edited-start, edited-step, edited-end}
+use Rattle.folding.specs.Folding.{bared_bonds}
 use Rattle.folding.proofs.bare_bonds.Goals as goal
 
 pub loop-i-init : goal.loop-i-init

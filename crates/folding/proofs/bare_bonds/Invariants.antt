@@ -1,7 +1,6 @@
 use Prim.Native.Nat.{◌-◌}
-use native.Mathlib.Omega.{arith}
-use Rattle.loops.proofs.Loops.{Edited, edited-start, edited-step, edited-end}
-use Rattle.folding.specs.Folding.{bare_bond, bared_bonds}
+use Rattle.loops.proofs.Loops.{Edited}
+use Rattle.folding.specs.Folding.{bare_bond}
 use Rattle.folding.proofs.bare_bonds.Given as goal
 
 abbrev pub invariant-loop-i : goal.invariant-loop-i

@@ -1,6 +1,4 @@
 use Rattle.folding.proofs.Paths.{bond-row}
-use mir.Val.{SFits}
-use mir.Syntax.{w32}
 use Rattle.folding.proofs.bond_of.Goals as goal
 
 pub returns : goal.returns

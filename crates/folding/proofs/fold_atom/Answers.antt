@@ -4,9 +4,8 @@ use mir.Val.{SFits}
 use mir.Syntax.{w32}
 use mir.Facts.{to_z-of_z}
 use native.Mathlib.Omega.{arith}
-use mathlib.Core.Path.{sym, ◌∙◌}
 use Rattle.table.proofs.Keys.{held, failed}
-use Rattle.folding.proofs.Paths.{fold-no, Going, going, fold-yes}
+use Rattle.folding.proofs.Paths.{fold-no, going, fold-yes}
 use Rattle.folding.proofs.fold_atom.Goals as goal
 
 pub returns-then-not-folds : goal.returns-then-not-folds

@@ -1,10 +1,7 @@
-use Prim.Native.Nat.{◌-◌}
 use native.Mathlib.Omega.{arith}
-use mathlib.Core.Path.{◌≡◌, refl, ◌∙◌}
-use lib.ListN.{length}
-use Rattle.loops.proofs.Loops.{Edited, fills, edited-start, filled-step, filled-end}
-use Rattle.folding.specs.Links.{number_by}
-use Rattle.folding.proofs.Links.{Turned, turned-start, turned-low, turned-number, turned-step, turned-end}
+use mathlib.Core.Path.{refl, ◌∙◌}
+use Rattle.loops.proofs.Loops.{edited-start, filled-step, filled-end}
+use Rattle.folding.proofs.Links.{turned-start, turned-low, turned-number, turned-step, turned-end}
 use Rattle.folding.proofs.fold_atoms.Goals as goal
 
 pub loop-i-init : goal.loop-i-init

@@ -1,10 +1,9 @@
 use Prim.Native.Nat.{◌-◌}
-use native.Mathlib.Omega.{arith}
-use mathlib.Core.Path.{◌≡◌, refl, ◌∙◌}
+use mathlib.Core.Path.{◌≡◌}
 use lib.ListN.{length}
-use Rattle.loops.proofs.Loops.{Edited, fills, edited-start, filled-step, filled-end}
+use Rattle.loops.proofs.Loops.{Edited, fills}
 use Rattle.folding.specs.Links.{number_by}
-use Rattle.folding.proofs.Links.{Turned, turned-start, turned-low, turned-number, turned-step, turned-end}
+use Rattle.folding.proofs.Links.{Turned}
 use Rattle.folding.proofs.fold_atoms.Given as goal
 
 abbrev pub invariant-loop-i : goal.invariant-loop-i

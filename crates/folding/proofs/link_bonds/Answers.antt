@@ -1,10 +1,9 @@
-use Prim.Native.Nat.{◌-◌, ◌<◌, ◌≤◌}
 use native.Mathlib.Omega.{arith}
 use mathlib.Core.Path.{◌≡◌, refl, ap, ◌∙◌}
 use lib.ListN.{length, length-set}
 use Rattle.kinds.specs.Kind.{order}
 use Rattle.table_graph.proofs.Sums.{row-cells}
-use Rattle.folding.proofs.Links.{links_to, links-start, links-length, links-step}
+use Rattle.folding.proofs.Links.{links-start, links-length, links-step}
 use Rattle.folding.proofs.link_bonds.Goals as goal
 
 pub loop-i-init : goal.loop-i-init

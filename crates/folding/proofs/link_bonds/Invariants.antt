@@ -1,10 +1,7 @@
-use Prim.Native.Nat.{◌-◌, ◌<◌, ◌≤◌}
-use native.Mathlib.Omega.{arith}
-use mathlib.Core.Path.{◌≡◌, refl, ap, ◌∙◌}
-use lib.ListN.{length, length-set}
-use Rattle.kinds.specs.Kind.{order}
-use Rattle.table_graph.proofs.Sums.{row-cells}
-use Rattle.folding.proofs.Links.{links_to, links-start, links-length, links-step}
+use Prim.Native.Nat.{◌-◌, ◌≤◌}
+use mathlib.Core.Path.{◌≡◌}
+use lib.ListN.{length}
+use Rattle.folding.proofs.Links.{links_to}
 use Rattle.folding.proofs.link_bonds.Given as goal
 
 abbrev pub invariant-loop-i : goal.invariant-loop-i

@@ -1,4 +1,3 @@
-use mathlib.Core.Path.{refl}
 use lib.ListN.{length, drop}
 use Rattle.same_model.specs.Same.{molecule}
 use Rattle.folding.proofs.Links.{ends, merged_by}

@@ -1,9 +1,7 @@
-use Prim.Native.Nat.{◌-◌}
 use native.Mathlib.Omega.{arith}
 use mathlib.Core.Path.{refl, ap, ◌∙◌}
-use lib.ListN.{length, get_or}
-use Rattle.loops.proofs.Loops.{Edited, edited-start, edited-step, edited-end}
-use Rattle.folding.specs.Links.{none, move_atom, move_atoms}
+use Rattle.loops.proofs.Loops.{edited-start, edited-step, edited-end}
+use Rattle.folding.specs.Links.{move_atom, move_atoms}
 use Rattle.folding.proofs.Paths.{end-at}
 use Rattle.folding.proofs.move_atoms.Goals as goal
 

@@ -1,10 +1,7 @@
 use Prim.Native.Nat.{◌-◌}
-use native.Mathlib.Omega.{arith}
-use mathlib.Core.Path.{refl, ap, ◌∙◌}
-use lib.ListN.{length, get_or}
-use Rattle.loops.proofs.Loops.{Edited, edited-start, edited-step, edited-end}
-use Rattle.folding.specs.Links.{none, move_atom, move_atoms}
-use Rattle.folding.proofs.Paths.{end-at}
+use lib.ListN.{get_or}
+use Rattle.loops.proofs.Loops.{Edited}
+use Rattle.folding.specs.Links.{none, move_atom}
 use Rattle.folding.proofs.move_atoms.Given as goal
 
 abbrev pub invariant-loop-i : goal.invariant-loop-i

@@ -1,12 +1,5 @@
 use mathlib.Core.Path.{ap, ◌∙◌}
-use mathlib.Core.Path.{sym}
-use borrow.Author.Tests.{lt-ltb}
 use lib.ListN.{get_or}
-use lib.IntN.{ℤ}
-use mir.Facts.{to_z-of_z}
-use Rattle.table.specs.Limits.{max_bonds}
-use Rattle.table.specs.declared.Bond.{Bond}
-use Rattle.table.specs.Rows.{bond_at, bond_row}
 use Rattle.table_graph.proofs.Sums.{row-cells}
 use Rattle.folding.specs.Links.{none}
 use Rattle.folding.proofs.Paths.{row-kind, bond-first, bond-second, bond-moved}

@@ -1,6 +1,5 @@
-use Prim.Native.Nat.{◌-◌}
 use native.Mathlib.Omega.{arith}
-use Rattle.folding.proofs.Paths.{Placed, placed-start, placed-step, placed_end}
+use Rattle.folding.proofs.Paths.{placed-start, placed-step, placed_end}
 use Rattle.folding.proofs.move_bonds.Goals as goal
 
 pub loop-i-init : goal.loop-i-init

@@ -1,6 +1,5 @@
 use Prim.Native.Nat.{◌-◌}
-use native.Mathlib.Omega.{arith}
-use Rattle.folding.proofs.Paths.{Placed, placed-start, placed-step, placed_end}
+use Rattle.folding.proofs.Paths.{Placed}
 use Rattle.folding.proofs.move_bonds.Given as goal
 
 abbrev pub invariant-loop-i : goal.invariant-loop-i

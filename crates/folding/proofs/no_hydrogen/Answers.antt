@@ -1,9 +1,8 @@
-use Prim.Native.Nat.{◌-◌}
 use native.Mathlib.Omega.{arith}
-use mathlib.Core.Path.{sym, ap, ◌∙◌}
+use mathlib.Core.Path.{sym, ◌∙◌}
 use borrow.Author.Tests.{eq-eqb, ne_eqb}
-use Rattle.loops.proofs.Loops.{Left, left-start, left-pass, left-fail, left_end}
-use Rattle.folding.specs.Links.{is_heavy, no_hydrogen}
+use Rattle.loops.proofs.Loops.{left-start, left-pass, left-fail, left_end}
+use Rattle.folding.specs.Links.{no_hydrogen}
 use Rattle.folding.proofs.no_hydrogen.Goals as goal
 
 pub loop-i-init : goal.loop-i-init

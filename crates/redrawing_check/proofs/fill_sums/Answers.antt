@@ -1,7 +1,4 @@
-use Prim.Native.Nat.{◌-◌}
-use native.Mathlib.Omega.{arith}
-use Rattle.loops.proofs.Loops.{Edited, fills, edited-start, filled-step, filled-end}
-use Rattle.redrawing_check.specs.Certificate.{sum_at}
+use Rattle.loops.proofs.Loops.{edited-start, filled-step, filled-end}
 use Rattle.redrawing_check.proofs.fill_sums.Goals as goal
 
 pub loop-a-init : goal.loop-a-init

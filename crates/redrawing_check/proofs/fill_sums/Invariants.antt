@@ -1,6 +1,5 @@
 use Prim.Native.Nat.{◌-◌}
-use native.Mathlib.Omega.{arith}
-use Rattle.loops.proofs.Loops.{Edited, fills, edited-start, filled-step, filled-end}
+use Rattle.loops.proofs.Loops.{Edited, fills}
 use Rattle.redrawing_check.specs.Certificate.{sum_at}
 use Rattle.redrawing_check.proofs.fill_sums.Given as goal
 

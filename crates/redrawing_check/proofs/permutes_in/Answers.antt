@@ -1,10 +1,8 @@
-use Prim.Native.Nat.{◌-◌}
 use native.Mathlib.Omega.{arith}
-use mathlib.Core.Path.{sym, refl}
+use mathlib.Core.Path.{refl}
 use mathlib.Core.Bool.{false}
-use lib.ListN.{length}
 use Rattle.matching.proofs.Graph.{never}
-use Rattle.redrawing_check.proofs.Checking.{Permuting, permuting-start, permuting-step, permuting-end}
+use Rattle.redrawing_check.proofs.Checking.{permuting-start, permuting-step, permuting-end}
 use Rattle.redrawing_check.proofs.permutes_in.Goals as goal
 
 pub loop-a-init : goal.loop-a-init

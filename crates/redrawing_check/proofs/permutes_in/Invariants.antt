@@ -1,10 +1,6 @@
 use Prim.Native.Nat.{◌-◌}
-use native.Mathlib.Omega.{arith}
-use mathlib.Core.Path.{sym, refl}
-use mathlib.Core.Bool.{false}
 use lib.ListN.{length}
-use Rattle.matching.proofs.Graph.{never}
-use Rattle.redrawing_check.proofs.Checking.{Permuting, permuting-start, permuting-step, permuting-end}
+use Rattle.redrawing_check.proofs.Checking.{Permuting}
 use Rattle.redrawing_check.proofs.permutes_in.Given as goal
 
 abbrev pub invariant-loop-a : goal.invariant-loop-a

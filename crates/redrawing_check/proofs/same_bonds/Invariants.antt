@@ -1,10 +1,6 @@
 use Prim.Native.Nat.{◌-◌}
-use native.Mathlib.Omega.{arith}
-use mathlib.Core.Path.{sym, ◌∙◌}
-use borrow.Author.Tests.{not-true, not-false}
-use Rattle.loops.proofs.Loops.{Left, left-start, left-pass, left-fail, left_end}
+use Rattle.loops.proofs.Loops.{Left}
 use Rattle.redrawing_check.specs.Certificate.{ends_kept}
-use Rattle.redrawing_check.proofs.Checking.{ends-told}
 use Rattle.redrawing_check.proofs.same_bonds.Given as goal
 
 abbrev pub invariant-loop-k : goal.invariant-loop-k

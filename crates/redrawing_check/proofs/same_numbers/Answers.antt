@@ -1,8 +1,6 @@
-use Prim.Native.Nat.{◌-◌}
 use native.Mathlib.Omega.{arith}
 use mathlib.Core.Path.{sym}
-use Rattle.loops.proofs.Loops.{Left, left-start, left-pass, left-fail, left_end}
-use Rattle.redrawing_check.specs.Certificate.{numbers_kept}
+use Rattle.loops.proofs.Loops.{left-start, left-pass, left-fail, left_end}
 use Rattle.redrawing_check.proofs.Checking.{number-kept, number-lost}
 use Rattle.redrawing_check.proofs.same_numbers.Goals as goal
 

@@ -1,5 +1,4 @@
 use Prim.Native.Nat.{◌-◌, ◌≤◌}
-use native.Mathlib.Omega.{arith}
 use Rattle.table.specs.Limits.{max_atoms}
 use Rattle.redrawing_guess.proofs.between.Given as goal
 

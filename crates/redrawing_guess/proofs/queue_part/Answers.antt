@@ -1,8 +1,5 @@
-use Prim.Native.Nat.{◌-◌, ◌≤◌}
-use mathlib.Core.Path.{◌≡◌, refl}
+use mathlib.Core.Path.{refl}
 use native.Mathlib.Omega.{arith}
-use lib.ListN.{length}
-use Rattle.table.specs.Limits.{max_atoms}
 use Rattle.redrawing_guess.proofs.queue_part.Goals as goal
 
 pub loop-i-init : goal.loop-i-init

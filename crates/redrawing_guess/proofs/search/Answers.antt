@@ -1,6 +1,5 @@
-use mathlib.Core.Path.{◌≡◌, refl}
+use mathlib.Core.Path.{refl}
 use native.Mathlib.Omega.{arith}
-use lib.ListN.{length}
 use Rattle.redrawing_guess.proofs.search.Goals as goal
 
 pub loop-left-init : goal.loop-left-init

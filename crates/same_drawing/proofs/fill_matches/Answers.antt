@@ -1,10 +1,8 @@
-use Prim.Native.Nat.{◌-◌}
 use native.Mathlib.Omega.{arith}
 use native.Mathlib.Nat.{div-lt_iff_lt-mul, mod-lt}
 use mathlib.Core.Path.{ap, ◌∙◌}
-use Rattle.loops.proofs.Loops.{Edited, fills, edited-start, filled-step, filled-end}
+use Rattle.loops.proofs.Loops.{edited-start, filled-step, filled-end}
 use Rattle.table_graph.specs.Graph.{flag}
-use Rattle.same_drawing.specs.Drawing.{match_cell}
 use Rattle.same_drawing.proofs.fill_matches.Goals as goal
 
 pub loop-i-init : goal.loop-i-init

@@ -1,7 +1,6 @@
-use Prim.Native.Nat.{◌-◌}
 use native.Mathlib.Omega.{arith}
 use Rattle.same_keys.proofs.Low.{low-more}
-use Rattle.same_drawing.proofs.Matrix.{Drawing, drawing-start, drawing-step, drawing-end}
+use Rattle.same_drawing.proofs.Matrix.{drawing-start, drawing-step, drawing-end}
 use Rattle.same_drawing.proofs.fill_orders.Goals as goal
 
 pub loop-k-init : goal.loop-k-init

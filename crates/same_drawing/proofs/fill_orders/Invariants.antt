@@ -1,7 +1,5 @@
 use Prim.Native.Nat.{◌-◌}
-use native.Mathlib.Omega.{arith}
-use Rattle.same_keys.proofs.Low.{low-more}
-use Rattle.same_drawing.proofs.Matrix.{Drawing, drawing-start, drawing-step, drawing-end}
+use Rattle.same_drawing.proofs.Matrix.{Drawing}
 use Rattle.same_drawing.proofs.fill_orders.Given as goal
 
 abbrev pub invariant-loop-k : goal.invariant-loop-k

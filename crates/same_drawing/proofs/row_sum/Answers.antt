@@ -1,10 +1,9 @@
-use Prim.Native.Nat.{ℕ, ◌+◌, ◌-◌, ◌*◌, ◌≤◌}
+use Prim.Native.Nat.{ℕ, ◌+◌}
 use native.Mathlib.Omega.{arith}
 use mathlib.Core.Path.{ap}
 use lib.ListN.{get_or}
-use Rattle.loops.proofs.Loops.{Ran, ran-start, ran-step, ran-end}
-use Rattle.same_keys.specs.Keys.{prime}
-use Rattle.same_drawing.specs.Drawing.{add_weight, row_sum}
+use Rattle.loops.proofs.Loops.{ran-start, ran-step, ran-end}
+use Rattle.same_drawing.specs.Drawing.{row_sum}
 use Rattle.same_drawing.proofs.Weights.{weight-low}
 use Rattle.same_drawing.proofs.row_sum.Goals as goal
 

@@ -1,11 +1,7 @@
-use Prim.Native.Nat.{ℕ, ◌+◌, ◌-◌, ◌*◌, ◌≤◌}
-use native.Mathlib.Omega.{arith}
-use mathlib.Core.Path.{ap}
-use lib.ListN.{get_or}
-use Rattle.loops.proofs.Loops.{Ran, ran-start, ran-step, ran-end}
+use Prim.Native.Nat.{◌-◌, ◌*◌, ◌≤◌}
+use Rattle.loops.proofs.Loops.{Ran}
 use Rattle.same_keys.specs.Keys.{prime}
-use Rattle.same_drawing.specs.Drawing.{add_weight, row_sum}
-use Rattle.same_drawing.proofs.Weights.{weight-low}
+use Rattle.same_drawing.specs.Drawing.{add_weight}
 use Rattle.same_drawing.proofs.row_sum.Given as goal
 
 abbrev pub invariant-loop-k : goal.invariant-loop-k

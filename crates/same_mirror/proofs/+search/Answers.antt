@@ -1,4 +1,4 @@
-use Rattle.std.proofs.Common.{◌≡◌, ◌<◌, ◌≤◌, ◌-◌, arith}
+use Rattle.std.proofs.Common.{◌-◌, arith}
 use lib.Dec.{ltb}
 use Rattle.same_mirror.proofs.Passing.{pass-over, pass-dead, pass-next, pass-marked, nowhere, some_left, none-marked, pass-start}
 use Rattle.same_mirror.proofs.+search.Goals as goal

@@ -1,7 +1,5 @@
-use Prim.Native.Nat.{◌-◌, ◌<◌}
 use native.Mathlib.Omega.{arith}
-use Rattle.same_model.specs.Same.{image}
-use Rattle.same_mirror.proofs.Checking.{All, all_start, all-step, all_end, refused}
+use Rattle.same_mirror.proofs.Checking.{all_start, all-step, all_end, refused}
 use Rattle.same_mirror.proofs.are_inside.Goals as goal
 
 pub loop-e-init : goal.loop-e-init

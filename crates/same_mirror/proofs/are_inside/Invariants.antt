@@ -1,7 +1,6 @@
 use Prim.Native.Nat.{◌-◌, ◌<◌}
-use native.Mathlib.Omega.{arith}
 use Rattle.same_model.specs.Same.{image}
-use Rattle.same_mirror.proofs.Checking.{All, all_start, all-step, all_end, refused}
+use Rattle.same_mirror.proofs.Checking.{All}
 use Rattle.same_mirror.proofs.are_inside.Given as goal
 
 abbrev pub invariant-loop-e : goal.invariant-loop-e

@@ -1,6 +1,4 @@
 use Prim.Native.Nat.{◌-◌, ◌≤◌}
-use mathlib.Core.Logic.{⊎_elim}
-use native.Mathlib.Omega.{arith}
 use Rattle.same_mirror.proofs.count_open.Given as goal
 
 abbrev pub invariant-loop-b : goal.invariant-loop-b

@@ -1,8 +1,6 @@
-use Prim.Native.Nat.{◌-◌, ◌≤◌}
 use mathlib.Core.Bool.{◌&&◌, not}
 use lib.Dec.{eqb}
 use lib.ListN.{get_or}
-use native.Mathlib.Omega.{arith}
 use Rattle.same_mirror.proofs.Checking.{last-test}
 use Rattle.same_mirror.proofs.fix_images.Goals as goal
 

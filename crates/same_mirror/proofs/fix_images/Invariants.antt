@@ -1,9 +1,4 @@
 use Prim.Native.Nat.{◌-◌, ◌≤◌}
-use mathlib.Core.Bool.{◌&&◌, not}
-use lib.Dec.{eqb}
-use lib.ListN.{get_or}
-use native.Mathlib.Omega.{arith}
-use Rattle.same_mirror.proofs.Checking.{last-test}
 use Rattle.same_mirror.proofs.fix_images.Given as goal
 
 abbrev pub invariant-loop-b : goal.invariant-loop-b

@@ -1,8 +1,5 @@
-use Prim.Native.Nat.{ℕ, ◌-◌, ◌<◌}
 use borrow.Author.Tests.{not-false}
-use native.Mathlib.Omega.{arith}
-use lib.ListN.{get_or}
-use Rattle.same_mirror.proofs.Checking.{All, all_start, all-step, all_end, refused, Carried}
+use Rattle.same_mirror.proofs.Checking.{all_start, all-step, all_end, refused}
 use Rattle.same_mirror.proofs.has_same_candidates.Goals as goal
 
 pub loop-a-init : goal.loop-a-init

@@ -1,8 +1,6 @@
 use Prim.Native.Nat.{ℕ, ◌-◌, ◌<◌}
-use borrow.Author.Tests.{not-false}
-use native.Mathlib.Omega.{arith}
 use lib.ListN.{get_or}
-use Rattle.same_mirror.proofs.Checking.{All, all_start, all-step, all_end, refused, Carried}
+use Rattle.same_mirror.proofs.Checking.{All, Carried}
 use Rattle.same_mirror.proofs.has_same_candidates.Given as goal
 
 abbrev pub invariant-loop-a : goal.invariant-loop-a

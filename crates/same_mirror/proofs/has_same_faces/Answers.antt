@@ -1,6 +1,6 @@
-use Prim.Native.Nat.{◌-◌, ◌%◌}
+use Prim.Native.Nat.{◌%◌}
 use native.Mathlib.Omega.{arith}
-use Rattle.same_mirror.proofs.Checking.{All, all_start, all-step, all_end, refused, Faced, faced-next, faced-all}
+use Rattle.same_mirror.proofs.Checking.{all_start, all-step, all_end, refused, faced-next, faced-all}
 use Rattle.same_mirror.proofs.has_same_faces.Goals as goal
 use Rattle.same_mirror.proofs.has_same_faces.Goals.{then-d-n+else-not-is_faced, else-d-n}
 

@@ -1,8 +1,5 @@
-use Prim.Native.Nat.{◌-◌, ◌%◌}
-use mathlib.Core.Logic.{⊎_elim}
-use borrow.Author.Tests.{not-false}
-use native.Mathlib.Omega.{arith}
-use Rattle.same_mirror.proofs.Checking.{All, all_start, all-step, all_end, refused, Faced, faced-next, faced-all}
+use Prim.Native.Nat.{◌-◌}
+use Rattle.same_mirror.proofs.Checking.{All, Faced}
 use Rattle.same_mirror.proofs.has_same_faces.Given as goal
 
 abbrev pub invariant-loop-i : goal.invariant-loop-i

@@ -1,6 +1,5 @@
-use Prim.Native.Nat.{◌-◌}
 use native.Mathlib.Omega.{arith}
-use Rattle.same_mirror.proofs.Checking.{All, all_start, all-step, all_end, refused, Carried, carried}
+use Rattle.same_mirror.proofs.Checking.{all_start, all-step, all_end, refused, carried}
 use Rattle.same_mirror.proofs.is_carried.Goals as goal
 
 pub loop-e-init : goal.loop-e-init

@@ -1,6 +1,5 @@
 use Prim.Native.Nat.{◌-◌}
-use native.Mathlib.Omega.{arith}
-use Rattle.same_mirror.proofs.Checking.{All, all_start, all-step, all_end, refused, Carried, carried}
+use Rattle.same_mirror.proofs.Checking.{All, Carried}
 use Rattle.same_mirror.proofs.is_carried.Given as goal
 
 abbrev pub invariant-loop-e : goal.invariant-loop-e

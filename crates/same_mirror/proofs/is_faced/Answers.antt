@@ -1,4 +1,3 @@
-use native.Mathlib.Omega.{arith}
 use Rattle.same_mirror.proofs.Checking.{faced-again}
 use Rattle.same_mirror.proofs.is_faced.Goals as goal
 

@@ -1,7 +1,6 @@
-use Prim.Native.Nat.{◌-◌}
 use borrow.Author.Tests.{not-false}
 use native.Mathlib.Omega.{arith}
-use Rattle.same_mirror.proofs.Checking.{All, all_start, all-step, all_end, refused, Own, own-onto}
+use Rattle.same_mirror.proofs.Checking.{all_start, all-step, all_end, refused, own-onto}
 use Rattle.same_mirror.proofs.is_onto.Goals as goal
 
 pub loop-d-init : goal.loop-d-init

@@ -1,8 +1,4 @@
-use Prim.Native.Nat.{◌-◌}
-use mathlib.Core.Path.{◌≡◌}
-use native.Mathlib.Omega.{arith}
-use Rattle.same_model.specs.Same.{image}
-use Rattle.same_mirror.proofs.Checking.{All, all_start, all-step, all_end, refused}
+use Rattle.same_mirror.proofs.Checking.{all_start, all-step, all_end, refused}
 use Rattle.same_mirror.proofs.is_own.Goals as goal
 
 pub loop-e-init : goal.loop-e-init

@@ -1,8 +1,7 @@
 use Prim.Native.Nat.{◌-◌}
 use mathlib.Core.Path.{◌≡◌}
-use native.Mathlib.Omega.{arith}
 use Rattle.same_model.specs.Same.{image}
-use Rattle.same_mirror.proofs.Checking.{All, all_start, all-step, all_end, refused}
+use Rattle.same_mirror.proofs.Checking.{All}
 use Rattle.same_mirror.proofs.is_own.Given as goal
 
 abbrev pub invariant-loop-e : goal.invariant-loop-e

@@ -1,6 +1,5 @@
-use Prim.Native.Nat.{◌-◌}
 use native.Mathlib.Omega.{arith}
-use Rattle.same_mirror.proofs.Passing.{Marked, mark-start, mark-same, mark-more, mark-own}
+use Rattle.same_mirror.proofs.Passing.{mark-start, mark-same, mark-more, mark-own}
 use Rattle.same_mirror.proofs.mark.Goals as goal
 use Rattle.same_mirror.proofs.mark.Goals.{then-cand-v+then-is_alike, then-cand-v+else-is_alike, else-cand-v}
 

@@ -1,7 +1,5 @@
 use Prim.Native.Nat.{◌-◌}
-use mathlib.Core.Logic.{⊎_elim}
-use native.Mathlib.Omega.{arith}
-use Rattle.same_mirror.proofs.Passing.{Marked, mark-start, mark-same, mark-more, mark-own}
+use Rattle.same_mirror.proofs.Passing.{Marked}
 use Rattle.same_mirror.proofs.mark.Given as goal
 
 abbrev pub invariant-loop-e : goal.invariant-loop-e

@@ -1,6 +1,4 @@
-use Prim.Native.Nat.{◌-◌}
-use native.Mathlib.Omega.{arith}
-use Rattle.same_mirror.proofs.Passing.{Spreading, spread-start, spread_same, spread-more}
+use Rattle.same_mirror.proofs.Passing.{spread-start, spread_same, spread-more}
 use Rattle.same_mirror.proofs.spread.Goals as goal
 use Rattle.same_mirror.proofs.spread.Goals.{then-dead-x-eq1, else-dead-x-eq1}
 

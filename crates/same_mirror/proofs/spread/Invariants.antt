@@ -1,7 +1,5 @@
 use Prim.Native.Nat.{◌-◌}
-use mathlib.Core.Logic.{⊎_elim}
-use native.Mathlib.Omega.{arith}
-use Rattle.same_mirror.proofs.Passing.{Spreading, spread-start, spread_same, spread-more}
+use Rattle.same_mirror.proofs.Passing.{Spreading}
 use Rattle.same_mirror.proofs.spread.Given as goal
 
 abbrev pub invariant-loop-x : goal.invariant-loop-x

@@ -1,4 +1,3 @@
-use Rattle.std.proofs.Common.{◌≡◌, ◌<◌, ◌≤◌}
 use Rattle.same_open.proofs.Seeking.{search-out, search-dead, search-next}
 use Rattle.same_open.proofs.+search.Goals as goal
 use Rattle.same_open.proofs.+search.Goals.{then-cand-v-eq1+then-narrow+else-tried, then-cand-v-eq1+else-narrow, else-cand-v-eq1}

@@ -1,7 +1,5 @@
-use mathlib.Core.Path.{◌≡◌}
 use native.Mathlib.Omega.{arith}
-use Rattle.same_place.specs.Place.{entry}
-use Rattle.same_open.proofs.Masks.{Masked, masked-start, masked-end, masked-room, masked-one, masked-none}
+use Rattle.same_open.proofs.Masks.{masked-start, masked-end, masked-room, masked-one, masked-none}
 use Rattle.same_open.proofs.candidates.Goals as goal
 
 pub loop-e-init : goal.loop-e-init

@@ -1,7 +1,6 @@
 use mathlib.Core.Path.{◌≡◌}
-use native.Mathlib.Omega.{arith}
 use Rattle.same_place.specs.Place.{entry}
-use Rattle.same_open.proofs.Masks.{Masked, masked-start, masked-end, masked-room, masked-one, masked-none}
+use Rattle.same_open.proofs.Masks.{Masked}
 use Rattle.same_open.proofs.candidates.Given as goal
 
 abbrev pub invariant-loop-e : goal.invariant-loop-e

@@ -1,9 +1,5 @@
-use mathlib.Core.Path.{◌≡◌}
 use native.Mathlib.Omega.{arith}
-use mathlib.Core.Bool.{true}
-use Rattle.same_place.specs.Place.{entry}
-use Rattle.same_open.specs.Open.{may_face}
-use Rattle.same_open.proofs.Masks.{Masked, masked-start, masked-end, masked-room, masked-one, masked-none}
+use Rattle.same_open.proofs.Masks.{masked-start, masked-end, masked-room, masked-one, masked-none}
 use Rattle.same_open.proofs.Laws.{unfaced}
 use Rattle.same_open.proofs.facing.Goals as goal
 

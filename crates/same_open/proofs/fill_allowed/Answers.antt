@@ -1,7 +1,6 @@
-use Prim.Native.Nat.{◌-◌}
 use mathlib.Core.Path.{◌∙◌}
 use native.Mathlib.Omega.{arith}
-use Rattle.same_open.proofs.Seeking.{Filled, filled-start, filled-step, filled-skip, Right, allowed-end}
+use Rattle.same_open.proofs.Seeking.{filled-start, filled-step, filled-skip, allowed-end}
 use Rattle.same_open.proofs.fill_allowed.Goals as goal
 use Rattle.same_open.proofs.fill_allowed.Goals.{then-i-n, else-i-n}
 

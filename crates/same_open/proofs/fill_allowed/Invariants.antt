@@ -1,8 +1,5 @@
 use Prim.Native.Nat.{◌-◌}
-use mathlib.Core.Path.{◌∙◌}
-use mathlib.Core.Logic.{⊎_elim}
-use native.Mathlib.Omega.{arith}
-use Rattle.same_open.proofs.Seeking.{Filled, filled-start, filled-step, filled-skip, Right, allowed-end}
+use Rattle.same_open.proofs.Seeking.{Filled, Right}
 use Rattle.same_open.proofs.fill_allowed.Given as goal
 
 abbrev pub invariant-loop-i : goal.invariant-loop-i

@@ -1,6 +1,5 @@
-use Prim.Native.Nat.{◌-◌}
 use native.Mathlib.Omega.{arith}
-use Rattle.same_open.proofs.Seeking.{Filled, filled-start, filled-step, Candidates}
+use Rattle.same_open.proofs.Seeking.{filled-start, filled-step}
 use Rattle.same_open.proofs.fill_candidates.Goals as goal
 
 pub loop-a-init : goal.loop-a-init

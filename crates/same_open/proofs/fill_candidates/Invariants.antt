@@ -1,6 +1,5 @@
 use Prim.Native.Nat.{◌-◌}
-use native.Mathlib.Omega.{arith}
-use Rattle.same_open.proofs.Seeking.{Filled, filled-start, filled-step, Candidates}
+use Rattle.same_open.proofs.Seeking.{Filled, Candidates}
 use Rattle.same_open.proofs.fill_candidates.Given as goal
 
 abbrev pub invariant-loop-a : goal.invariant-loop-a

@@ -1,5 +1,4 @@
 use mathlib.Core.Path.{◌∙◌}
-use native.Mathlib.Omega.{arith}
 use Rattle.same_open.proofs.Laws.{face-other, face-open, face-few}
 use Rattle.same_open.proofs.may_face.Goals as goal
 

@@ -1,7 +1,6 @@
-use Prim.Native.Nat.{◌-◌}
 use native.Mathlib.Omega.{arith}
 use Rattle.same_open.proofs.Laws.{class-told}
-use Rattle.same_open.proofs.Seeking.{Narrowed, narrow_start, narrow_step, narrow-end, keeps-own, keeps-facing}
+use Rattle.same_open.proofs.Seeking.{narrow_start, narrow_step, narrow-end, keeps-own, keeps-facing}
 use Rattle.same_open.proofs.narrow.Goals as goal
 use Rattle.same_open.proofs.narrow.Goals.{then-b-v, else-b-v}
 

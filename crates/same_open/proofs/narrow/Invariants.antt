@@ -1,8 +1,5 @@
 use Prim.Native.Nat.{◌-◌}
-use mathlib.Core.Logic.{⊎_elim}
-use native.Mathlib.Omega.{arith}
-use Rattle.same_open.proofs.Laws.{class-told}
-use Rattle.same_open.proofs.Seeking.{Narrowed, narrow_start, narrow_step, narrow-end, keeps-own, keeps-facing}
+use Rattle.same_open.proofs.Seeking.{Narrowed}
 use Rattle.same_open.proofs.narrow.Given as goal
 
 abbrev pub invariant-loop-b : goal.invariant-loop-b

@@ -1,7 +1,6 @@
-use Prim.Native.Nat.{◌-◌}
 use native.Mathlib.Omega.{arith}
 use Rattle.same_keys.proofs.Low.{low-more}
-use Rattle.same_part.proofs.Step.{Filling, filling-start, filling_step, filling-end}
+use Rattle.same_part.proofs.Step.{filling-start, filling_step, filling-end}
 use Rattle.same_part.proofs.fill_part.Goals as goal
 
 pub loop-k-init : goal.loop-k-init

@@ -1,7 +1,5 @@
 use Prim.Native.Nat.{◌-◌}
-use native.Mathlib.Omega.{arith}
-use Rattle.same_keys.proofs.Low.{low-more}
-use Rattle.same_part.proofs.Step.{Filling, filling-start, filling_step, filling-end}
+use Rattle.same_part.proofs.Step.{Filling}
 use Rattle.same_part.proofs.fill_part.Given as goal
 
 abbrev pub invariant-loop-k : goal.invariant-loop-k

@@ -1,8 +1,5 @@
-use Prim.Native.Nat.{◌-◌}
 use native.Mathlib.Omega.{arith}
-use lib.ListN.{length}
-use Rattle.loops.proofs.Loops.{Edited, fills, edited-start, filled-step, filled-end}
-use Rattle.same_part.specs.Value.{open_flag}
+use Rattle.loops.proofs.Loops.{edited-start, filled-step, filled-end}
 use Rattle.same_part.proofs.Opening.{bond-ends}
 use Rattle.same_part.proofs.mark_open.Goals as goal
 

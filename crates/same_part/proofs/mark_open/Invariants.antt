@@ -1,9 +1,7 @@
 use Prim.Native.Nat.{◌-◌}
-use native.Mathlib.Omega.{arith}
 use lib.ListN.{length}
-use Rattle.loops.proofs.Loops.{Edited, fills, edited-start, filled-step, filled-end}
+use Rattle.loops.proofs.Loops.{Edited, fills}
 use Rattle.same_part.specs.Value.{open_flag}
-use Rattle.same_part.proofs.Opening.{bond-ends}
 use Rattle.same_part.proofs.mark_open.Given as goal
 
 abbrev pub invariant-loop-k : goal.invariant-loop-k

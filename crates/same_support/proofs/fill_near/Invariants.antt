@@ -1,5 +1,4 @@
 use Prim.Native.Nat.{◌-◌, ◌≤◌}
-use native.Mathlib.Omega.{arith}
 use Rattle.same_support.proofs.fill_near.Given as goal
 
 abbrev pub invariant-loop-a : goal.invariant-loop-a

@@ -1,8 +1,4 @@
-use Prim.Native.Nat.{◌-◌, ◌<◌, ◌≤◌}
-use native.Mathlib.Omega.{arith}
-use lib.Dec.{eqb, ltb}
-use borrow.Author.Tests.{ltb-true}
-use Rattle.loops.proofs.Loops.{and_right}
+use Prim.Native.Nat.{◌-◌, ◌≤◌}
 use Rattle.same_support.proofs.list_class.Given as goal
 
 abbrev pub invariant-loop-b : goal.invariant-loop-b

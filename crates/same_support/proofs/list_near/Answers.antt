@@ -1,5 +1,3 @@
-use Prim.Native.Nat.{◌-◌, ◌≤◌}
-use native.Mathlib.Omega.{arith}
 use Rattle.same_support.proofs.list_near.Goals as goal
 
 pub list_class-count-requires : goal.list_class-count-requires

@@ -1,5 +1,4 @@
 use Prim.Native.Nat.{◌-◌, ◌≤◌}
-use native.Mathlib.Omega.{arith}
 use Rattle.same_support.proofs.list_near.Given as goal
 
 abbrev pub invariant-loop-c : goal.invariant-loop-c

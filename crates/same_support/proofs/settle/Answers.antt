@@ -1,9 +1,8 @@
-use Prim.Native.Nat.{◌-◌}
 use mathlib.Core.Bool.{true}
 use mathlib.Core.Path.{refl}
 use native.Mathlib.Omega.{arith}
 use Rattle.same_open.proofs.Seeking.{found-not}
-use Rattle.same_support.proofs.Leaving.{Follows, follows-start, follows_same, follows_on}
+use Rattle.same_support.proofs.Leaving.{follows-start, follows_same, follows_on}
 use Rattle.same_support.proofs.settle.Goals as goal
 use Rattle.same_support.proofs.settle.Goals.{then-fresh+then-next-w+else-not-spread, else-fresh}
 

@@ -1,10 +1,5 @@
 use Prim.Native.Nat.{◌-◌}
-use mathlib.Core.Bool.{true}
-use mathlib.Core.Path.{refl}
-use native.Mathlib.Omega.{arith}
-use borrow.Author.Tests.{not-true}
-use Rattle.same_open.proofs.Seeking.{found-not}
-use Rattle.same_support.proofs.Leaving.{Follows, follows-start, follows_same, follows_on}
+use Rattle.same_support.proofs.Leaving.{Follows}
 use Rattle.same_support.proofs.settle.Given as goal
 
 abbrev pub invariant-loop-w : goal.invariant-loop-w

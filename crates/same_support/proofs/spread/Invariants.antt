@@ -1,11 +1,5 @@
 use Prim.Native.Nat.{◌-◌}
-use mathlib.Core.Bool.{true}
-use mathlib.Core.Path.{refl}
-use native.Mathlib.Omega.{arith}
-use borrow.Author.Tests.{not-true}
-use Rattle.same_open.proofs.Laws.{class-told}
-use Rattle.same_open.proofs.Seeking.{found-not}
-use Rattle.same_support.proofs.Leaving.{Spreads, spreads-start, spreads-same, spreads-new, spreads-old, spreads-step, spreads-none}
+use Rattle.same_support.proofs.Leaving.{Spreads}
 use Rattle.same_support.proofs.spread.Given as goal
 
 abbrev pub invariant-loop-i : goal.invariant-loop-i

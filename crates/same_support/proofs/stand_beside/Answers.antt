@@ -1,7 +1,5 @@
-use Prim.Native.Nat.{◌+◌, ◌-◌, ◌<◌}
 use native.Mathlib.Omega.{arith}
-use lib.Count.{count_trailing_zeros}
-use Rattle.same_support.proofs.Standing.{Gone, gone-start, gone-low, gone-step, gone-end}
+use Rattle.same_support.proofs.Standing.{gone-start, gone-low, gone-step, gone-end}
 use Rattle.same_support.proofs.stand_beside.Goals as goal
 
 pub loop-d-init : goal.loop-d-init

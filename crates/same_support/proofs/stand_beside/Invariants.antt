@@ -1,7 +1,5 @@
-use Prim.Native.Nat.{◌+◌, ◌-◌, ◌<◌}
-use native.Mathlib.Omega.{arith}
-use lib.Count.{count_trailing_zeros}
-use Rattle.same_support.proofs.Standing.{Gone, gone-start, gone-low, gone-step, gone-end}
+use Prim.Native.Nat.{◌-◌}
+use Rattle.same_support.proofs.Standing.{Gone}
 use Rattle.same_support.proofs.stand_beside.Given as goal
 
 abbrev pub invariant-loop-d : goal.invariant-loop-d
