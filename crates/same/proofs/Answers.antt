@@ -1,22 +1,22 @@
 -- The call's answers, path by path. Assumes nothing.
-use mathlib.Core.Path.{◌≡◌, refl, sym, ap, ◌∙◌, subst}
+use mathlib.Core.Path.{◌≡◌, sym, ap, ◌∙◌, subst}
 use mathlib.Core.Bool.{Bool, true, false, ◌&&◌, not}
 use mathlib.Core.List.{List, [], ◌++◌}
-use Prim.Native.Nat.{ℕ, ◌-◌, ◌<◌, ◌≤◌}
+use Prim.Native.Nat.{ℕ, ◌-◌, ◌≤◌}
 use native.Mathlib.Omega.{arith}
 use lib.IntN.{ℤ}
-use lib.Dec.{eqb, leb}
+use lib.Dec.{leb}
 use lib.ListN.{length, take, replicate}
-use borrow.Author.Tests.{not-true, not-false, leb-true, le-leb, ne_eqb}
+use borrow.Author.Tests.{not-true, not-false, leb-true, ne_eqb}
 use Rattle.loops.specs.Loop.{pick}
 use Rattle.loops.proofs.Loops.{and_left, and_right}
 use Rattle.matching.specs.Enumeration.{fill}
 use Rattle.matching.specs.Model.{some?}
 use Rattle.table.specs.Limits.{max_atoms, max_bonds}
-use Rattle.table.specs.Valid.{Valid, enough}
+use Rattle.table.specs.Valid.{enough}
 use Rattle.table.specs.Sound.{sound}
 use Rattle.table.proofs.Sound.{sound-valid}
-use Rattle.same_model.specs.Same.{max_same, Molecule, molecule, SameReply, same_reply, zeroed_reply, answered, roomy_both, sound_both, few_both, same_of, same?, partnered, first_row, second_row, first_renumbering}
+use Rattle.same_model.specs.Same.{max_same, Molecule, molecule, same_reply, zeroed_reply, answered, roomy_both, sound_both, few_both, same_of, same?, partnered, first_row, second_row, first_renumbering}
 use Rattle.same.specs.Ready.{Ready, Decided}
 
 -- three cells lists that were zeroed

@@ -6,7 +6,7 @@ use Prim.Native.Nat.{ℕ, ◌+◌, ◌-◌, ◌*◌, ◌<◌, ◌≤◌}
 use native.Mathlib.Omega.{arith}
 use lib.IntN.{ℤ}
 use lib.Dec.{eqb, ltb}
-use lib.ListN.{length, get_or, take, drop, replicate, length-append, length-replicate, get_or-replicate, get_or-append, get_or-eq_default}
+use lib.ListN.{length, get_or, take, drop, replicate, length-append, length-replicate, get_or-replicate, get_or-append}
 use lib.Seq.{length-take-le, get_or-take, get_or-append-add, drop-length, ext_get_or}
 use borrow.Author.Tests.{eq-eqb, eqb-false, lt-ltb, le-ltb, ltb-true, ltb-false}
 use Rattle.loops.specs.Loop.{pick, up_to}
@@ -14,7 +14,6 @@ use Rattle.loops.proofs.Loops.{length-up_to, up_to-at}
 use Rattle.matching.specs.Enumeration.{Row, fill}
 use Rattle.matching.specs.Model.{some?, head_or}
 use Rattle.matching.proofs.Graph.{never}
-use Rattle.table.specs.Valid.{Valid}
 use Rattle.table.proofs.Valid.{Enough, enough-facts}
 use Rattle.same_model.specs.Same.{max_same, Molecule, molecule, settled, image, fits, fitting, partners, partnered, same?, first_row, second_row, first_renumbering}
 use Rattle.same_model.specs.Redrawing.{Renumbering, Placement, Same, Redrawing}

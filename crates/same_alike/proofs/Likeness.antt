@@ -4,7 +4,7 @@ use mathlib.Core.Bool.{Bool, true, false, ◌&&◌, not}
 use mathlib.Core.List.{List, [], ◌∷◌, ◌++◌, map}
 use Prim.Native.Nat.{ℕ, zero, suc, ◌+◌, ◌-◌, ◌<◌, ◌≤◌}
 use native.Mathlib.Omega.{arith}
-use lib.Dec.{eqb, ltb}
+use lib.Dec.{eqb}
 use lib.ListN.{length, get_or, take, length-append}
 use lib.Seq.{get_or-take, length-take-le}
 use borrow.Author.Tests.{eqb-true, eqb-false, eq-eqb, ne_eqb}
@@ -13,13 +13,13 @@ use Rattle.loops.proofs.Loops.{and_left, and_right, each_at, each_all}
 use Rattle.matching.specs.Enumeration.{Row, passing}
 use Rattle.matching.specs.Model.{some?, head_or}
 use Rattle.matching.proofs.Graph.{and_intro, never}
-use Rattle.same_model.specs.Same.{max_same, image, words}
+use Rattle.same_model.specs.Same.{image, words}
 use Rattle.same_model.proofs.Lists.{All, none, more, all_append, all-at, at_all, all_map, all_head, all-passing, in-passing, in_some}
-use Rattle.same_model.proofs.Words.{Word, words-all, word_in}
+use Rattle.same_model.proofs.Words.{words-all, word_in}
 use Rattle.same_place.specs.Place.{entry, beside, placeable, good_from, Prefix}
 use Rattle.same_keys.specs.Keys.{at}
-use Rattle.same_finer.specs.Finer.{ways_by, Hopeless}
-use Rattle.same_alike.specs.Alike.{like_pair, Like}
+use Rattle.same_finer.specs.Finer.{ways_by}
+use Rattle.same_alike.specs.Alike.{Like}
 
 no : {A : Type 0} → ◌≡◌ {A = Bool} true false → A
 no h = absurd (never true refl h)

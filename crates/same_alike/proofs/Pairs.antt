@@ -1,18 +1,17 @@
 -- What two atoms ask of a list, test by test; the marks that a list spreads. Assumes nothing.
-use mathlib.Core.Path.{◌≡◌, refl, sym, ap, ◌∙◌, subst}
+use mathlib.Core.Path.{◌≡◌, refl, sym, ap, ◌∙◌}
 use mathlib.Core.Bool.{Bool, true, false, ◌&&◌, not}
-use mathlib.Core.List.{List, []}
+use mathlib.Core.List.{List}
 use Prim.Native.Nat.{ℕ, ◌+◌, ◌-◌, ◌<◌, ◌≤◌}
-use native.Mathlib.Omega.{arith}
-use lib.Dec.{eqb, ltb}
-use lib.ListN.{length, get_or, set, take}
+use lib.Dec.{eqb}
+use lib.ListN.{length, set, take}
 use borrow.Author.Tests.{eqb-true, eq-eqb, ne_eqb, ltb-true}
 use Rattle.loops.specs.Loop.{pick, each}
 use Rattle.loops.proofs.Loops.{each_at}
 use Rattle.matching.proofs.Graph.{never}
 use Rattle.same_place.specs.Place.{entry, Prefix}
 use Rattle.same_keys.specs.Keys.{at}
-use Rattle.same_finer.specs.Finer.{finer_told, ways_by, Hopeless}
+use Rattle.same_finer.specs.Finer.{finer_told, Hopeless}
 use Rattle.same_finer.proofs.Keeping.{told-long}
 use Rattle.same_alike.specs.Alike.{like_pair, like_row, is_inside, is_fixed, Like}
 use Rattle.same_alike.proofs.Likeness.{hopeless-back}

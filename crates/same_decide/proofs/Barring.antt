@@ -9,7 +9,7 @@ use lib.Dec.{eqb}
 use lib.ListN.{length, get_or, take, get_or-append}
 use Rattle.loops.specs.Loop.{pick, up_to}
 use Rattle.loops.proofs.Loops.{and_left, and_right, length-up_to, up_to-at}
-use Rattle.matching.specs.Enumeration.{Row, is_row, rows}
+use Rattle.matching.specs.Enumeration.{Row, is_row}
 use Rattle.matching.specs.Model.{some?, head_or}
 use Rattle.matching.proofs.Graph.{never}
 use Rattle.table.specs.Valid.{Valid, enough}

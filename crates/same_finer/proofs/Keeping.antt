@@ -1,13 +1,13 @@
 -- Every list that the search goes to keeps the keys, made finer after an atom and its image were told apart; so where they differ, there is none. Assumes nothing.
 use mathlib.Core.Path.{◌≡◌, refl, sym, ap, ◌∙◌, subst}
-use mathlib.Core.Bool.{Bool, true, false, ◌&&◌, not}
+use mathlib.Core.Bool.{Bool, true, false, not}
 use mathlib.Core.List.{List, [], ◌∷◌, ◌++◌, append-nil, append_assoc}
 use Prim.Native.Nat.{ℕ, zero, suc, ◌+◌, ◌*◌, ◌<◌, ◌≤◌, ◌/◌, ◌%◌}
 use native.Mathlib.Omega.{arith}
 use native.Mathlib.Nat.{add-zero, mul-add-div, mul-add-mod_self_left, div-eq_of_lt, mod-eq_of_lt}
 use lib.Dec.{eqb, ltb}
-use lib.ListN.{length, get_or, set, take, drop, length-set, length-append, get_or-append}
-use lib.Seq.{get_or-take, get_or-append_seam, get_or-set_same, get_or-set_other, length-take-le}
+use lib.ListN.{length, get_or, set, drop, length-set, length-append, get_or-append}
+use lib.Seq.{get_or-append_seam, get_or-set_same, get_or-set_other}
 use borrow.Author.Tests.{eqb-true, eq-eqb, ne_eqb, eqb-false, ltb-true, ltb-false}
 use Rattle.loops.specs.Loop.{pick, run, up_to, each}
 use Rattle.loops.proofs.Loops.{and_left, and_right, each_at, length-up_to, filled_at}

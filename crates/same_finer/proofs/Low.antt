@@ -1,20 +1,18 @@
 -- What a bond weighs, and how high a sum of weights can be. Assumes nothing.
-use mathlib.Core.Path.{◌≡◌, refl, sym, ap, ◌∙◌}
-use mathlib.Core.Bool.{Bool, true, false}
+use mathlib.Core.Path.{◌≡◌, sym, ap, ◌∙◌}
 use Prim.Native.Nat.{ℕ, ◌+◌, ◌*◌, ◌<◌, ◌≤◌, ◌/◌, ◌%◌}
 use native.Mathlib.Omega.{arith}
 use native.Mathlib.Nat.{mod-lt, mul-le-mul_right, div-lt_iff_lt-mul}
-use lib.Dec.{eqb}
 use mathlib.Core.List.{List, ◌++◌}
-use lib.ListN.{get_or, drop}
+use lib.ListN.{get_or}
 use borrow.Author.Tests.{eq-eqb, ne_eqb}
-use Rattle.loops.specs.Loop.{pick, run, up_to}
+use Rattle.loops.specs.Loop.{run, up_to}
 use Rattle.loops.proofs.Loops.{filled_at}
 use Rattle.same_model.specs.Same.{max_same}
 use Rattle.same_place.specs.Place.{entry}
 use Rattle.same_keys.specs.Keys.{prime, mixed, at, mixed_at}
 use Rattle.same_keys.proofs.Spreading.{run_agree}
-use Rattle.same_finer.specs.Finer.{weight_of, weight, weight_cell, times_low, add_weighed, next_key}
+use Rattle.same_finer.specs.Finer.{weight, weight_cell, times_low, add_weighed, next_key}
 
 pub weight-0 : (x y : ℕ) → y ≡ x % 4 → y ≡ 0 → 0 ≡ weight x
 unfolding weight

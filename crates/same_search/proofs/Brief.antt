@@ -1,15 +1,14 @@
 -- The search under a budget: while some of it is left, what is left to try leads to the same. Assumes nothing.
-use mathlib.Core.Path.{◌≡◌, refl, sym, ap, ◌∙◌, subst}
+use mathlib.Core.Path.{◌≡◌, refl, sym, ap, ◌∙◌}
 use mathlib.Core.Bool.{Bool, true, false}
 use mathlib.Core.List.{List, [], ◌∷◌}
 use Prim.Native.Nat.{ℕ, ◌+◌, ◌-◌, ◌<◌, ◌≤◌}
 use native.Mathlib.Omega.{arith}
-use lib.ListN.{length, get_or, set, take, length-set}
+use lib.ListN.{length, set, take, length-set}
 use lib.Seq.{take-take, take-set-le}
 use Rattle.matching.specs.Enumeration.{Row}
 use Rattle.matching.specs.Model.{some?}
 use Rattle.matching.proofs.Graph.{never}
-use Rattle.same_model.specs.Same.{max_same}
 use Rattle.same_place.specs.Place.{placeable, goods, Prefix, Solved}
 use Rattle.same_place.proofs.Laws.{Trying, all_placed, trying_start, trying-not, trying-next, trying-found, trying-end}
 use Rattle.same_search.specs.Search.{Trial}

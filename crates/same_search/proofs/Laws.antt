@@ -2,7 +2,7 @@
 use mathlib.Core.Path.{◌≡◌, refl, sym, ap, ◌∙◌, subst}
 use mathlib.Core.Bool.{Bool, true, false, ◌&&◌, not}
 use mathlib.Core.List.{List, [], ◌∷◌, ◌++◌, map}
-use Prim.Native.Nat.{ℕ, suc, ◌+◌, ◌-◌, ◌<◌, ◌≤◌}
+use Prim.Native.Nat.{ℕ, ◌+◌, ◌-◌, ◌<◌}
 use native.Mathlib.Omega.{arith}
 use native.Mathlib.Numerals.{add-one}
 use lib.Dec.{eqb}
@@ -16,9 +16,9 @@ use Rattle.matching.proofs.Graph.{never}
 use Rattle.same_model.specs.Same.{max_same, image, words}
 use Rattle.same_model.proofs.Lists.{All, at_all}
 use Rattle.same_place.specs.Place.{placeable, good_from, goods, Prefix, Solved}
-use Rattle.same_place.proofs.Laws.{placeable-prefix, branch, branch-not, Trying, trying_start, trying-found, skip}
+use Rattle.same_place.proofs.Laws.{placeable-prefix, branch, Trying, trying_start, trying-found, skip}
 use Rattle.same_keys.specs.Keys.{at, key_sum}
-use Rattle.same_finer.specs.Finer.{finer_told, Whole, Weighed, Keeps, ways_by, Hopeless}
+use Rattle.same_finer.specs.Finer.{finer_told, Whole, Keeps, ways_by, Hopeless}
 use Rattle.same_finer.proofs.Keeping.{keeps-told, unlike-sums, none-by, good-next}
 use Rattle.same_search.specs.Search.{Level, hopeful}
 use Rattle.same_search.proofs.Brief.{kept_on}

@@ -1,22 +1,21 @@
 -- What the search with finer keys begins with, and what it tells after one under a budget. Assumes nothing.
-use mathlib.Core.Path.{◌≡◌, refl, sym, ap, ◌∙◌, subst}
+use mathlib.Core.Path.{◌≡◌, refl, sym, ap, ◌∙◌}
 use mathlib.Core.Bool.{Bool, true, false, ◌&&◌, not}
-use mathlib.Core.List.{List, [], ◌∷◌, ◌++◌}
-use Prim.Native.Nat.{ℕ, ◌+◌, ◌-◌, ◌*◌, ◌<◌, ◌≤◌, ◌/◌, ◌%◌}
+use mathlib.Core.List.{List, []}
+use Prim.Native.Nat.{ℕ, ◌+◌, ◌-◌, ◌*◌, ◌≤◌, ◌/◌, ◌%◌}
 use native.Mathlib.Omega.{arith}
 use native.Mathlib.Nat.{add-zero, mul-add-div, mul-add-mod_self_left, div-eq_of_lt, mod-eq_of_lt}
 use lib.Dec.{eqb}
-use lib.ListN.{length, get_or, take}
-use borrow.Author.Tests.{eqb-true, eqb-false, eq-eqb}
+use lib.ListN.{length, take}
+use borrow.Author.Tests.{eqb-true, eq-eqb}
 use Rattle.loops.specs.Loop.{each}
 use Rattle.loops.proofs.Loops.{each_at}
-use Rattle.matching.specs.Enumeration.{Row}
 use Rattle.matching.specs.Model.{some?}
 use Rattle.matching.proofs.Graph.{never}
 use Rattle.same_model.specs.Same.{max_same, image}
-use Rattle.same_place.specs.Place.{entry, good_from, goods, Prefix, Solved}
+use Rattle.same_place.specs.Place.{good_from, goods, Prefix, Solved}
 use Rattle.same_keys.specs.Keys.{at}
-use Rattle.same_finer.specs.Finer.{finer, Whole, Weighed, Keeps}
+use Rattle.same_finer.specs.Finer.{finer, Weighed, Keeps}
 use Rattle.same_finer.proofs.Keeping.{may, keeps-finer}
 use Rattle.same_search.specs.Search.{Trial, Level, agreeing}
 

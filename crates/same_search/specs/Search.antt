@@ -1,5 +1,5 @@
 -- auxiliary: what the search for the smallest renumbering is asked with, and what a search under a budget tells
-use Rattle.std.specs.Prelude.{ℕ, ◌<◌, ◌/◌, ◌%◌, ◌≡◌, Bool, true, false, ◌&&◌, not, List, [], length, get_or, take, eqb}
+use Rattle.std.specs.Prelude.{ℕ, ◌<◌, ◌/◌, ◌%◌, ◌≡◌, Bool, true, false, ◌&&◌, not, List, [], length, take, eqb}
 use Rattle.same_model.specs.Same.{max_same}
 use Rattle.same_place.specs.Place.{good_from, placeable, Solved}
 use Rattle.same_keys.specs.Keys.{at}

@@ -1,9 +1,5 @@
-use Prim.Native.Nat.{◌-◌}
 use native.Mathlib.Omega.{arith}
-use lib.Dec.{ltb}
-use lib.ListN.{length, get_or}
-use Rattle.loops.specs.Loop.{pick}
-use Rattle.loops.proofs.Loops.{Edited, fills, edited-start, filled-step, filled-end}
+use Rattle.loops.proofs.Loops.{edited-start, filled-step, filled-end}
 use Rattle.same.proofs.Deciding.{handed}
 use Rattle.same.proofs.hand_out.Goals as goal
 

@@ -1,10 +1,8 @@
 use Prim.Native.Nat.{◌-◌}
-use native.Mathlib.Omega.{arith}
 use lib.Dec.{ltb}
 use lib.ListN.{length, get_or}
 use Rattle.loops.specs.Loop.{pick}
-use Rattle.loops.proofs.Loops.{Edited, fills, edited-start, filled-step, filled-end}
-use Rattle.same.proofs.Deciding.{handed}
+use Rattle.loops.proofs.Loops.{Edited, fills}
 use Rattle.same.proofs.hand_out.Given as goal
 
 abbrev pub invariant-loop-i : goal.invariant-loop-i

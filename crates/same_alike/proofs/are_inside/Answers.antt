@@ -1,10 +1,8 @@
-use Prim.Native.Nat.{ℕ, ◌+◌, ◌-◌, ◌≤◌}
 use native.Mathlib.Omega.{arith}
 use mathlib.Core.Path.{sym}
 use borrow.Author.Tests.{lt-ltb, le-ltb}
-use Rattle.loops.proofs.Loops.{Left, left-start, left-pass, left-fail, left_end}
+use Rattle.loops.proofs.Loops.{left-start, left-pass, left-fail, left_end}
 use Rattle.same_keys.specs.Keys.{at}
-use Rattle.same_alike.specs.Alike.{is_inside}
 use Rattle.same_alike.proofs.are_inside.Goals as goal
 
 pub loop-a-init : goal.loop-a-init

@@ -1,9 +1,5 @@
-use Prim.Native.Nat.{ℕ, ◌+◌, ◌-◌, ◌≤◌}
-use native.Mathlib.Omega.{arith}
-use mathlib.Core.Path.{sym}
-use borrow.Author.Tests.{lt-ltb, le-ltb}
-use Rattle.loops.proofs.Loops.{Left, left-start, left-pass, left-fail, left_end}
-use Rattle.same_keys.specs.Keys.{at}
+use Prim.Native.Nat.{◌-◌}
+use Rattle.loops.proofs.Loops.{Left}
 use Rattle.same_alike.specs.Alike.{is_inside}
 use Rattle.same_alike.proofs.are_inside.Given as goal
 

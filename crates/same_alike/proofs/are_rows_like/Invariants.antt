@@ -1,8 +1,5 @@
-use Prim.Native.Nat.{ℕ, ◌+◌, ◌-◌, ◌≤◌}
-use native.Mathlib.Omega.{arith}
-use mathlib.Core.Path.{sym, ◌∙◌}
-use borrow.Author.Tests.{not-true, not-false}
-use Rattle.loops.proofs.Loops.{Left, left-start, left-pass, left-fail, left_end}
+use Prim.Native.Nat.{◌-◌}
+use Rattle.loops.proofs.Loops.{Left}
 use Rattle.same_alike.specs.Alike.{like_row}
 use Rattle.same_alike.proofs.are_rows_like.Given as goal
 

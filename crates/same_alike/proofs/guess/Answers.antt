@@ -1,7 +1,5 @@
-use Prim.Native.Nat.{ℕ, ◌+◌, ◌-◌, ◌≤◌}
 use native.Mathlib.Omega.{arith}
 use mathlib.Core.Path.{refl}
-use lib.ListN.{length}
 use Rattle.same_alike.proofs.Pairs.{told-size, size-kept}
 use Rattle.same_alike.proofs.guess.Goals as goal
 use Rattle.same_alike.proofs.guess.Goals.{then-v-w, else-v-w}

@@ -1,8 +1,5 @@
-use Prim.Native.Nat.{ℕ, ◌+◌, ◌-◌, ◌≤◌}
-use native.Mathlib.Omega.{arith}
-use mathlib.Core.Path.{refl}
+use Prim.Native.Nat.{◌-◌, ◌≤◌}
 use lib.ListN.{length}
-use Rattle.same_alike.proofs.Pairs.{told-size, size-kept}
 use Rattle.same_alike.proofs.guess.Given as goal
 
 abbrev pub invariant-loop-v : goal.invariant-loop-v

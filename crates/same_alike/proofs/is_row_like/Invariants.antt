@@ -1,8 +1,5 @@
-use Prim.Native.Nat.{◌-◌, ◌≤◌}
-use native.Mathlib.Omega.{arith}
-use mathlib.Core.Path.{sym, ◌∙◌}
-use borrow.Author.Tests.{not-true, not-false}
-use Rattle.loops.proofs.Loops.{Left, left-start, left-pass, left-fail, left_end}
+use Prim.Native.Nat.{◌-◌}
+use Rattle.loops.proofs.Loops.{Left}
 use Rattle.same_alike.specs.Alike.{like_pair}
 use Rattle.same_alike.proofs.is_row_like.Given as goal
 

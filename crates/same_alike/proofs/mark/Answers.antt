@@ -1,7 +1,4 @@
-use Prim.Native.Nat.{ℕ, ◌+◌, ◌-◌}
 use native.Mathlib.Omega.{arith}
-use lib.ListN.{take}
-use Rattle.same_finer.specs.Finer.{Hopeless}
 use Rattle.same_alike.proofs.Marks.{marked}
 use Rattle.same_alike.proofs.Pairs.{same-marks}
 use Rattle.same_alike.proofs.mark.Goals as goal

@@ -1,9 +1,6 @@
-use Prim.Native.Nat.{ℕ, ◌+◌, ◌-◌}
-use native.Mathlib.Omega.{arith}
+use Prim.Native.Nat.{◌+◌, ◌-◌}
 use lib.ListN.{take}
 use Rattle.same_finer.specs.Finer.{Hopeless}
-use Rattle.same_alike.proofs.Marks.{marked}
-use Rattle.same_alike.proofs.Pairs.{same-marks}
 use Rattle.same_alike.proofs.mark.Given as goal
 
 abbrev pub invariant-loop-e : goal.invariant-loop-e

@@ -1,5 +1,3 @@
-use Prim.Native.Nat.{◌-◌, ◌≤◌}
-use native.Mathlib.Omega.{arith}
 use Rattle.same_alike.proofs.partner.Goals as goal
 
 pub returns-then-ka-v : goal.returns-then-ka-v

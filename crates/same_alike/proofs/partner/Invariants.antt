@@ -1,5 +1,4 @@
 use Prim.Native.Nat.{◌-◌, ◌≤◌}
-use native.Mathlib.Omega.{arith}
 use Rattle.same_alike.proofs.partner.Given as goal
 
 abbrev pub invariant-loop-w : goal.invariant-loop-w

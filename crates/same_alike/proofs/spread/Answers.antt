@@ -1,10 +1,4 @@
-use Prim.Native.Nat.{◌+◌, ◌-◌}
 use native.Mathlib.Omega.{arith}
-use mathlib.Core.Path.{sym, subst}
-use mathlib.Core.List.{List}
-use Prim.Native.Nat.{ℕ}
-use lib.ListN.{take}
-use Rattle.same_finer.specs.Finer.{Hopeless}
 use Rattle.same_alike.proofs.Pairs.{spread-mark, same-marks}
 use Rattle.same_alike.proofs.spread.Goals as goal
 use Rattle.same_alike.proofs.spread.Goals.{then-dead-image-eq1, else-dead-image-eq1}

@@ -1,6 +1,4 @@
 use Prim.Native.Nat.{◌+◌, ◌-◌, ◌≤◌}
-use native.Mathlib.Omega.{arith}
-use Rattle.matching_search.proofs.Flags.{not-true}
 use Rattle.same_decide.proofs.clash.Given as goal
 
 abbrev pub invariant-loop-to : goal.invariant-loop-to

@@ -1,5 +1,4 @@
 use Prim.Native.Nat.{◌-◌, ◌≤◌}
-use native.Mathlib.Omega.{arith}
 use Rattle.same_decide.proofs.first_difference.Given as goal
 
 abbrev pub invariant-loop-k : goal.invariant-loop-k

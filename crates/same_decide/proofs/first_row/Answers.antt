@@ -1,12 +1,12 @@
-use mathlib.Core.Path.{◌≡◌, refl, sym, ◌∙◌}
+use mathlib.Core.Path.{refl, sym, ◌∙◌}
 use Prim.Native.Nat.{ℕ}
 use native.Mathlib.Omega.{arith}
-use lib.ListN.{length, length-replicate}
+use lib.ListN.{length-replicate}
 use lib.Seq.{length-take-le}
 use Rattle.table_graph.specs.Graph.{matching_of}
 use Rattle.matching_skip.specs.Skip.{later_than}
-use Rattle.same_decide.specs.Decide.{sketch, has_second}
-use Rattle.same_decide.proofs.Walk.{Walking, rest, walking-first, walking-next, walking_skip, skip-fewer, skip-reply, fewer, first-length}
+use Rattle.same_decide.specs.Decide.{sketch}
+use Rattle.same_decide.proofs.Walk.{walking-first, walking-next, walking_skip, skip-fewer, skip-reply, fewer, first-length}
 use Rattle.same_decide.proofs.Rows.{first-hit, first-none}
 use Rattle.same_decide.proofs.Barring.{first-apart}
 use Rattle.same_decide.proofs.first_row.Goals as goal

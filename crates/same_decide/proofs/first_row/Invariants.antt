@@ -1,14 +1,8 @@
-use mathlib.Core.Path.{◌≡◌, refl, sym, ◌∙◌}
-use Prim.Native.Nat.{ℕ}
-use native.Mathlib.Omega.{arith}
-use lib.ListN.{length, length-replicate}
-use lib.Seq.{length-take-le}
+use mathlib.Core.Path.{◌≡◌}
+use lib.ListN.{length}
 use Rattle.table_graph.specs.Graph.{matching_of}
-use Rattle.matching_skip.specs.Skip.{later_than}
 use Rattle.same_decide.specs.Decide.{sketch, has_second}
-use Rattle.same_decide.proofs.Walk.{Walking, rest, walking-first, walking-next, walking_skip, skip-fewer, skip-reply, fewer, first-length}
-use Rattle.same_decide.proofs.Rows.{first-hit, first-none}
-use Rattle.same_decide.proofs.Barring.{first-apart}
+use Rattle.same_decide.proofs.Walk.{Walking, rest}
 use Rattle.same_decide.proofs.first_row.Given as goal
 
 abbrev pub invariant-loop-more : goal.invariant-loop-more

@@ -1,5 +1,4 @@
 use Prim.Native.Nat.{◌-◌, ◌≤◌}
-use native.Mathlib.Omega.{arith}
 use Rattle.same_decide.proofs.hurry.Given as goal
 
 abbrev pub invariant-loop-i : goal.invariant-loop-i

@@ -1,15 +1,8 @@
-use mathlib.Core.Path.{◌≡◌, refl, sym, ◌∙◌}
-use native.Mathlib.Omega.{arith}
+use mathlib.Core.Path.{◌≡◌}
 use lib.ListN.{length}
-use lib.Seq.{length-take-le}
-use Rattle.matching.proofs.Enumeration.{row-length}
-use Rattle.loops.proofs.Loops.{and_left}
 use Rattle.table_graph.specs.Graph.{matching_of}
-use Rattle.matching_skip.specs.Skip.{later_than}
 use Rattle.same_decide.specs.Decide.{sketch, drawn_matrix, sum_of, goes_with}
-use Rattle.same_decide.proofs.Walk.{Walking, rest, walking-first, walking-next, walking_skip, skip-fewer, skip-reply, fewer, first-length}
-use Rattle.same_decide.proofs.Rows.{ready, ready-row, drawn-ways, second-hit, second_none}
-use Rattle.same_decide.proofs.Barring.{second-apart}
+use Rattle.same_decide.proofs.Walk.{Walking, rest}
 use Rattle.same_decide.proofs.second_row.Given as goal
 
 abbrev pub invariant-loop-more : goal.invariant-loop-more

@@ -1,8 +1,6 @@
 use mathlib.Core.Path.{refl}
-use Prim.Native.Nat.{◌-◌}
 use native.Mathlib.Omega.{arith}
-use Rattle.loops.proofs.Loops.{Edited, fills, edited-start, filled-step, filled-end}
-use Rattle.same_decide.specs.Decide.{turned_cell}
+use Rattle.loops.proofs.Loops.{edited-start, filled-step, filled-end}
 use Rattle.same_decide.proofs.turn_over.Goals as goal
 
 pub loop-i-init : goal.loop-i-init

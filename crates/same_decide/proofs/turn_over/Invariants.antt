@@ -1,7 +1,5 @@
-use mathlib.Core.Path.{refl}
 use Prim.Native.Nat.{◌-◌}
-use native.Mathlib.Omega.{arith}
-use Rattle.loops.proofs.Loops.{Edited, fills, edited-start, filled-step, filled-end}
+use Rattle.loops.proofs.Loops.{Edited, fills}
 use Rattle.same_decide.specs.Decide.{turned_cell}
 use Rattle.same_decide.proofs.turn_over.Given as goal
 

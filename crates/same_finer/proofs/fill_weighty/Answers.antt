@@ -1,9 +1,7 @@
-use Prim.Native.Nat.{◌-◌, ◌≤◌}
 use mathlib.Core.Path.{refl}
 use native.Mathlib.Omega.{arith}
-use lib.ListN.{length, length-set}
-use Rattle.same_open.proofs.Seeking.{Filled, filled-start, filled-step}
-use Rattle.same_finer.specs.Finer.{Near}
+use lib.ListN.{length-set}
+use Rattle.same_open.proofs.Seeking.{filled-start, filled-step}
 use Rattle.same_finer.proofs.fill_weighty.Goals as goal
 
 pub loop-a-init : goal.loop-a-init

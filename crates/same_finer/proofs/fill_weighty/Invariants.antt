@@ -1,8 +1,6 @@
 use Prim.Native.Nat.{◌-◌, ◌≤◌}
-use mathlib.Core.Path.{refl}
-use native.Mathlib.Omega.{arith}
-use lib.ListN.{length, length-set}
-use Rattle.same_open.proofs.Seeking.{Filled, filled-start, filled-step}
+use lib.ListN.{length}
+use Rattle.same_open.proofs.Seeking.{Filled}
 use Rattle.same_finer.specs.Finer.{Near}
 use Rattle.same_finer.proofs.fill_weighty.Given as goal
 

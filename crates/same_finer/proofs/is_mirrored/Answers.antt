@@ -1,9 +1,7 @@
-use Prim.Native.Nat.{◌-◌, ◌*◌, ◌+◌, ◌≤◌}
 use native.Mathlib.Omega.{arith}
 use mathlib.Core.Path.{sym}
 use borrow.Author.Tests.{eq-eqb, ne_eqb}
-use Rattle.loops.proofs.Loops.{Left, left-start, left-pass, left-fail, left_end}
-use Rattle.same_finer.specs.Finer.{mirror}
+use Rattle.loops.proofs.Loops.{left-start, left-pass, left-fail, left_end}
 use Rattle.same_finer.proofs.Low.{row_low, column-low}
 use Rattle.same_finer.proofs.is_mirrored.Goals as goal
 

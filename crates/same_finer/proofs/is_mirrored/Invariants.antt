@@ -1,10 +1,6 @@
-use Prim.Native.Nat.{◌-◌, ◌*◌, ◌+◌, ◌≤◌}
-use native.Mathlib.Omega.{arith}
-use mathlib.Core.Path.{sym}
-use borrow.Author.Tests.{eq-eqb, ne_eqb}
-use Rattle.loops.proofs.Loops.{Left, left-start, left-pass, left-fail, left_end}
+use Prim.Native.Nat.{◌-◌}
+use Rattle.loops.proofs.Loops.{Left}
 use Rattle.same_finer.specs.Finer.{mirror}
-use Rattle.same_finer.proofs.Low.{row_low, column-low}
 use Rattle.same_finer.proofs.is_mirrored.Given as goal
 
 abbrev pub invariant-loop-i : goal.invariant-loop-i

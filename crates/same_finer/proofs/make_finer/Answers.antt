@@ -1,9 +1,8 @@
-use Prim.Native.Nat.{◌-◌, ◌≤◌}
 use native.Mathlib.Omega.{arith}
 use mathlib.Core.Path.{ap}
 use lib.ListN.{length}
-use Rattle.loops.proofs.Loops.{Ran, ran-start, ran-step, ran-end}
-use Rattle.same_finer.specs.Finer.{rounded_again, finer}
+use Rattle.loops.proofs.Loops.{ran-start, ran-step, ran-end}
+use Rattle.same_finer.specs.Finer.{finer}
 use Rattle.same_finer.proofs.Keeping.{as-rounded, rounded-long}
 use Rattle.same_finer.proofs.make_finer.Goals as goal
 

@@ -1,10 +1,7 @@
 use Prim.Native.Nat.{◌-◌, ◌≤◌}
-use native.Mathlib.Omega.{arith}
-use mathlib.Core.Path.{ap}
 use lib.ListN.{length}
-use Rattle.loops.proofs.Loops.{Ran, ran-start, ran-step, ran-end}
-use Rattle.same_finer.specs.Finer.{rounded_again, finer}
-use Rattle.same_finer.proofs.Keeping.{as-rounded, rounded-long}
+use Rattle.loops.proofs.Loops.{Ran}
+use Rattle.same_finer.specs.Finer.{rounded_again}
 use Rattle.same_finer.proofs.make_finer.Given as goal
 
 abbrev pub invariant-loop-i : goal.invariant-loop-i

@@ -1,10 +1,10 @@
-use Prim.Native.Nat.{◌+◌, ◌-◌, ◌<◌}
+use Prim.Native.Nat.{◌+◌}
 use native.Mathlib.Omega.{arith}
 use lib.Count.{count_trailing_zeros}
 use Rattle.same_place.specs.Place.{entry}
 use Rattle.same_keys.specs.Keys.{at}
 use Rattle.same_finer.proofs.Low.{times-bound}
-use Rattle.same_finer.proofs.Nearby.{Summed, summed-start, summed-low, summed-step, summed-end}
+use Rattle.same_finer.proofs.Nearby.{summed-start, summed-low, summed-step, summed-end}
 use Rattle.same_finer.proofs.next_key.Goals as goal
 
 pub loop-rest-init : goal.loop-rest-init

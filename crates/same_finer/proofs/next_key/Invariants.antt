@@ -1,10 +1,5 @@
-use Prim.Native.Nat.{◌+◌, ◌-◌, ◌<◌}
-use native.Mathlib.Omega.{arith}
-use lib.Count.{count_trailing_zeros}
-use Rattle.same_place.specs.Place.{entry}
-use Rattle.same_keys.specs.Keys.{at}
-use Rattle.same_finer.proofs.Low.{times-bound}
-use Rattle.same_finer.proofs.Nearby.{Summed, summed-start, summed-low, summed-step, summed-end}
+use Prim.Native.Nat.{◌-◌}
+use Rattle.same_finer.proofs.Nearby.{Summed}
 use Rattle.same_finer.proofs.next_key.Given as goal
 
 abbrev pub invariant-loop-rest : goal.invariant-loop-rest

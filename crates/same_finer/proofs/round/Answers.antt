@@ -1,9 +1,8 @@
-use Prim.Native.Nat.{ℕ, ◌-◌}
+use Prim.Native.Nat.{ℕ}
 use mathlib.Core.Path.{refl}
 use native.Mathlib.Omega.{arith}
 use lib.ListN.{length-replicate}
-use Rattle.loops.proofs.Loops.{Edited, fills, edited-start, filled-step, filled-end}
-use Rattle.same_finer.specs.Finer.{next_key}
+use Rattle.loops.proofs.Loops.{edited-start, filled-step, filled-end}
 use Rattle.same_finer.proofs.Low.{as-next-key}
 use Rattle.same_finer.proofs.round.Goals as goal
 

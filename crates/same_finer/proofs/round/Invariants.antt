@@ -1,10 +1,6 @@
-use Prim.Native.Nat.{ℕ, ◌-◌}
-use mathlib.Core.Path.{refl}
-use native.Mathlib.Omega.{arith}
-use lib.ListN.{length-replicate}
-use Rattle.loops.proofs.Loops.{Edited, fills, edited-start, filled-step, filled-end}
+use Prim.Native.Nat.{◌-◌}
+use Rattle.loops.proofs.Loops.{Edited, fills}
 use Rattle.same_finer.specs.Finer.{next_key}
-use Rattle.same_finer.proofs.Low.{as-next-key}
 use Rattle.same_finer.proofs.round.Given as goal
 
 abbrev pub invariant-loop-a : goal.invariant-loop-a

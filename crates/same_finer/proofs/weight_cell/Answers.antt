@@ -1,5 +1,3 @@
-use Prim.Native.Nat.{◌-◌, ◌*◌, ◌+◌, ◌≤◌}
-use native.Mathlib.Omega.{arith}
 use Rattle.same_finer.proofs.Low.{cell_self, cell_other}
 use Rattle.same_finer.proofs.weight_cell.Goals as goal
 

@@ -1,7 +1,5 @@
-use mathlib.Core.Path.{◌≡◌}
 use native.Mathlib.Omega.{arith}
-use Rattle.same_place.specs.Place.{entry}
-use Rattle.same_open.proofs.Masks.{Masked, masked-start, masked-room, masked-one, masked-none}
+use Rattle.same_open.proofs.Masks.{masked-start, masked-room, masked-one, masked-none}
 use Rattle.same_finer.proofs.Nearby.{near-made}
 use Rattle.same_finer.proofs.weighty.Goals as goal
 

@@ -1,8 +1,6 @@
 use mathlib.Core.Path.{◌≡◌}
-use native.Mathlib.Omega.{arith}
 use Rattle.same_place.specs.Place.{entry}
-use Rattle.same_open.proofs.Masks.{Masked, masked-start, masked-room, masked-one, masked-none}
-use Rattle.same_finer.proofs.Nearby.{near-made}
+use Rattle.same_open.proofs.Masks.{Masked}
 use Rattle.same_finer.proofs.weighty.Given as goal
 
 abbrev pub invariant-loop-b : goal.invariant-loop-b

@@ -1,6 +1,6 @@
-use Rattle.std.proofs.Common.{◌≡◌, ◌<◌, ◌≤◌, arith}
+use Rattle.std.proofs.Common.{arith}
 use Rattle.same_place.proofs.Laws.{all_placed, images-below, prefix-next, trying-end}
-use Rattle.same_search.proofs.Laws.{Searching, search-start, search-not, search-sums, level-next, search-found, prefix-after, marks-ask, search-next}
+use Rattle.same_search.proofs.Laws.{search-start, search-not, search-sums, level-next, search-found, prefix-after, marks-ask, search-next}
 use Rattle.same_search.proofs.+search.Goals as goal
 use Rattle.same_search.proofs.+search.Goals.{then-is_hopeful+then-tell-sum1+else-search, then-is_hopeful+else-tell-sum1, else-is_hopeful}
 

@@ -1,6 +1,6 @@
-use Rattle.std.proofs.Common.{◌≡◌, ◌<◌, ◌≤◌, arith}
+use Rattle.std.proofs.Common.{arith}
 use Rattle.same_place.proofs.Laws.{images-below, prefix-next}
-use Rattle.same_search.proofs.Brief.{Briefly, brief-placed, brief-start, brief-spent, brief-not, brief-found, brief-next, brief-end}
+use Rattle.same_search.proofs.Brief.{brief-placed, brief-start, brief-spent, brief-not, brief-found, brief-next, brief-end}
 use Rattle.same_search.proofs.+search_briefly.Goals as goal
 use Rattle.same_search.proofs.+search_briefly.Goals.{then-placeable+else-tried, else-placeable}
 

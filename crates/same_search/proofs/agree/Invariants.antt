@@ -1,9 +1,5 @@
 use Prim.Native.Nat.{◌-◌}
-use native.Mathlib.Omega.{arith}
-use mathlib.Core.Path.{sym, ap}
-use mathlib.Core.Bool.{not}
-use Rattle.loops.proofs.Loops.{Left, left-start, left-pass, left-fail, left_end}
-use Rattle.same_finer.proofs.Low.{row_low, column-low}
+use Rattle.loops.proofs.Loops.{Left}
 use Rattle.same_search.specs.Search.{agreeing}
 use Rattle.same_search.proofs.agree.Given as goal
 

@@ -1,5 +1,4 @@
 use Prim.Native.Nat.{◌-◌, ◌≤◌}
-use native.Mathlib.Omega.{arith}
 use Rattle.same_search.proofs.first_in_row.Given as goal
 
 abbrev pub invariant-loop-d : goal.invariant-loop-d

@@ -1,5 +1,4 @@
 use Prim.Native.Nat.{◌-◌, ◌≤◌}
-use native.Mathlib.Omega.{arith}
 use Rattle.same_search.proofs.key_in_column.Given as goal
 
 abbrev pub invariant-loop-a : goal.invariant-loop-a
