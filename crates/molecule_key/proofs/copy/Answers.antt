@@ -1,11 +1,10 @@
-use Prim.Native.Nat.{◌-◌}
-use lib.ListN.{length, get_or}
+use lib.ListN.{get_or}
 use lib.IntN.{pos}
 use mir.Val.{SFits}
 use mir.Syntax.{w32}
 use mir.Facts.{to_z-of_z}
 use borrow.Author.Rules.{sfits_of}
-use Rattle.molecule_key.proofs.Copying.{Copying, copying-start, copying-step, copying-end}
+use Rattle.molecule_key.proofs.Copying.{copying-start, copying-step, copying-end}
 use Rattle.molecule_key.proofs.copy.Goals as goal
 
 pub loop-i-init : goal.loop-i-init

@@ -1,11 +1,6 @@
 use Prim.Native.Nat.{◌-◌}
-use lib.ListN.{length, get_or}
-use lib.IntN.{pos}
-use mir.Val.{SFits}
-use mir.Syntax.{w32}
-use mir.Facts.{to_z-of_z}
-use borrow.Author.Rules.{sfits_of}
-use Rattle.molecule_key.proofs.Copying.{Copying, copying-start, copying-step, copying-end}
+use lib.ListN.{length}
+use Rattle.molecule_key.proofs.Copying.{Copying}
 use Rattle.molecule_key.proofs.copy.Given as goal
 
 abbrev pub invariant-loop-i : goal.invariant-loop-i
