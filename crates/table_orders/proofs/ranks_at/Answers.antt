@@ -27,7 +27,7 @@ loop-k-preserved c = let w = c.loop-k.invariant in
     let h = c.loop-k-test.true in
     let o = c.touches.ensures in
     elim c.if-touches.branch [
-      then-touches v ↦ filling-take w h o v.if-touches.true v.rank_of.ensures v.four-is v.k-is
+      | then-touches v ↦ filling-take w h o v.if-touches.true v.rank_of.ensures v.four-is v.k-is
       | else-touches v ↦ filling-pass w h o v.if-touches.false v.four-is v.k-is
     ]
 

@@ -40,7 +40,7 @@ loop-i-preserved c = let w = c.loop-i.invariant in
     let k = turned-small (at_end c.args.ranks.now c.args.bonds.now) c.args.bonds.now c.args.m c.loop-i.atoms c.loop-i.i (mark-small x c.loop-i.i l) in
     let f : SFits w32 (pos c.turned_mark-k.result) = record { sfits = omega (arith, k, e) } in
     elim c.if-k-ne0.branch [
-      then-k-ne0 v ↦ turning-put w l e (v.atoms-is ∙ v.put_atom_cell.ensures) (to_z-of_z f)
+      | then-k-ne0 v ↦ turning-put w l e (v.atoms-is ∙ v.put_atom_cell.ensures) (to_z-of_z f)
       | else-k-ne0 v ↦ turning-skip w c.requires.valid l e v.if-k-ne0.false v.atoms-is
     ]
 

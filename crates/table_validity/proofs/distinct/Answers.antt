@@ -35,7 +35,7 @@ loop-j-preserved c =
     let i = c.requires.by_index c.rows.i c.rows-test.true in
     let j = c.requires.by_index c.loop-j.j (omega arith) in
     elim c.else-first-t.branch [
-      else-first-t-via-then-first-t+else-second-t w ↦ (v.0, left-pass v.1 c.loop-j-test.true (ap not (second-differs i j w.if-first-t.true w.if-second-t.false-raw)))
+      | else-first-t-via-then-first-t+else-second-t w ↦ (v.0, left-pass v.1 c.loop-j-test.true (ap not (second-differs i j w.if-first-t.true w.if-second-t.false-raw)))
       | else-first-t-via-else-first-t w ↦ (v.0, left-pass v.1 c.loop-j-test.true (ap not (first-differs i j w.if-first-t.false)))
     ]
 
