@@ -8,7 +8,7 @@ use lib.Dec.{eqb, leb, ltb}
 use borrow.Author.Tests.{ltb-true, ltb-false, leb-true, le-leb, eqb-true, eqb-false, not-false}
 use Rattle.lease.specs.declared.Lease.{Lease}
 use Rattle.lease.specs.declared.Release.TheVariants.{Yes, Withdrawn, Undecided, Stale, Halted}
-use Rattle.lease.specs.Lease.{halted, heard_of, stored_of, fresh_of, release_of}
+use Rattle.lease.specs.Lease.{heard_of, stored_of, fresh_of, release_of}
 use Rattle.loops.specs.Loop.{pick}
 use Rattle.lease.proofs.Laws.{heard-halted, heard-back, heard-below, heard-on, stored-halted, stored-gap, stored_next, told-yes, by-age}
 use Rattle.lease.specs.History.{Event, heard, stored, failed, after, last_stored, Hearing, never, at, last_heard, head_of, broken, is_stored, Released}

@@ -10,7 +10,7 @@ use lib.Seq.{get_or-set_same, get_or-set_other}
 use borrow.Author.Tests.{lt-ltb, le-ltb}
 use Rattle.loops.specs.Loop.{each, up_to}
 use Rattle.loops.proofs.Loops.{length-up_to, up_to-at}
-use Rattle.register.specs.declared.RegisterAnswer.TheVariants.{Done, Invalid, Full}
+use Rattle.register.specs.declared.RegisterAnswer.TheVariants.{Done, Full}
 use Rattle.register.specs.declared.Found.TheVariants as found
 use Rattle.register.specs.Layout.{size, first_body, count, start_of, length_of, tag_of, end_before, valid, used, invalid, listed, Entry, body_of, entry_of, entries_of, listed_of}
 use Rattle.register.specs.Adding.{fits, steps, added_after, new_entry}

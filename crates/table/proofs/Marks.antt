@@ -1,16 +1,16 @@
 -- Laws of marks: bonds without marks, and 20 and 21 in words. Assumes nothing.
-use Prim.Native.Nat.{ℕ, ◌<◌, ◌≤◌}
+use Prim.Native.Nat.{ℕ, ◌<◌}
 use native.Mathlib.Omega.{arith}
-use mathlib.Core.Path.{◌≡◌, refl, sym, ap, ◌∙◌}
+use mathlib.Core.Path.{◌≡◌, refl, sym, ◌∙◌}
 use mathlib.Core.Bool.{Bool, true, false, ◌&&◌, ◌||◌, not, true≢false}
 use mathlib.Core.Logic.{◌⊎◌, inl, inr, ◌↔◌}
 use mathlib.Core.List.{List}
 use lib.IntN.{ℤ}
 use lib.Dec.{eqb, ltb}
 use borrow.Author.Tests.{eqb-true, eq-eqb, ltb-true, lt-ltb, not-true, not-false}
-use Rattle.loops.specs.Loop.{pick, each, how_many}
+use Rattle.loops.specs.Loop.{pick}
 use Rattle.loops.proofs.Loops.{and_left, and_right, each_at, each_all, each-fails}
-use Rattle.loops.proofs.Counting.{many-none, many-some, many-two, one_of, two-of}
+use Rattle.loops.proofs.Counting.{many-none, many-some, many-two, two-of}
 use Rattle.kinds.specs.Kind.{elided, double, up, down, is_mark, mark_of, turned}
 use Rattle.table.specs.Cells.{end1, end2, kind, touches}
 use Rattle.table.specs.Marks.{side, side_count, double_at, double_count, crowded, crowded_bond, none_crowded, stray, none_stray, unmarked, CrowdedEnd, StrayMark}

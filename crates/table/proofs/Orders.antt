@@ -18,7 +18,7 @@ use Rattle.parity.specs.Mark.{mark_if, turn_between}
 use Rattle.parity.proofs.Swapped.{sorting-swaps}
 use Rattle.parity.proofs.Turns.{Listed, turned-listed}
 use Rattle.table.specs.Limits.{atom_cells, ELEMENT, SELECTED, ISOTOPE, HYDROGENS, CHARGE, EXTENSION, MARK}
-use Rattle.table.specs.Cells.{number, atom_place, atom_cell, selected, hydrogens, mark, touches}
+use Rattle.table.specs.Cells.{number, atom_place, atom_cell, hydrogens, mark, touches}
 use Rattle.table.specs.Valid.{max_mark, mark_ok, selected_ok, atom_ok, Valid}
 use Rattle.table.specs.Sound.{count_bond, bond_degree, loose, none_loose, unfit, none_unfit, late_code, sound}
 use Rattle.table.specs.Orders.{bonds_from, bonds_at, ranks_at, turns, turned_mark, turn_mark, turn_marks}

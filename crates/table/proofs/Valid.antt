@@ -9,11 +9,11 @@ use lib.IntN.{ℤ, pos, negsuc}
 use lib.Signed.{le_z}
 use lib.Dec.{leb, ltb}
 use borrow.Author.Tests.{leb-true, ltb-true, le-leb, lt-ltb, not-true}
-use Rattle.kinds.specs.Kind.{elided, max_kind}
+use Rattle.kinds.specs.Kind.{max_kind}
 use Rattle.loops.specs.Loop.{each}
 use Rattle.loops.proofs.Loops.{and_left, and_right, each_at}
 use Rattle.table.specs.Limits.{max_atoms, max_bonds, atom_cells, bond_cells, HYDROGENS, MARK, FIRST, KIND}
-use Rattle.table.specs.Cells.{number, in_range, atom_cell, bond_cell, element, selected, hydrogens, mark, end1, end2, kind}
+use Rattle.table.specs.Cells.{number, in_range, atom_cell, bond_cell, hydrogens, mark, end1, end2, kind}
 use Rattle.table.specs.Valid.{counts_ok, element_ok, isotope_ok, hydrogens_ok, charge_ok, extension_ok, max_mark, mark_ok, selected_ok, kind_ok, same_ends, fresh, distinct, atom_ok, bond_ok, valid, Valid, enough}
 
 -- the test is true exactly if the facts hold

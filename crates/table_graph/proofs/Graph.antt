@@ -9,7 +9,7 @@ use lib.IntN.{ℤ}
 use lib.Dec.{eqb}
 use Rattle.loops.specs.Loop.{up_to}
 use Rattle.loops.proofs.Loops.{length-up_to, up_to-at, filled-part}
-use Rattle.table.specs.Limits.{max_atoms, CHARGE}
+use Rattle.table.specs.Limits.{CHARGE}
 use Rattle.table.specs.Cells.{atom_cell, element, selected, hydrogens, end1, end2, kind}
 use Rattle.table.specs.Valid.{Valid}
 use Rattle.table.proofs.Valid.{bond-row, first-end, second-end}

@@ -7,7 +7,7 @@ use lib.ListN.{get_or}
 use lib.IntN.{ℤ}
 use lib.Dec.{eqb}
 use borrow.Author.Tests.{eq-eqb, ne_eqb}
-use Rattle.kinds.specs.Kind.{elided, double, is_mark, mark_of, turned}
+use Rattle.kinds.specs.Kind.{double, mark_of, turned}
 use Rattle.kinds.proofs.Kind.{mark-none, mark-some}
 use Rattle.table.specs.Cells.{end1, end2, kind, touches}
 use Rattle.loops.proofs.Loops.{each_all}

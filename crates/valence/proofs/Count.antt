@@ -2,7 +2,7 @@
 use mathlib.Core.Path.{◌≡◌, refl}
 use mathlib.Core.Bool.{Bool, true, false, ◌&&◌}
 use mathlib.Core.List.{List, [], ◌∷◌}
-use Prim.Native.Nat.{ℕ, ◌+◌, ◌-◌, ◌≤◌, ◌<◌}
+use Prim.Native.Nat.{ℕ, ◌+◌, ◌-◌, ◌≤◌}
 use native.Mathlib.Omega.{arith}
 use lib.Dec.{eqb, leb}
 use lib.ListN.{take}
@@ -10,7 +10,7 @@ use borrow.Author.Tests.{leb-true, leb-false}
 use Rattle.loops.specs.Loop.{pick}
 use Rattle.valence.specs.Valence.{targets, head_or0, first_target, first_fitting, reached_in, values_of, hydrogens_of, implied, overfull}
 use Rattle.valence.specs.declared.Reached.{Reached}
-use Rattle.valence.specs.declared.Reached.TheVariants.{Target, NoTarget, AboveAll}
+use Rattle.valence.specs.declared.Reached.TheVariants.{Target, AboveAll}
 use Rattle.loops.proofs.Loops.{and_left, and_right}
 use Rattle.valence.proofs.Laws.{each-targets, first-within}
 

@@ -9,7 +9,7 @@ use lib.ListN.{length, take, get_or}
 use borrow.Author.Tests.{eq-eqb, ne_eqb, le-leb, lt-leb, leb-true, leb-false, lt-ltb, ltb-true, ltb-false, eqb-true, eqb-false}
 use Rattle.loops.specs.Loop.{pick}
 use Rattle.loops.proofs.Loops.{and_left, and_right}
-use Rattle.valence.specs.Valence.{targets, target_row, head_or0, first_target, targets_for, first_fitting, reached_in, values_of, hydrogens_of, implied}
+use Rattle.valence.specs.Valence.{targets, target_row, head_or0, first_target, targets_for, first_fitting, reached_in, values_of, hydrogens_of}
 use Rattle.valence.specs.declared.Targets.{Targets}
 use Rattle.valence.specs.declared.Reached.{Reached}
 use Rattle.valence.specs.declared.Reached.TheVariants.{Target, NoTarget, AboveAll}

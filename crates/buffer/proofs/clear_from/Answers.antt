@@ -1,7 +1,5 @@
-use Prim.Native.Nat.{◌-◌}
-use lib.ListN.{length}
 use native.Mathlib.Omega.{arith}
-use Rattle.loops.proofs.Clearing.{Blanking, blank-start, blank_step, blank-end, cleared}
+use Rattle.loops.proofs.Clearing.{blank-start, blank_step, blank-end, cleared}
 use Rattle.buffer.proofs.clear_from.Goals as goal
 
 pub loop-i-init : goal.loop-i-init

@@ -1,7 +1,6 @@
 use Prim.Native.Nat.{◌-◌}
 use lib.ListN.{length}
-use native.Mathlib.Omega.{arith}
-use Rattle.loops.proofs.Clearing.{Blanking, blank-start, blank_step, blank-end, cleared}
+use Rattle.loops.proofs.Clearing.{Blanking}
 use Rattle.buffer.proofs.clear_from.Given as goal
 
 abbrev pub invariant-loop-i : goal.invariant-loop-i

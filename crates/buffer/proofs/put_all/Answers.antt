@@ -1,8 +1,5 @@
-use Prim.Native.Nat.{◌-◌}
-use mathlib.Core.Path.{◌≡◌, refl, ◌∙◌}
-use lib.ListN.{length}
-use Rattle.buffer.specs.Buffer.{buffer_at}
-use Rattle.buffer.proofs.Laws.{Laying, laying-start, laying-step, laid-all}
+use mathlib.Core.Path.{refl, ◌∙◌}
+use Rattle.buffer.proofs.Laws.{laying-start, laying-step, laid-all}
 use Rattle.buffer.proofs.put_all.Goals as goal
 
 pub loop-i-init : goal.loop-i-init

@@ -1,8 +1,8 @@
 use Prim.Native.Nat.{◌-◌}
-use mathlib.Core.Path.{◌≡◌, refl, ◌∙◌}
+use mathlib.Core.Path.{◌≡◌}
 use lib.ListN.{length}
 use Rattle.buffer.specs.Buffer.{buffer_at}
-use Rattle.buffer.proofs.Laws.{Laying, laying-start, laying-step, laid-all}
+use Rattle.buffer.proofs.Laws.{Laying}
 use Rattle.buffer.proofs.put_all.Given as goal
 
 abbrev pub invariant-loop-i : goal.invariant-loop-i

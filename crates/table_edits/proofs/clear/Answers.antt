@@ -1,9 +1,7 @@
-use Prim.Native.Nat.{ℕ, ◌-◌}
 use native.Mathlib.Omega.{arith}
 use mathlib.Core.Path.{refl}
 use lib.IntN.{pos}
-use lib.ListN.{length}
-use Rattle.loops.proofs.Loops.{Edited, fills, edited-start, filled-step, filled-end, filled-same}
+use Rattle.loops.proofs.Loops.{edited-start, filled-step, filled-end, filled-same}
 use Rattle.table_edits.proofs.clear.Goals as goal
 
 pub loop-i-init : goal.loop-i-init

@@ -1,9 +1,7 @@
 use Prim.Native.Nat.{ℕ, ◌-◌}
-use native.Mathlib.Omega.{arith}
-use mathlib.Core.Path.{refl}
 use lib.IntN.{pos}
 use lib.ListN.{length}
-use Rattle.loops.proofs.Loops.{Edited, fills, edited-start, filled-step, filled-end, filled-same}
+use Rattle.loops.proofs.Loops.{Edited, fills}
 use Rattle.table_edits.proofs.clear.Given as goal
 
 abbrev pub invariant-loop-i : goal.invariant-loop-i

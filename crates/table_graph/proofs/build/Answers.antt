@@ -1,6 +1,3 @@
-use mathlib.Core.Path.{sym, ap, ◌∙◌}
-use Rattle.loops.specs.Loop.{up_to}
-use Rattle.table_graph.specs.Graph.{bond_sum}
 use Rattle.table_graph.proofs.Graph.{wide, flags-built, prepared}
 use Rattle.table_graph.proofs.build.Goals as goal
 

@@ -1,8 +1,5 @@
 use Prim.Native.Nat.{◌-◌}
-use native.Mathlib.Omega.{arith}
-use mathlib.Core.Path.{ap, ◌∙◌}
-use Rattle.loops.proofs.Loops.{Edited, fills, edited-start, filled-step, filled-end}
-use Rattle.table_graph.specs.Graph.{flag}
+use Rattle.loops.proofs.Loops.{Edited, fills}
 use Rattle.table_graph.specs.Built.{sum_flag}
 use Rattle.table_graph.proofs.fill_flags.Given as goal
 

@@ -1,9 +1,8 @@
-use Prim.Native.Nat.{◌-◌}
 use native.Mathlib.Omega.{arith}
 use mathlib.Core.Path.{◌≡◌, sym, ◌∙◌}
 use borrow.Author.Tests.{eq-eqb, ne_eqb}
-use Rattle.loops.proofs.Loops.{Left, left-start, left-pass, left-fail, left_end}
-use Rattle.table_graph.specs.Graph.{not_selected, none_selected}
+use Rattle.loops.proofs.Loops.{left-start, left-pass, left-fail, left_end}
+use Rattle.table_graph.specs.Graph.{none_selected}
 use Rattle.table_graph.proofs.none_selected.Goals as goal
 
 pub loop-i-init : goal.loop-i-init

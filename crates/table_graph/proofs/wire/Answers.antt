@@ -1,12 +1,12 @@
-use Prim.Native.Nat.{◌-◌, ◌*◌, ◌<◌}
+use Prim.Native.Nat.{◌*◌, ◌<◌}
 use native.Mathlib.Omega.{arith}
-use mathlib.Core.Path.{◌≡◌, refl, sym, ◌∙◌}
+use mathlib.Core.Path.{◌≡◌, refl, ◌∙◌}
 use lib.ListN.{length, length-set}
-use Rattle.loops.proofs.Loops.{Edited, fills, edited-start, filled-step, filled-end, filled-part}
+use Rattle.loops.proofs.Loops.{edited-start, filled-step, filled-end, filled-part}
 use Rattle.table.specs.Cells.{end1, end2}
 use Rattle.table_graph.specs.Graph.{elided_flag}
 use Rattle.kinds.proofs.Kind.{order_small}
-use Rattle.table_graph.proofs.Sums.{row-cells, sums_to, sums_none, sums-bound, sums-length, second-bound, sums-step, two_ends}
+use Rattle.table_graph.proofs.Sums.{row-cells, sums_none, sums-bound, sums-length, second-bound, sums-step, two_ends}
 use Rattle.table_graph.proofs.wire.Goals as goal
 
 pub loop-i-init : goal.loop-i-init

@@ -1,12 +1,10 @@
-use Prim.Native.Nat.{◌-◌, ◌*◌, ◌<◌}
-use native.Mathlib.Omega.{arith}
-use mathlib.Core.Path.{◌≡◌, refl, sym, ◌∙◌}
-use lib.ListN.{length, length-set}
-use Rattle.loops.proofs.Loops.{Edited, fills, edited-start, filled-step, filled-end, filled-part}
+use Prim.Native.Nat.{◌-◌}
+use mathlib.Core.Path.{◌≡◌}
+use lib.ListN.{length}
+use Rattle.loops.proofs.Loops.{Edited, fills}
 use Rattle.table.specs.Cells.{end1, end2}
 use Rattle.table_graph.specs.Graph.{elided_flag}
-use Rattle.kinds.proofs.Kind.{order_small}
-use Rattle.table_graph.proofs.Sums.{row-cells, sums_to, sums_none, sums-bound, sums-length, second-bound, sums-step, two_ends}
+use Rattle.table_graph.proofs.Sums.{sums_to}
 use Rattle.table_graph.proofs.wire.Given as goal
 
 abbrev pub invariant-loop-i : goal.invariant-loop-i

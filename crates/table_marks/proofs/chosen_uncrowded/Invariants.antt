@@ -1,9 +1,7 @@
 use Prim.Native.Nat.{◌-◌}
-use native.Mathlib.Omega.{arith}
-use mathlib.Core.Path.{sym, ◌∙◌}
 use mathlib.Core.Bool.{not}
-use Rattle.loops.proofs.Loops.{Left, left-start, left-pass, left-fail, left_end}
-use Rattle.table_marks.specs.Chosen.{crowded_choice, none_crowded_by}
+use Rattle.loops.proofs.Loops.{Left}
+use Rattle.table_marks.specs.Chosen.{crowded_choice}
 use Rattle.table_marks.proofs.chosen_uncrowded.Given as goal
 
 abbrev pub invariant-loop-i : goal.invariant-loop-i

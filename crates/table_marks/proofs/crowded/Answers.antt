@@ -1,10 +1,6 @@
-use Prim.Native.Nat.{◌-◌}
 use native.Mathlib.Omega.{arith}
-use mathlib.Core.Path.{sym, ap, ◌∙◌}
-use lib.Dec.{eqb}
-use Rattle.loops.proofs.Counting.{Counted, counted_start, counted_step, counted-end}
-use Rattle.kinds.specs.Kind.{up, down}
-use Rattle.table.specs.Marks.{side, side_count}
+use Rattle.loops.proofs.Counting.{counted_start, counted_step, counted-end}
+use Rattle.table.specs.Marks.{side_count}
 use Rattle.table_marks.proofs.crowded.Goals as goal
 
 pub loop-i-init : goal.loop-i-init

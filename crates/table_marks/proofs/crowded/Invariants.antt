@@ -1,10 +1,8 @@
 use Prim.Native.Nat.{◌-◌}
-use native.Mathlib.Omega.{arith}
-use mathlib.Core.Path.{sym, ap, ◌∙◌}
 use lib.Dec.{eqb}
-use Rattle.loops.proofs.Counting.{Counted, counted_start, counted_step, counted-end}
+use Rattle.loops.proofs.Counting.{Counted}
 use Rattle.kinds.specs.Kind.{up, down}
-use Rattle.table.specs.Marks.{side, side_count}
+use Rattle.table.specs.Marks.{side}
 use Rattle.table_marks.proofs.crowded.Given as goal
 
 abbrev pub invariant-loop-i : goal.invariant-loop-i

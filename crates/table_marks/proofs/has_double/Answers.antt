@@ -1,10 +1,8 @@
-use Prim.Native.Nat.{◌-◌}
-use native.Mathlib.Omega.{arith}
 use mathlib.Core.Path.{sym, ap, ◌∙◌}
 use mathlib.Core.Bool.{not}
-use Rattle.loops.proofs.Loops.{Left, left-start, left-pass, left-fail, left_end}
+use Rattle.loops.proofs.Loops.{left-start, left-pass, left-fail, left_end}
 use Rattle.loops.proofs.Counting.{none-many}
-use Rattle.table.specs.Marks.{double_at, double_count}
+use Rattle.table.specs.Marks.{double_count}
 use Rattle.table_marks.proofs.has_double.Goals as goal
 
 pub loop-i-init : goal.loop-i-init

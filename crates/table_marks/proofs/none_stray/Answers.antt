@@ -1,9 +1,7 @@
-use Prim.Native.Nat.{◌-◌}
 use native.Mathlib.Omega.{arith}
 use mathlib.Core.Path.{sym, ◌∙◌}
-use mathlib.Core.Bool.{not}
-use Rattle.loops.proofs.Loops.{Left, left-start, left-pass, left-fail, left_end}
-use Rattle.table.specs.Marks.{stray, none_stray}
+use Rattle.loops.proofs.Loops.{left-start, left-pass, left-fail, left_end}
+use Rattle.table.specs.Marks.{none_stray}
 use Rattle.table_marks.proofs.none_stray.Goals as goal
 
 pub loop-i-init : goal.loop-i-init

@@ -1,11 +1,8 @@
-use Prim.Native.Nat.{◌-◌}
 use native.Mathlib.Omega.{arith}
 use mathlib.Core.Path.{sym, ap, ◌∙◌}
 use mathlib.Core.Bool.{not}
-use Rattle.loops.proofs.Loops.{Left, left-start, left-pass, left-fail, left_end}
-use Rattle.kinds.specs.Kind.{is_mark}
+use Rattle.loops.proofs.Loops.{left-start, left-pass, left-fail, left_end}
 use Rattle.kinds.proofs.Kind.{mark-none, mark-some}
-use Rattle.table.specs.Cells.{kind}
 use Rattle.table.specs.Marks.{unmarked}
 use Rattle.table_marks.proofs.unmarked.Goals as goal
 

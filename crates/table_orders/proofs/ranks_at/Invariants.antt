@@ -1,9 +1,7 @@
 use Prim.Native.Nat.{◌-◌}
-use native.Mathlib.Omega.{arith}
-use mathlib.Core.Logic.{⊎_elim}
 use mathlib.Core.List.{◌++◌, map}
 use Rattle.table.specs.Orders.{bonds_at, hydrogen_rank, at_end}
-use Rattle.table_orders.proofs.Laws.{Filling, filling-start, filling-more, filling-pass, filling-take, filling-end}
+use Rattle.table_orders.proofs.Laws.{Filling}
 use Rattle.table_orders.proofs.ranks_at.Given as goal
 
 abbrev pub invariant-loop-k : goal.invariant-loop-k

@@ -1,9 +1,6 @@
-use Prim.Native.Nat.{◌-◌}
-use native.Mathlib.Omega.{arith}
 use mathlib.Core.Path.{sym, ◌∙◌}
 use borrow.Author.Tests.{not-true, not-false}
-use Rattle.loops.proofs.Loops.{Left, left-start, left-pass, left-fail, left_end}
-use Rattle.table.specs.Valid.{bond_ok}
+use Rattle.loops.proofs.Loops.{left-start, left-pass, left-fail, left_end}
 use Rattle.table_validity.proofs.bonds_ok.Goals as goal
 
 pub loop-i-init : goal.loop-i-init

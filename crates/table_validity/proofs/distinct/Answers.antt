@@ -1,10 +1,8 @@
-use Prim.Native.Nat.{◌-◌}
 use native.Mathlib.Omega.{arith}
-use mathlib.Core.Logic.{⊎_elim}
-use mathlib.Core.Path.{◌≡◌, refl, sym, ap, ◌∙◌}
-use mathlib.Core.Bool.{true, not}
-use Rattle.loops.proofs.Loops.{Left, left-start, left-pass, left-fail, left_end}
-use Rattle.table.specs.Valid.{same_ends, fresh, distinct}
+use mathlib.Core.Path.{refl, sym, ap, ◌∙◌}
+use mathlib.Core.Bool.{not}
+use Rattle.loops.proofs.Loops.{left-start, left-pass, left-fail, left_end}
+use Rattle.table.specs.Valid.{fresh, distinct}
 use Rattle.table.proofs.Keys.{both-same, first-differs, second-differs}
 use Rattle.table_validity.proofs.distinct.Goals as goal
 use Rattle.table_validity.proofs.distinct.Goals.{else-first-t-via-then-first-t+else-second-t, else-first-t-via-else-first-t}

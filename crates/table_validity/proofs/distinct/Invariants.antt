@@ -1,13 +1,8 @@
 use Prim.Native.Nat.{◌-◌}
-use native.Mathlib.Omega.{arith}
-use mathlib.Core.Logic.{⊎_elim}
-use mathlib.Core.Path.{◌≡◌, refl, sym, ap, ◌∙◌}
+use mathlib.Core.Path.{◌≡◌}
 use mathlib.Core.Bool.{true, not}
-use Rattle.loops.proofs.Loops.{Left, left-start, left-pass, left-fail, left_end}
-use Rattle.table.specs.Valid.{same_ends, fresh, distinct}
-use Rattle.table.proofs.Keys.{both-same, first-differs, second-differs}
-use Rattle.table_validity.proofs.distinct.Reads as reads
-use Rattle.table_validity.proofs.distinct.Lts as lts
+use Rattle.loops.proofs.Loops.{Left}
+use Rattle.table.specs.Valid.{same_ends, fresh}
 use Rattle.table_validity.proofs.distinct.Given as goal
 
 abbrev pub invariant-loop-j : goal.invariant-loop-j

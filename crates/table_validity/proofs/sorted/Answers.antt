@@ -1,6 +1,5 @@
-use Prim.Native.Nat.{◌-◌}
 use native.Mathlib.Omega.{arith}
-use Rattle.table.proofs.Keys.{Sorted, sorted-start, sorted-step, sorted-rows, sorted_apart, never}
+use Rattle.table.proofs.Keys.{sorted-start, sorted-step, sorted-rows, sorted_apart, never}
 use Rattle.table_validity.proofs.sorted.Goals as goal
 
 pub loop-i-init : goal.loop-i-init

@@ -1,6 +1,5 @@
 use Prim.Native.Nat.{◌-◌}
-use native.Mathlib.Omega.{arith}
-use Rattle.table.proofs.Keys.{Sorted, sorted-start, sorted-step, sorted-rows, sorted_apart, never}
+use Rattle.table.proofs.Keys.{Sorted}
 use Rattle.table_validity.proofs.sorted.Given as goal
 
 abbrev pub invariant-loop-i : goal.invariant-loop-i

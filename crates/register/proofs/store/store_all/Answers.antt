@@ -1,8 +1,6 @@
 use Rattle.register.proofs.Paths.{used-at, after_next, after-end}
 use native.Mathlib.Omega.{arith}
-use Prim.Native.Nat.{◌+◌, ◌-◌, ◌≤◌}
-use mathlib.Core.Path.{◌≡◌, refl, ◌∙◌}
-use lib.ListN.{length}
+use mathlib.Core.Path.{refl, ◌∙◌}
 use Rattle.register.specs.Adding.{after_with}
 use Rattle.register.proofs.store.store_all.Goals as goal
 

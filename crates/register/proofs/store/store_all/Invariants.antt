@@ -1,7 +1,5 @@
-use Rattle.register.proofs.Paths.{used-at, after_next, after-end}
-use native.Mathlib.Omega.{arith}
 use Prim.Native.Nat.{◌+◌, ◌-◌, ◌≤◌}
-use mathlib.Core.Path.{◌≡◌, refl, ◌∙◌}
+use mathlib.Core.Path.{◌≡◌}
 use lib.ListN.{length}
 use Rattle.register.specs.Adding.{after_with}
 use Rattle.register.proofs.store.store_all.Given as goal

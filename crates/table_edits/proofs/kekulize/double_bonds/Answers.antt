@@ -1,7 +1,5 @@
-use Prim.Native.Nat.{◌-◌}
-use native.Mathlib.Omega.{arith}
-use Rattle.loops.proofs.Loops.{Edited, edited-start, edited-step, edited-end}
-use Rattle.table.specs.Edits.{doubled_by, doubled_bonds}
+use Rattle.loops.proofs.Loops.{edited-start, edited-step, edited-end}
+use Rattle.table.specs.Edits.{doubled_bonds}
 use Rattle.table_edits.proofs.kekulize.double_bonds.Goals as goal
 
 pub loop-i-init : goal.loop-i-init

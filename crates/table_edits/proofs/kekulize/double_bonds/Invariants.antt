@@ -1,7 +1,6 @@
 use Prim.Native.Nat.{◌-◌}
-use native.Mathlib.Omega.{arith}
-use Rattle.loops.proofs.Loops.{Edited, edited-start, edited-step, edited-end}
-use Rattle.table.specs.Edits.{doubled_by, doubled_bonds}
+use Rattle.loops.proofs.Loops.{Edited}
+use Rattle.table.specs.Edits.{doubled_by}
 use Rattle.table_edits.proofs.kekulize.double_bonds.Given as goal
 
 abbrev pub invariant-loop-i : goal.invariant-loop-i

@@ -1,7 +1,6 @@
-use Prim.Native.Nat.{◌-◌}
 use native.Mathlib.Omega.{arith}
-use Rattle.loops.proofs.Loops.{Edited, edited-start, edited-step, edited-end}
-use Rattle.table.specs.Edits.{unselected, unselected_atoms}
+use Rattle.loops.proofs.Loops.{edited-start, edited-step, edited-end}
+use Rattle.table.specs.Edits.{unselected_atoms}
 use Rattle.table_edits.proofs.kekulize.unselect_atoms.Goals as goal
 
 pub loop-i-init : goal.loop-i-init

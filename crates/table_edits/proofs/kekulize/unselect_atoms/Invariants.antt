@@ -1,7 +1,6 @@
 use Prim.Native.Nat.{◌-◌}
-use native.Mathlib.Omega.{arith}
-use Rattle.loops.proofs.Loops.{Edited, edited-start, edited-step, edited-end}
-use Rattle.table.specs.Edits.{unselected, unselected_atoms}
+use Rattle.loops.proofs.Loops.{Edited}
+use Rattle.table.specs.Edits.{unselected}
 use Rattle.table_edits.proofs.kekulize.unselect_atoms.Given as goal
 
 abbrev pub invariant-loop-i : goal.invariant-loop-i

@@ -1,7 +1,5 @@
 use Prim.Native.Nat.{◌-◌}
-use native.Mathlib.Omega.{arith}
-use mathlib.Core.Path.{sym}
-use Rattle.loops.proofs.Loops.{Left, left-start, left-pass, left-fail, left_end}
+use Rattle.loops.proofs.Loops.{Left}
 use Rattle.table_validity.specs.Degrees.{plain}
 use Rattle.table_validity.proofs.late.all_plain.Given as goal
 

@@ -1,9 +1,8 @@
-use Prim.Native.Nat.{◌-◌}
 use native.Mathlib.Omega.{arith}
 use mathlib.Core.Path.{sym, ap, ◌∙◌}
 use mathlib.Core.Bool.{Bool}
 use Rattle.loops.specs.Loop.{pick}
-use Rattle.table_validity.proofs.Degrees.{Degrees, degrees-begin, degrees-loose, degrees-next, degrees-end}
+use Rattle.table_validity.proofs.Degrees.{degrees-begin, degrees-loose, degrees-next, degrees-end}
 use Rattle.table_validity.proofs.late.check_degrees.Goals as goal
 
 pub loop-i-init : goal.loop-i-init

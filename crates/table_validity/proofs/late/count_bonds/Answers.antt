@@ -1,10 +1,10 @@
-use Prim.Native.Nat.{◌-◌, ◌<◌, ◌≤◌}
+use Prim.Native.Nat.{◌<◌}
 use native.Mathlib.Omega.{arith}
 use mathlib.Core.Path.{◌≡◌, ap, ◌∙◌}
 use lib.ListN.{length, length-set}
 use Rattle.loops.proofs.Loops.{length-up_to}
 use Rattle.table.specs.Sound.{bond_degree}
-use Rattle.table_validity.proofs.Degrees.{degrees_to, degrees-start, degrees-bound, second-bound, degrees-step}
+use Rattle.table_validity.proofs.Degrees.{degrees-start, degrees-bound, second-bound, degrees-step}
 use Rattle.table_validity.proofs.late.count_bonds.Goals as goal
 
 pub loop-i-init : goal.loop-i-init

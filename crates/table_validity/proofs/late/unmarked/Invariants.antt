@@ -1,12 +1,8 @@
 use Prim.Native.Nat.{◌-◌}
-use native.Mathlib.Omega.{arith}
-use mathlib.Core.Path.{sym, ap, ◌∙◌}
 use mathlib.Core.Bool.{not}
-use Rattle.loops.proofs.Loops.{Left, left-start, left-pass, left-fail, left_end}
+use Rattle.loops.proofs.Loops.{Left}
 use Rattle.kinds.specs.Kind.{is_mark}
-use Rattle.kinds.proofs.Kind.{mark-none, mark-some}
 use Rattle.table.specs.Cells.{kind}
-use Rattle.table.specs.Marks.{unmarked}
 use Rattle.table_validity.proofs.late.unmarked.Given as goal
 
 abbrev pub invariant-loop-i : goal.invariant-loop-i
