@@ -7,20 +7,19 @@ use Rattle.kekule.specs.Kekule.{CallReply, call_reply, KekulizeReply, kekulize_r
 use Rattle.kekule.specs.Calls.{Replayed, replay_out}
 use Rattle.conformation.specs.Sides.{SidesReply, sides_reply}
 use Rattle.kekule_forced.specs.Forced.{ForcedCallReply, forced_call_reply}
-use Rattle.reader.specs.declared.ending.ReadAnswer.{ReadAnswer}
-use Rattle.reader.specs.declared.ending.ReadAnswer.TheVariants.{Molecule, Refused}
+use Rattle.std.proofs.Common.{Result, Ok, Err}
+use Rattle.refusal.specs.declared.Refusal.{Refusal}
+use Rattle.reader.specs.declared.answer.Counts.{Counts}
+use Rattle.reader.specs.declared.answer.TextRefusal.{TextRefusal}
 use Rattle.reader.specs.Ending.{told}
 use Rattle.reading.specs.Read.{ReadResult}
 use Rattle.reading_pieces.specs.Calls.{Fed}
 use Rattle.reader_pieces.specs.declared.Fed as reader
 use Rattle.reader_pieces.specs.Answer.{fed_is}
-use Rattle.writer.specs.declared.Written.{Written}
-use Rattle.writer.specs.declared.Written.TheVariants.{Text, Refused as write_refused}
 use Rattle.writer.specs.Told.{told as writer-told}
 use Rattle.writing.specs.Write as write
 use Rattle.standard.specs.Standard.{StandardOut, told as standard-told}
-use Rattle.standard.specs.declared.Standardized.{Standardized}
-use Rattle.standard.specs.declared.Standardized.TheVariants.{Text as standardText, Refused as standardRefused}
+use Rattle.standard.specs.declared.Written.{Written}
 use Rattle.same_model.specs.Same.{SameReply, same_reply}
 use Rattle.same.specs.Answer.{sameness_code, same_out}
 use Rattle.same.specs.declared.Sameness.{Sameness}
@@ -32,13 +31,13 @@ use Rattle.balsa.specs.Replies.{read_reply_of, read_out, write_reply_of, write_o
 use Rattle.balsa.specs.Pieces.{fed_reply_of, fed_out}
 use Rattle.balsa.specs.Standard.{standard_reply_of, standard_out}
 
-pub read-law : (a : ReadAnswer) {r : ReadReply} {atoms bonds : List ℤ} {t : ReadResult} → r ≡ read_reply_of a → told a atoms bonds ≡ t → read_out r atoms bonds ≡ t
-read-law (Molecule n m k) {atoms = atoms} {bonds} e g = ap (λ (x : ReadReply). read_out x atoms bonds) e ∙ g
-read-law (Refused c p) {atoms = atoms} {bonds} e g = ap (λ (x : ReadReply). read_out x atoms bonds) e ∙ g
+pub read-law : (a : Result Counts TextRefusal) {r : ReadReply} {atoms bonds : List ℤ} {t : ReadResult} → r ≡ read_reply_of a → told a atoms bonds ≡ t → read_out r atoms bonds ≡ t
+read-law (Ok x) {atoms = atoms} {bonds} e g = ap (λ (x : ReadReply). read_out x atoms bonds) e ∙ g
+read-law (Err x) {atoms = atoms} {bonds} e g = ap (λ (x : ReadReply). read_out x atoms bonds) e ∙ g
 
-pub write-law : (w : Written) {r : WriteReply} {out ren : List ℕ} {t : write.WriteResult} → r ≡ write_reply_of w → writer-told w out ren ≡ t → write_out r out ren ≡ t
-write-law (Text k) {out = out} {ren} e g = ap (λ (x : WriteReply). write_out x out ren) e ∙ g
-write-law (write_refused c) {out = out} {ren} e g = ap (λ (x : WriteReply). write_out x out ren) e ∙ g
+pub write-law : (w : Result ℕ Refusal) {r : WriteReply} {out ren : List ℕ} {t : write.WriteResult} → r ≡ write_reply_of w → writer-told w out ren ≡ t → write_out r out ren ≡ t
+write-law (Ok k) {out = out} {ren} e g = ap (λ (x : WriteReply). write_out x out ren) e ∙ g
+write-law (Err c) {out = out} {ren} e g = ap (λ (x : WriteReply). write_out x out ren) e ∙ g
 
 pub row-law : {c d : ℕ} {row : List ℕ} {o : CallReply} → c ≡ d → call_reply d row ≡ o → call_reply c row ≡ o
 row-law {row = row} e g = ap (λ (k : ℕ). call_reply k row) e ∙ g
@@ -61,6 +60,6 @@ same-law a {row1 = row1} {row2} {ren} e g = ap (λ (k : ℕ). same_reply k row1 
 pub fed-law : (f : reader.Fed) {r : FedReply} {atoms bonds : List ℤ} {t : Fed} → r ≡ fed_reply_of f → fed_is f atoms bonds ≡ t → fed_out r atoms bonds ≡ t
 fed-law f {atoms = atoms} {bonds} e g = ap (λ (x : FedReply). fed_out x atoms bonds) e ∙ g
 
-pub standard-law : (x : Standardized) {r : StandardReply} {out : List ℕ} {t : StandardOut} → r ≡ standard_reply_of x → standard-told x out ≡ t → standard_out r out ≡ t
-standard-law (standardText n m k size) {out = out} e g = ap (λ (y : StandardReply). standard_out y out) e ∙ g
-standard-law (standardRefused c p) {out = out} e g = ap (λ (y : StandardReply). standard_out y out) e ∙ g
+pub standard-law : (x : Result Written TextRefusal) {r : StandardReply} {out : List ℕ} {t : StandardOut} → r ≡ standard_reply_of x → standard-told x out ≡ t → standard_out r out ≡ t
+standard-law (Ok w) {out = out} e g = ap (λ (y : StandardReply). standard_out y out) e ∙ g
+standard-law (Err e') {out = out} e g = ap (λ (y : StandardReply). standard_out y out) e ∙ g

@@ -5,6 +5,7 @@ ghost use Rattle.kekule.specs.Kekule.{call_reply, call_on};
 ghost use Rattle.kekule_forced.specs.Forced.{forced_call_reply, first_forced_on};
 
 use kekule_answers::found_code;
+use table::Tables;
 
 // What the call for the first hands back: code 0 with how many pairs are forced, or the refusal's code with 0.
 #[repr(C)]
@@ -26,7 +27,7 @@ pub extern "C" fn balsa_first_forced(
 ) -> ForcedReply
     ensures { forced_call_reply result.code row.new result.forced pairs.new ≡ first_forced_on atoms.now bonds.now n m row.old pairs.old }
 {
-    let first = kekule_forced::first_forced(atoms, bonds, n, m, row, pairs);
+    let first = kekule_forced::first_forced(Tables { atoms, bonds, n, m }, row, pairs);
     let found = first.found;
     ForcedReply {
         code: found_code(found) as u32,
@@ -45,5 +46,5 @@ pub extern "C" fn balsa_next_forced(
 ) -> u32
     ensures { call_reply result row.new ≡ call_on Next atoms.now bonds.now n m row.old }
 {
-    found_code(kekule_forced::next_forced(atoms, bonds, n, m, row)) as u32
+    found_code(kekule_forced::next_forced(Tables { atoms, bonds, n, m }, row)) as u32
 }

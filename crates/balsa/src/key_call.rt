@@ -3,7 +3,8 @@ ghost use Rattle.std.specs.Prelude.{◌≡◌};
 ghost use Rattle.molecule_key.specs.Keyed.{told, keyed_of};
 ghost use Rattle.balsa.specs.Keys.{key_reply};
 
-use molecule_key::KeyAnswer;
+use refusal::Refusal;
+use table::Tables;
 
 // What the key's call hands back: code 0 with the key, or the refusal's code with 0.
 #[repr(C)]
@@ -14,12 +15,12 @@ pub struct KeyReply {
 }
 
 // An answer of the key's call in plain numbers.
-fn key_reply(a: KeyAnswer) -> KeyReply
-    ensures { result ≡ key_reply (told a) }
+fn key_reply(answer: Result<u64, Refusal>) -> KeyReply
+    ensures { result ≡ key_reply (told answer) }
 {
-    match a {
-        KeyAnswer::Key(k) => KeyReply { code: 0, key: k },
-        KeyAnswer::Refused(r) => KeyReply {
+    match answer {
+        Ok(key) => KeyReply { code: 0, key },
+        Err(r) => KeyReply {
             code: refusal::code(r) as u32,
             key: 0,
         },
@@ -31,5 +32,5 @@ fn key_reply(a: KeyAnswer) -> KeyReply
 pub extern "C" fn balsa_key(atoms: &[i32], bonds: &[i32], n: usize, m: usize) -> KeyReply
     ensures { result ≡ key_reply (keyed_of atoms.now bonds.now n m) }
 {
-    key_reply(molecule_key::key(atoms, bonds, n, m))
+    key_reply(molecule_key::key(Tables { atoms, bonds, n, m }))
 }

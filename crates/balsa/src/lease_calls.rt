@@ -3,7 +3,7 @@ ghost use Rattle.std.specs.Prelude.{◌≡◌};
 ghost use Rattle.lease.specs.Lease.{begun, halted, heard_of, stored_of, release_of};
 ghost use Rattle.balsa.specs.Releases.{release_reply};
 
-use lease::{Lease, Release};
+use lease::{Lease, Release, Withheld};
 
 // What asking for a release hands back: 0 yes, with the number up to which everything is held and the age of the head; 1 withdrawn; 2 undecided; 3 stale, with the age; 4 halted. What is not named is 0.
 #[repr(C)]
@@ -15,31 +15,31 @@ pub struct ReleaseReply {
 }
 
 // An answer in plain numbers.
-fn release_reply(r: Release) -> ReleaseReply
-    ensures { result ≡ release_reply r }
+fn release_reply(answer: Result<Release, Withheld>) -> ReleaseReply
+    ensures { result ≡ release_reply answer }
 {
-    match r {
-        Release::Yes { held, age } => ReleaseReply {
+    match answer {
+        Ok(Release { held, age }) => ReleaseReply {
             answer: 0,
             held,
             age,
         },
-        Release::Withdrawn => ReleaseReply {
+        Err(Withheld::Withdrawn) => ReleaseReply {
             answer: 1,
             held: 0,
             age: 0,
         },
-        Release::Undecided => ReleaseReply {
+        Err(Withheld::Undecided) => ReleaseReply {
             answer: 2,
             held: 0,
             age: 0,
         },
-        Release::Stale { age } => ReleaseReply {
+        Err(Withheld::Stale { age }) => ReleaseReply {
             answer: 3,
             held: 0,
             age,
         },
-        Release::Halted => ReleaseReply {
+        Err(Withheld::Halted) => ReleaseReply {
             answer: 4,
             held: 0,
             age: 0,

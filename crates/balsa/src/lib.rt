@@ -14,9 +14,9 @@ ghost use Rattle.balsa.specs.Replies.{read_reply_of, read_out, write_reply_of, w
 
 use kekule_answers::found_code;
 use matching::Call;
-use reader::ending::ReadAnswer;
-use table::Check;
-use writer::Written;
+use reader::answer::{Counts, TextRefusal};
+use refusal::Refusal;
+use table::Tables;
 
 pub mod forced;
 mod key_call;
@@ -42,20 +42,20 @@ pub struct ReadReply {
 }
 
 // An answer of the reader in plain numbers.
-fn read_reply(a: ReadAnswer) -> ReadReply
+fn read_reply(a: Result<Counts, TextRefusal>) -> ReadReply
     ensures { result ≡ read_reply_of a }
 {
     match a {
-        ReadAnswer::Molecule(n, m, k) => ReadReply {
+        Ok(t) => ReadReply {
             code: 0,
             place: 0,
-            atoms: n,
-            bonds: m,
-            overfull: k,
+            atoms: t.atoms,
+            bonds: t.bonds,
+            overfull: t.overfull,
         },
-        ReadAnswer::Refused(r, p) => ReadReply {
-            code: refusal::code(r) as u32,
-            place: p,
+        Err(e) => ReadReply {
+            code: refusal::code(e.refusal) as u32,
+            place: e.at,
             atoms: 0,
             bonds: 0,
             overfull: 0,
@@ -80,12 +80,12 @@ pub struct WriteReply {
 }
 
 // An answer of the writer in plain numbers.
-fn write_reply(w: Written) -> WriteReply
+fn write_reply(w: Result<usize, Refusal>) -> WriteReply
     ensures { result ≡ write_reply_of w }
 {
     match w {
-        Written::Text(k) => WriteReply { code: 0, length: k },
-        Written::Refused(r) => WriteReply {
+        Ok(k) => WriteReply { code: 0, length: k },
+        Err(r) => WriteReply {
             code: refusal::code(r) as u32,
             length: 0,
         },
@@ -104,16 +104,16 @@ pub extern "C" fn balsa_write(
 ) -> WriteReply
     ensures { write_out result out.new ren.new ≡ write_of atoms.now bonds.now n m out.old ren.old }
 {
-    write_reply(writer::write(atoms, bonds, n, m, out, ren))
+    write_reply(writer::write(Tables { atoms, bonds, n, m }, out, ren))
 }
 
 // The code of a check: 0, or the refusal's.
-fn check_code(c: Check) -> u32
+fn check_code(c: Result<(), Refusal>) -> u32
     ensures { result ≡ check_code c }
 {
     match c {
-        Check::Fine => 0,
-        Check::Refused(r) => refusal::code(r) as u32,
+        Ok(()) => 0,
+        Err(r) => refusal::code(r) as u32,
     }
 }
 
@@ -122,7 +122,7 @@ fn check_code(c: Check) -> u32
 pub extern "C" fn balsa_check(atoms: &[i32], bonds: &[i32], n: usize, m: usize) -> u32
     ensures { result ≡ check_of atoms.now bonds.now n m }
 {
-    check_code(table_validity::check_tables(atoms, bonds, n, m))
+    check_code(table_validity::check_tables(Tables { atoms, bonds, n, m }))
 }
 
 // One of the two calls for a matching, its answer as a code.
@@ -130,8 +130,8 @@ fn ask(c: Call, atoms: &[i32], bonds: &[i32], n: usize, m: usize, row: &mut [u8]
     ensures { call_reply result row.new ≡ call_on c atoms.now bonds.now n m row.old }
 {
     match c {
-        Call::First => found_code(kekule::first(atoms, bonds, n, m, row)) as u32,
-        Call::Next => found_code(kekule::next(atoms, bonds, n, m, row)) as u32,
+        Call::First => found_code(kekule::first(Tables { atoms, bonds, n, m }, row)) as u32,
+        Call::Next => found_code(kekule::next(Tables { atoms, bonds, n, m }, row)) as u32,
     }
 }
 
@@ -174,7 +174,7 @@ pub extern "C" fn balsa_is_matching(
 ) -> u32
     ensures { result ≡ asked_of atoms.now bonds.now n m row.now }
 {
-    check_code(kekule::is_matching(atoms, bonds, n, m, row))
+    check_code(kekule::is_matching(Tables { atoms, bonds, n, m }, row))
 }
 
 // Kekulizes the tables by the row: 0, 1, 13, 12 or 20.
@@ -202,7 +202,7 @@ pub extern "C" fn balsa_sides(
 ) -> u32
     ensures { sides_reply result row.new ≡ sides_of atoms.now bonds.now n m row.old }
 {
-    check_code(conformation::sides(atoms, bonds, n, m, row))
+    check_code(conformation::sides(Tables { atoms, bonds, n, m }, row))
 }
 
 // A list of calls on one row, 0 for the first matching and any other byte for the next; the code of each answer: 0, or 1 where
@@ -219,5 +219,5 @@ pub extern "C" fn balsa_replay(
 ) -> u32
     ensures { replay_out result row.new codes.new ≡ replayed_of calls.now atoms.now bonds.now n m row.old codes.old }
 {
-    check_code(kekule::replay(calls, atoms, bonds, n, m, row, codes))
+    check_code(kekule::replay(calls, Tables { atoms, bonds, n, m }, row, codes))
 }

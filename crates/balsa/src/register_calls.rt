@@ -1,11 +1,11 @@
 // The register's calls for C and Rust.
 ghost use Rattle.std.specs.Prelude.{◌≡◌};
-ghost use Rattle.register.specs.Answers.{told, emptied_of, stepped_of, added_of, none, found_out, found_of};
+ghost use Rattle.register.specs.Answers.{code_of, told, emptied_of, stepped_of, added_of, none, found_out, found_of};
 ghost use Rattle.register_walk.specs.Walk.{stays, walked_out, walked_of};
 ghost use Rattle.balsa.specs.Registers.{entry_reply, walk_reply};
 
-use register::Found;
-use register_walk::Walked;
+use register::{Found, RegisterError};
+use register_walk::Step;
 
 // What reading an entry hands back: code 0 with found 1 and where its body stands; code 0 with found 0 where there is none; or the refusal's code.
 #[repr(C)]
@@ -32,14 +32,13 @@ fn no_entry(code: u32) -> EntryReply
 }
 
 // An answer of reading in plain numbers.
-fn entry_reply(f: Found) -> EntryReply
-    ensures { result ≡ entry_reply (found_out f) }
+fn entry_reply(answer: Result<Option<Found>, RegisterError>) -> EntryReply
+    ensures { result ≡ entry_reply (found_out answer) }
 {
-    match f {
-        Found::Short => no_entry(1),
-        Found::Invalid => no_entry(17),
-        Found::Missing => no_entry(0),
-        Found::At { tag, start, length } => EntryReply {
+    match answer {
+        Err(e) => no_entry(u32::from(e)),
+        Ok(None) => no_entry(0),
+        Ok(Some(Found { tag, start, length })) => EntryReply {
             code: 0,
             found: 1,
             tag,
@@ -49,12 +48,22 @@ fn entry_reply(f: Found) -> EntryReply
     }
 }
 
+// The code of an answer: 0, or the refusal's.
+fn code(answer: Result<(), RegisterError>) -> u32
+    ensures { result ≡ code_of answer }
+{
+    match answer {
+        Ok(()) => 0,
+        Err(e) => u32::from(e),
+    }
+}
+
 // Empties a register of full length: 0 or 1.
 #[unsafe(no_mangle)]
 pub extern "C" fn balsa_register_empty(reg: &mut [u8]) -> u32
     ensures { told result reg.new ≡ emptied_of reg.old }
 {
-    register::code(register::empty(reg))
+    code(register::empty(reg))
 }
 
 // Adds an entry: 0, 1, 17 or 18.
@@ -62,7 +71,7 @@ pub extern "C" fn balsa_register_empty(reg: &mut [u8]) -> u32
 pub extern "C" fn balsa_register_add(reg: &mut [u8], tag: u16, body: &[u8]) -> u32
     ensures { told result reg.new ≡ added_of reg.old tag body.now }
 {
-    register::code(register::add(reg, tag, body))
+    code(register::add(reg, tag, body))
 }
 
 // Step k of adding, at most one byte: 0, 1, 17 or 18. Past the last step nothing changes.
@@ -70,7 +79,7 @@ pub extern "C" fn balsa_register_add(reg: &mut [u8], tag: u16, body: &[u8]) -> u
 pub extern "C" fn balsa_register_step(reg: &mut [u8], tag: u16, body: &[u8], k: usize) -> u32
     ensures { told result reg.new ≡ stepped_of reg.old tag body.now k }
 {
-    register::code(register::step(reg, tag, body, k))
+    code(register::step(reg, tag, body, k))
 }
 
 // The entry at a place counted from 0: code 0, 1 or 17.
@@ -106,23 +115,17 @@ fn stay(code: u32, place: usize) -> WalkReply
 }
 
 // An answer to a step from a place, in plain numbers.
-fn walk_reply(w: Walked, place: usize) -> WalkReply
-    ensures { result ≡ walk_reply (walked_out place w) }
+fn walk_reply(answer: Result<Option<Step>, RegisterError>, place: usize) -> WalkReply
+    ensures { result ≡ walk_reply (walked_out place answer) }
 {
-    match w {
-        Walked::Short => stay(1, place),
-        Walked::Invalid => stay(17, place),
-        Walked::End => stay(255, place),
-        Walked::At {
-            tag,
-            start,
-            length,
-            next,
-        } => WalkReply {
+    match answer {
+        Err(e) => stay(u32::from(e), place),
+        Ok(None) => stay(255, place),
+        Ok(Some(Step { found, next })) => WalkReply {
             code: 0,
-            tag,
-            start,
-            length,
+            tag: found.tag,
+            start: found.start,
+            length: found.length,
             next,
         },
     }

@@ -5,7 +5,7 @@ ghost use Rattle.report_blocks.specs.Report.{report_of};
 ghost use Rattle.report_blocks.specs.Reply.{printed, reply_of};
 ghost use Rattle.balsa.specs.Reporting.{report_out};
 
-use report_blocks::whole::Printed;
+use refusal::Refusal;
 
 // What the report hands back: code 0 with the number of bytes, or code 1 with length 0.
 #[repr(C)]
@@ -16,12 +16,12 @@ pub struct ReportReply {
 }
 
 // An answer of the report in plain numbers.
-fn report_reply(p: Printed) -> ReportReply
+fn report_reply(p: Result<usize, Refusal>) -> ReportReply
     ensures { (out : List ℕ) → report_out result out ≡ printed p out }
 {
     match p {
-        Printed::Bytes(n) => ReportReply { code: 0, length: n },
-        Printed::Refused(r) => ReportReply {
+        Ok(n) => ReportReply { code: 0, length: n },
+        Err(r) => ReportReply {
             code: refusal::code(r) as u32,
             length: 0,
         },

@@ -2,6 +2,8 @@
 ghost use Rattle.std.specs.Prelude.{◌≡◌};
 ghost use Rattle.same_model.specs.Same.{molecule, same_reply, same_of};
 
+use table::Tables;
+
 // Whether two molecules are the same compound, with both rows and the renumbering: 0 yes, 254 no, 1, 13 or 19.
 #[unsafe(no_mangle)]
 pub extern "C" fn balsa_same(
@@ -20,7 +22,21 @@ pub extern "C" fn balsa_same(
     ensures { same_reply result row1.new row2.new ren.new ≡ same_of (molecule atoms1.now bonds1.now n1 m1) (molecule atoms2.now bonds2.now n2 m2) row1.old row2.old ren.old }
 {
     let answer = same::same(
-        atoms1, bonds1, n1, m1, atoms2, bonds2, n2, m2, row1, row2, ren,
+        Tables {
+            atoms: atoms1,
+            bonds: bonds1,
+            n: n1,
+            m: m1,
+        },
+        Tables {
+            atoms: atoms2,
+            bonds: bonds2,
+            n: n2,
+            m: m2,
+        },
+        row1,
+        row2,
+        ren,
     );
     same::sameness_code(answer) as u32
 }

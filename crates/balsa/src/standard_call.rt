@@ -3,7 +3,8 @@ ghost use Rattle.std.specs.Prelude.{◌≡◌};
 ghost use Rattle.standard.specs.Standard.{standard_of};
 ghost use Rattle.balsa.specs.Standard.{standard_reply_of, standard_out};
 
-use standard::Standardized;
+use reader::answer::TextRefusal;
+use standard::Written;
 
 // What the call hands back: code 0 with the counts of atoms, of bonds and of over-full atoms outside brackets and the length of the text,
 // or the refusal's code with its place, the counts and the length being 0.
@@ -19,21 +20,21 @@ pub struct StandardReply {
 }
 
 // An answer in plain numbers.
-fn standard_reply(s: Standardized) -> StandardReply
+fn standard_reply(s: Result<Written, TextRefusal>) -> StandardReply
     ensures { result ≡ standard_reply_of s }
 {
     match s {
-        Standardized::Text(n, m, k, size) => StandardReply {
+        Ok(written) => StandardReply {
             code: 0,
             place: 0,
-            atoms: n,
-            bonds: m,
-            overfull: k,
-            length: size,
+            atoms: written.counts.atoms,
+            bonds: written.counts.bonds,
+            overfull: written.counts.overfull,
+            length: written.length,
         },
-        Standardized::Refused(r, p) => StandardReply {
-            code: refusal::code(r) as u32,
-            place: p,
+        Err(e) => StandardReply {
+            code: refusal::code(e.refusal) as u32,
+            place: e.at,
             atoms: 0,
             bonds: 0,
             overfull: 0,

@@ -4,6 +4,7 @@ ghost use Rattle.withdrawal.specs.Withdrawal.{withdrew, withdraw_of, Answered};
 ghost use Rattle.withdrawal.specs.Answer.{out_of};
 ghost use Rattle.balsa.specs.Withdrawals.{withdrawn_out};
 
+use withdrawal::WithdrawError;
 use withdrawal::walk::Withdrawn;
 
 // What withdrawing hands back: 0, or the refusal's code with its place.
@@ -19,10 +20,12 @@ pub struct WithdrawReply {
 pub extern "C" fn balsa_withdraw(reg: &mut [u8], tag: u16, text: &[u8]) -> WithdrawReply
     ensures { withdrew result.code result.place reg.new ≡ withdraw_of reg.old tag text.now }
 {
-    let w = withdrawal::withdraw(reg, tag, text);
-    WithdrawReply {
-        code: w.code,
-        place: w.place,
+    match withdrawal::withdraw(reg, tag, text) {
+        Ok(()) => WithdrawReply { code: 0, place: 0 },
+        Err(e) => WithdrawReply {
+            code: u32::from(e),
+            place: e.place(),
+        },
     }
 }
 
@@ -38,32 +41,32 @@ pub struct WithdrawnReply {
 }
 
 // An answer in plain numbers.
-fn withdrawn_reply(w: Withdrawn) -> WithdrawnReply
-    ensures { withdrawn_out result ≡ out_of w }
+fn withdrawn_reply(answer: Result<Withdrawn, WithdrawError>) -> WithdrawnReply
+    ensures { withdrawn_out result ≡ out_of answer }
 {
-    match w {
-        Withdrawn::Refused(code, place) => WithdrawnReply {
-            code,
-            place,
+    match answer {
+        Err(e) => WithdrawnReply {
+            code: u32::from(e),
+            place: e.place(),
             answer: 0,
             tag: 0,
             entry: 0,
         },
-        Withdrawn::Clear => WithdrawnReply {
+        Ok(Withdrawn::Clear) => WithdrawnReply {
             code: 0,
             place: 0,
             answer: 0,
             tag: 0,
             entry: 0,
         },
-        Withdrawn::Listed(tag, entry) => WithdrawnReply {
+        Ok(Withdrawn::Listed { tag, entry }) => WithdrawnReply {
             code: 0,
             place: 0,
             answer: 1,
             tag,
             entry,
         },
-        Withdrawn::Undecided(entry) => WithdrawnReply {
+        Ok(Withdrawn::Undecided { entry }) => WithdrawnReply {
             code: 0,
             place: 0,
             answer: 2,

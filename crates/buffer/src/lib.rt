@@ -8,10 +8,7 @@ ghost use Rattle.buffer.specs.Buffer.{following, buffer_at, Wrote};
 pub fn next_count(n: usize) -> usize
     ensures { result ≡ following n }
 {
-    if n < usize::MAX {
-        return n + 1;
-    }
-    n
+    n.saturating_add(1)
 }
 
 // internal: the next byte, stored where there is room and counted where there is none. The place after it.
@@ -30,10 +27,8 @@ pub fn put_all(out: &mut [u8], at: usize, s: &[u8]) -> usize
     ensures { Wrote s.now (buffer_at out.old at) (buffer_at out.new result) }
 {
     let mut to = at;
-    let mut i = 0;
-    while i < s.len() {
-        to = put(out, to, s[i]);
-        i += 1;
+    for &b in s {
+        to = put(out, to, b);
     }
     to
 }
@@ -43,9 +38,5 @@ pub fn clear_from(out: &mut [u8], from: usize)
     requires { from ≤ length out.old }
     ensures { out.new ≡ take from out.old ++ replicate (length out.old - from) 0 }
 {
-    let mut i = from;
-    while i < out.len() {
-        out[i] = 0;
-        i += 1;
-    }
+    out[from..].fill(0);
 }

@@ -1,5 +1,5 @@
 -- 02, P5: the row of sides: "1 at each kind-2 bond whose two ends have their lowest marked neighbours on the same side, 2 if on opposite sides, else 0"
-use Rattle.std.specs.Prelude.{ℕ, ◌-◌, List, ◌++◌, Bool, ◌&&◌, ◌||◌, not, length, replicate, ℤ, eqb, leb, ltb}
+use Rattle.std.specs.Prelude.{ℕ, ◌-◌, List, ◌++◌, Bool, ◌&&◌, ◌||◌, not, length, replicate, ℤ, eqb, leb, ltb, Result}
 use Rattle.loops.specs.Loop.{pick, run, up_to}
 use Rattle.kinds.specs.Kind.{elided, double}
 use Rattle.table.specs.Limits.{max_bonds}
@@ -7,7 +7,7 @@ use Rattle.table.specs.Cells.{end1, end2, kind}
 use Rattle.table.specs.Valid.{enough, check_code}
 use Rattle.table.specs.Sound.{sound}
 use Rattle.table.specs.Marks.{side}
-use Rattle.table.specs.declared.Check.{Check}
+use Rattle.refusal.specs.declared.Refusal.{Refusal}
 use Rattle.conformation.specs.declared.Lowest.{Lowest}
 
 -- the other end of the bond b, seen from its end a
@@ -45,7 +45,7 @@ pub record SidesReply : Type 0 where
 abbrev pub sides_reply : ℕ → List ℕ → SidesReply
 sides_reply c row = record { code = c; row = row }
 
-abbrev pub told : Check → List ℕ → SidesReply
+abbrev pub told : Result (Unit {0}) Refusal → List ℕ → SidesReply
 told a row = sides_reply (check_code a) row
 
 -- 1 with nothing changed, then 13 with a zeroed row; the row past the last bond is zeroed

@@ -8,9 +8,10 @@ ghost use Rattle.conformation.specs.Sides.{other_end, lower, lowest_of, compared
 
 use ids::{AtomId, BondId};
 use refusal::Refusal;
-use table::{Check, FIRST, KIND, MAX_BONDS, SECOND, cell};
+use table::{FIRST, KIND, MAX_BONDS, SECOND, Tables, cell};
 
 // A marked neighbour of an atom, and the side on which it lies as a mark; side 0: there is none.
+// Stays: the definition lowest_of speaks of this pair, and the laws above it turn a side whether there is one or not; an Option would part each in two.
 #[derive(Clone, Copy)]
 struct Lowest {
     neighbour: usize,
@@ -34,10 +35,10 @@ fn lower(bonds: &[i32], a: AtomId, b: BondId, w: Lowest) -> Lowest
     requires { b.0 < max_bonds }
     ensures { result ≡ lower bonds.now a.0 b.0 w }
 {
-    let side = table_marks::side(bonds, a, b);
-    if side == 0 {
-        return w;
-    }
+    let side = match table_marks::side(bonds, a, b) {
+        None => return w,
+        Some(side) => side,
+    };
     let neighbour = other_end(bonds, a, b);
     if (w.side == 0) | (neighbour < w.neighbour) {
         return Lowest { neighbour, side };
@@ -54,10 +55,8 @@ fn lowest_of(bonds: &[i32], m: usize, a: AtomId) -> Lowest
         neighbour: 0,
         side: 0,
     };
-    let mut i = 0;
-    while i < m {
+    for i in 0..m {
         w = lower(bonds, a, BondId(i), w);
-        i += 1;
     }
     w
 }
@@ -92,30 +91,34 @@ fn fill(bonds: &[i32], m: usize, row: &mut [u8])
     requires { (m ≤ max_bonds) × (m ≤ length row.old) }
     ensures { row.new ≡ up_to (side_of bonds.now m) 0 m ++ drop m row.old }
 {
-    let mut i = 0;
-    while i < m {
+    for i in 0..m {
         row[i] = side_of(bonds, m, BondId(i));
-        i += 1;
     }
 }
 
 // The row of sides of a molecule: 1 at each double bond whose two ends have their lowest marked neighbours on the same side, 2
 // if on opposite sides, 0 at every other bond and past the last. 1: a table or the row is too short, and nothing changes.
 // 13: the tables are not sound, and the row is zeroed.
-pub fn sides(atoms: &[i32], bonds: &[i32], n: usize, m: usize, row: &mut [u8]) -> Check
-    ensures { told result row.new ≡ sides_of atoms.now bonds.now n m row.old }
+pub fn sides(tables: Tables, row: &mut [u8]) -> Result<(), Refusal>
+    ensures { told result row.new ≡ sides_of tables.entry.atoms.now tables.entry.bonds.now tables.entry.n tables.entry.m row.old }
 {
+    let Tables {
+        atoms,
+        bonds,
+        m,
+        ..
+    } = tables;
     if row.len() < MAX_BONDS {
-        return Check::Refused(Refusal::Short);
+        return Err(Refusal::Short);
     }
     if !table_validity::enough(atoms, bonds) {
-        return Check::Refused(Refusal::Short);
+        return Err(Refusal::Short);
     }
-    if !table_validity::sound(atoms, bonds, n, m) {
+    if !table_validity::sound(tables) {
         buffer::clear_from(row, 0);
-        return Check::Refused(Refusal::Invalid);
+        return Err(Refusal::Invalid);
     }
     fill(bonds, m, row);
     buffer::clear_from(row, m);
-    Check::Fine
+    Ok(())
 }

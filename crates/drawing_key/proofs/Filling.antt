@@ -4,7 +4,7 @@ use mathlib.Core.List.{List, ◌++◌}
 use Prim.Native.Nat.{ℕ, zero, suc, ◌+◌, ◌*◌, ◌<◌, ◌≤◌, ◌%◌}
 use native.Mathlib.Omega.{arith}
 use lib.IntN.{ℤ}
-use lib.ListN.{length, get_or, take, drop, get_or-replicate}
+use lib.ListN.{length, get_or, take, drop, replicate, get_or-replicate, length-replicate}
 use lib.Seq.{length-take-le, get_or-take, ext_get_or}
 use Rattle.loops.specs.Loop.{pick, run, up_to}
 use Rattle.loops.proofs.Loops.{length-up_to, up_to-at, filled-part}
@@ -25,6 +25,10 @@ use Rattle.same_keys.proofs.Kept.{spread_at, next-at}
 use Rattle.drawing_key.specs.Key.{cells_number, joined_sum, degree, hashed, first_key, next_round, key_rounds, atom_keys, word, half, mixed_again, summed, key_of}
 use Rattle.drawing_key.specs.Filled.{sum_key, Even}
 use Rattle.drawing_key.proofs.Joined.{joined-sum, joined-agree}
+
+-- a new list is even
+pub filled-even : (v n size : ℕ) → n ≤ size → Even v n (replicate size v)
+filled-even v n size l = record { even = simp length-replicate; room = omega (arith, length-replicate {A = ℕ}) }
 
 -- a cell of a list that is even
 even-at : {v n : ℕ} {l : List ℕ} → Even v n l → (a : ℕ) → a < n → at l a ≡ v

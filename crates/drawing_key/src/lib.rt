@@ -1,19 +1,18 @@
 // A number of a molecule that every redrawing keeps, and one of each of its atoms. Every function here is internal.
 #![tactic(auto)]
 
-ghost use Rattle.std.specs.Prelude.{◌≡◌, true, ◌++◌, ◌+◌, ◌<◌, ◌≤◌, length, take, drop, replicate};
+ghost use Rattle.std.specs.Prelude.{◌≡◌, true, ◌++◌, ◌+◌, ◌<◌, ◌≤◌, length, take, drop};
 ghost use Rattle.loops.specs.Loop.{each, up_to};
-ghost use Rattle.ids.specs.Small.{small};
-ghost use Rattle.table.specs.Limits.{max_atoms};
+ghost use Rattle.table.specs.Limits.{max_atoms, max_bonds};
 ghost use Rattle.table.specs.Valid.{Valid, atom_ok};
-ghost use Rattle.table_graph.specs.Built.{Room};
 ghost use Rattle.same_model.specs.Same.{molecule};
 ghost use Rattle.same_keys.specs.Keys.{Low, highest};
 ghost use Rattle.drawing_key.specs.Key.{cells_number, hashed, atom_keys, summed, key_of};
 ghost use Rattle.drawing_key.specs.Filled.{sum_key, Even};
 
 use ids::{AtomId, SMALL};
-use table::{CHARGE, ELEMENT, HYDROGENS, ISOTOPE, MAX_ATOMS, MAX_BONDS, cell};
+use same_keys::Ends;
+use table::{CHARGE, ELEMENT, HYDROGENS, ISOTOPE, MAX_ATOMS, MAX_BONDS, Tables, cell};
 
 // How many rounds over the neighbours.
 const ROUNDS: usize = 5;
@@ -46,94 +45,54 @@ fn fill_first(atoms: &[i32], sums: &[u16], flags: &[u8], n: usize, keys: &mut [u
     requires low { Low keys.old (highest 1) }
     ensures { keys.new ≡ up_to (sum_key atoms.now sums.now flags.now keys.old) 0 n ++ drop n keys.old }
 {
-    let mut i = 0;
-    while i < n {
+    for i in 0..n {
         keys[i] = first_key(
             atoms,
             AtomId(i),
             same_keys::plus(sums[i], flags[i]),
             keys[i],
         );
-        i += 1;
     }
 }
 
-// The keys of n atoms, in buffers: of zeros for the bond sums and the keys, of ones for the mixed keys.
-fn fill_in(
-    atoms: &[i32],
-    bonds: &[i32],
-    n: usize,
-    m: usize,
-    flags: &mut [u8],
-    ea: &mut [u16],
-    eb: &mut [u16],
-    el: &mut [u8],
-    sums: &mut [u16],
-    mixed: &mut [u64],
-    keys: &mut [u64],
-)
-    requires valid { Valid atoms.now bonds.now n m }
-    requires room { Room n m flags.old ea.old eb.old el.old sums.old }
-    requires sums_value { (sums.old ≡ replicate (length sums.old) 0) × Even 1 n mixed.old × Even 0 n keys.old }
-    ensures { take n keys.new ≡ atom_keys (molecule atoms.now bonds.now n m) }
+// The keys of the atoms of a molecule of at most N atoms and M bonds.
+fn fill_sized<const N: usize, const M: usize>(tables: Tables, keys: &mut [u64])
+    requires valid { Valid tables.atoms.now tables.bonds.now tables.n tables.m }
+    requires room { (tables.n ≤ N) × (tables.m ≤ M) }
+    requires sizes { (N ≤ max_atoms) × (M ≤ max_bonds) }
+    requires even { Even 0 tables.n keys.old }
+    ensures { take tables.entry.n keys.new ≡ atom_keys (molecule tables.entry.atoms.now tables.entry.bonds.now tables.entry.n tables.entry.m) }
 {
-    table_graph::wire(bonds, m, ea, eb, el, sums);
-    table_graph::fill_flags(atoms, sums, n, flags);
-    same_keys::spread(ea, eb, m, mixed, keys);
-    fill_first(atoms, sums, flags, n, keys);
-    same_keys::refine(ea, eb, m, n, ROUNDS, mixed, keys);
-}
-
-// The keys of the atoms of a small molecule.
-fn fill_small(atoms: &[i32], bonds: &[i32], n: usize, m: usize, keys: &mut [u64])
-    requires valid { Valid atoms.now bonds.now n m }
-    requires n_le_small { (n ≤ small) × (m ≤ small) }
-    requires even { Even 0 n keys.old }
-    ensures { take n keys.new ≡ atom_keys (molecule atoms.now bonds.now n m) }
-{
-    let mut flags = [0u8; SMALL];
-    let mut ea = [0u16; SMALL];
-    let mut eb = [0u16; SMALL];
-    let mut el = [0u8; SMALL];
-    let mut sums = [0u16; SMALL];
-    let mut mixed = [1u64; SMALL];
-    fill_in(
-        atoms, bonds, n, m, &mut flags, &mut ea, &mut eb, &mut el, &mut sums, &mut mixed, keys,
-    );
-}
-
-// The same for any molecule.
-fn fill_large(atoms: &[i32], bonds: &[i32], n: usize, m: usize, keys: &mut [u64])
-    requires valid { Valid atoms.now bonds.now n m }
-    requires even { Even 0 n keys.old }
-    ensures { take n keys.new ≡ atom_keys (molecule atoms.now bonds.now n m) }
-{
-    let mut flags = [0u8; MAX_ATOMS];
-    let mut ea = [0u16; MAX_BONDS];
-    let mut eb = [0u16; MAX_BONDS];
-    let mut el = [0u8; MAX_BONDS];
-    let mut sums = [0u16; MAX_ATOMS];
-    let mut mixed = [1u64; MAX_ATOMS];
-    fill_in(
-        atoms, bonds, n, m, &mut flags, &mut ea, &mut eb, &mut el, &mut sums, &mut mixed, keys,
-    );
+    let Tables { atoms, bonds, n, m } = tables;
+    let mut flags = [0u8; N];
+    let mut ea = [0u16; M];
+    let mut eb = [0u16; M];
+    let mut el = [0u8; M];
+    let mut sums = [0u16; N];
+    let mut mixed = [1u64; N];
+    table_graph::wire(bonds, m, &mut ea, &mut eb, &mut el, &mut sums);
+    table_graph::fill_flags(atoms, &sums, n, &mut flags);
+    let ends = Ends {
+        firsts: &ea,
+        seconds: &eb,
+        m,
+    };
+    same_keys::spread(ends, &mixed, keys);
+    fill_first(atoms, &sums, &flags, n, keys);
+    same_keys::refine(ends, n, ROUNDS, &mut mixed, keys);
 }
 
 // internal: the keys of n atoms, into a buffer of zeros.
-pub fn fill_atom_keys(atoms: &[i32], bonds: &[i32], n: usize, m: usize, keys: &mut [u64])
-    requires valid { Valid atoms.now bonds.now n m }
-    requires even { Even 0 n keys.old }
-    ensures { take n keys.new ≡ atom_keys (molecule atoms.now bonds.now n m) }
+pub fn fill_atom_keys(tables: Tables, keys: &mut [u64])
+    requires valid { Valid tables.atoms.now tables.bonds.now tables.n tables.m }
+    requires even { Even 0 tables.n keys.old }
+    ensures { take tables.entry.n keys.new ≡ atom_keys (molecule tables.entry.atoms.now tables.entry.bonds.now tables.entry.n tables.entry.m) }
 {
-    if SMALL < n {
-        fill_large(atoms, bonds, n, m, keys);
-        return;
+    if tables.n <= SMALL && tables.m <= SMALL {
+        fill_sized::<SMALL, SMALL>(tables, keys);
+    } else {
+        fill_sized::<MAX_ATOMS, MAX_BONDS>(tables, keys);
     }
-    if SMALL < m {
-        fill_large(atoms, bonds, n, m, keys);
-        return;
-    }
-    fill_small(atoms, bonds, n, m, keys);
 }
 
 // The key that n atoms give by theirs.
@@ -143,44 +102,33 @@ fn sum_up(keys: &[u64], n: usize) -> u64
 {
     let mut low = 0;
     let mut high = 0;
-    let mut i = 0;
-    while i < n {
+    for i in 0..n {
         let x = same_keys::mix(keys[i]);
         low += x;
         high += same_keys::mix(x + 1);
-        i += 1;
     }
     high % 4294967296 * 4294967296 + low % 4294967296
 }
 
-// The key of a small molecule.
-fn key_small(atoms: &[i32], bonds: &[i32], n: usize, m: usize) -> u64
-    requires valid { Valid atoms.now bonds.now n m }
-    requires n_le_small { n ≤ small }
-    ensures { result ≡ key_of (molecule atoms.now bonds.now n m) }
+// The key of a molecule of at most N atoms.
+fn key_sized<const N: usize>(tables: Tables) -> u64
+    requires valid { Valid tables.atoms.now tables.bonds.now tables.n tables.m }
+    requires room { (tables.n ≤ N) × (N ≤ max_atoms) }
+    ensures { result ≡ key_of (molecule tables.entry.atoms.now tables.entry.bonds.now tables.entry.n tables.entry.m) }
 {
-    let mut keys = [0u64; SMALL];
-    fill_atom_keys(atoms, bonds, n, m, &mut keys);
-    sum_up(&keys, n)
-}
-
-// The key of any molecule.
-fn key_large(atoms: &[i32], bonds: &[i32], n: usize, m: usize) -> u64
-    requires { Valid atoms.now bonds.now n m }
-    ensures { result ≡ key_of (molecule atoms.now bonds.now n m) }
-{
-    let mut keys = [0u64; MAX_ATOMS];
-    fill_atom_keys(atoms, bonds, n, m, &mut keys);
-    sum_up(&keys, n)
+    let mut keys = [0u64; N];
+    fill_atom_keys(tables, &mut keys);
+    sum_up(&keys, tables.n)
 }
 
 // internal: the key of a molecule, from its valid tables.
-pub fn key(atoms: &[i32], bonds: &[i32], n: usize, m: usize) -> u64
-    requires { Valid atoms.now bonds.now n m }
-    ensures { result ≡ key_of (molecule atoms.now bonds.now n m) }
+pub fn key(tables: Tables) -> u64
+    requires { Valid tables.atoms.now tables.bonds.now tables.n tables.m }
+    ensures { result ≡ key_of (molecule tables.entry.atoms.now tables.entry.bonds.now tables.entry.n tables.entry.m) }
 {
-    if SMALL < n {
-        return key_large(atoms, bonds, n, m);
+    if tables.n <= SMALL {
+        key_sized::<SMALL>(tables)
+    } else {
+        key_sized::<MAX_ATOMS>(tables)
     }
-    key_small(atoms, bonds, n, m)
 }

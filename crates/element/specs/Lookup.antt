@@ -1,5 +1,5 @@
 -- 01, The text: what symbol stands at two bytes, in brackets and outside, and how an element is spelled
-use Rattle.std.specs.Prelude.{Bool, ◌||◌, List, [], ◌∷◌, ℕ, zero, suc, eqb, get_or}
+use Rattle.std.specs.Prelude.{Bool, ◌||◌, List, [], ◌∷◌, ℕ, zero, suc, eqb, get_or, Option, Some, None}
 use Rattle.loops.specs.Loop.{pick}
 use Rattle.element.specs.Symbols.{among, same_bytes, listed, starts, letters, symbols}
 use Rattle.element.specs.declared.Symbol.{Symbol}
@@ -23,6 +23,14 @@ single_of a = pick (listed (a ∷ []) symbols) (number_of (a ∷ [])) (pick (sta
 -- c n o p s: the atomic number of a selected letter; 0 for another byte
 unfoldable pub selected_of : ℕ → ℕ
 selected_of b = pick (eqb b 99) 6 (pick (eqb b 110) 7 (pick (eqb b 111) 8 (pick (eqb b 112) 15 (pick (eqb b 115) 16 0))))
+
+-- a number for which 0 says that there is none
+abbrev pub nonzero : ℕ → Option ℕ
+nonzero n = pick (eqb n 0) None (Some n)
+
+-- what a letter is by itself, by `single_of`
+abbrev pub symbol_alone : ℕ → Symbol
+symbol_alone n = pick (eqb n 0) Nothing (pick (eqb n 255) Half (Brief n))
 
 -- "In brackets": `*`, one of the 118 symbols (the longer one first), or a selected letter; b is 0 where a is the last byte
 unfoldable pub symbol_of : ℕ → ℕ → Symbol

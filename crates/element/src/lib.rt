@@ -2,8 +2,9 @@
 #![tactic(auto)]
 
 ghost use Rattle.std.specs.Prelude.{◌≡◌, [], ◌∷◌, ◌+◌, ◌<◌};
-ghost use Rattle.element.specs.Lookup.{number_of, selected_of, single_of, symbol_of, letter_of, bare, bytes_of, selected_bytes, spelling};
+ghost use Rattle.element.specs.Lookup.{number_of, selected_of, single_of, nonzero, symbol_alone, symbol_of, letter_of, bare, bytes_of, selected_bytes, spelling};
 
+// Stays: a row for each letter with its symbols beside it; one table would have five rows of zeros, and an index to compute from the letter.
 // Ac Ag Al Am Ar As At Au.
 const A: [u8; 26] = *b"\0\0\x59\0\0\0\x2f\0\0\0\0\x0d\x5f\0\0\0\0\x12\x21\x55\x4f\0\0\0\0\0";
 
@@ -71,7 +72,7 @@ const Z: [u8; 26] = *b"\0\0\0\0\0\0\0\0\0\0\0\0\0\x1e\0\0\0\x28\0\0\0\0\0\0\0\0"
 const SINGLES: [u8; 26] =
     *b"\xff\x05\x06\xff\xff\x09\xff\x01\x35\0\x13\xff\xff\x07\x08\x0f\0\xff\x10\xff\x5c\x17\x4a\xff\x27\xff";
 
-// No atomic number.
+// In SINGLES, no atomic number.
 const HALF: u8 = 255;
 
 // `*` and the 118 symbols, two bytes each.
@@ -83,6 +84,7 @@ const SPELLED: [u8; 238] = *b"*\0H\0HeLiBeB\0C\0N\0O\0F\0NeNaMgAlSiP\0S\0ClArK\0
     FmMdNoLrRfDbSgBhHsMtDsRgCnNhFlMcLvTsOg";
 
 // What stands at the place of a bracket's symbol.
+// Stays: five answers, each taken by an arm of its own; an option round the others would nest Half.
 #[derive(Clone, Copy)]
 pub enum Symbol {
     // A symbol of two letters: its atomic number.
@@ -98,6 +100,7 @@ pub enum Symbol {
 }
 
 // What begins outside brackets.
+// Stays: five answers, each taken by an arm of its own.
 #[derive(Clone, Copy)]
 pub enum Letter {
     // A letter by itself: its atomic number, 0 for `*`.
@@ -112,6 +115,7 @@ pub enum Letter {
 }
 
 // The bytes of a symbol; the second is 0 where there is one letter.
+// Stays: a look-up takes 0 for a letter that is not there, so what was spelled is found again as it is.
 #[derive(Clone, Copy)]
 pub struct Spelling {
     pub first: u8,
@@ -149,37 +153,52 @@ fn in_row(a: u8, i: usize) -> u8
     }
 }
 
-// The atomic number of a symbol of two letters; 0 where there is none.
-fn pair(a: u8, b: u8) -> u8
-    ensures { result ≡ number_of (a ∷ b ∷ []) }
+// The atomic number of a symbol of two letters.
+fn pair(a: u8, b: u8) -> Option<u8>
+    ensures { result ≡ nonzero (number_of (a ∷ b ∷ [])) }
 {
     if (b < b'a') | (b'z' < b) {
-        return 0;
+        return None;
     }
-    in_row(a, (b - b'a') as usize)
+    match in_row(a, (b - b'a') as usize) {
+        0 => None,
+        n => Some(n),
+    }
 }
 
-// The atomic number of a symbol of one letter; HALF where only longer symbols begin with it, 0 where none does.
-fn single(a: u8) -> u8
-    ensures { result ≡ single_of a }
+// What an entry of SINGLES says.
+fn meaning(entry: u8) -> Symbol
+    ensures { result ≡ symbol_alone entry }
+{
+    match entry {
+        0 => Symbol::Nothing,
+        HALF => Symbol::Half,
+        n => Symbol::Brief(n),
+    }
+}
+
+// What a letter is by itself: a symbol, or the first of longer ones only.
+fn single(a: u8) -> Symbol
+    ensures { result ≡ symbol_alone (single_of a) }
 {
     if (a < b'A') | (b'Z' < a) {
-        return 0;
+        return Symbol::Nothing;
     }
-    SINGLES[(a - b'A') as usize]
+    meaning(SINGLES[(a - b'A') as usize])
 }
 
-// The atomic number of a selected letter; 0 for another byte.
-fn selected(b: u8) -> u8
-    ensures { result ≡ selected_of b }
+// The atomic number of a selected letter.
+#[tactic(auto, unfolding(crate::specs::Lookup::selected_of))]
+fn selected(b: u8) -> Option<u8>
+    ensures { result ≡ nonzero (selected_of b) }
 {
     match b {
-        b'c' => 6,
-        b'n' => 7,
-        b'o' => 8,
-        b'p' => 15,
-        b's' => 16,
-        _ => 0,
+        b'c' => Some(6),
+        b'n' => Some(7),
+        b'o' => Some(8),
+        b'p' => Some(15),
+        b's' => Some(16),
+        _ => None,
     }
 }
 
@@ -190,14 +209,9 @@ fn alone(a: u8) -> Symbol
     if a == b'*' {
         return Symbol::Brief(0);
     }
-    let s = selected(a);
-    if s > 0 {
-        return Symbol::Selected(s);
-    }
-    match single(a) {
-        0 => Symbol::Nothing,
-        HALF => Symbol::Half,
-        n => Symbol::Brief(n),
+    match selected(a) {
+        Some(e) => Symbol::Selected(e),
+        None => single(a),
     }
 }
 
@@ -205,14 +219,14 @@ fn alone(a: u8) -> Symbol
 pub fn lookup(a: u8, b: u8) -> Symbol
     ensures { result ≡ symbol_of a b }
 {
-    let n = pair(a, b);
-    if n > 0 {
-        return Symbol::Long(n);
+    match pair(a, b) {
+        Some(n) => Symbol::Long(n),
+        None => alone(a),
     }
-    alone(a)
 }
 
 // What an atom's first byte outside brackets is.
+#[tactic(auto, unfolding(crate::specs::Lookup::letter_of, crate::specs::Lookup::selected_of, crate::specs::Lookup::number_of, crate::specs::Lookup::index_from, crate::specs::Symbols::same_bytes, crate::specs::Symbols::symbols, crate::specs::Symbols::among, crate::specs::Symbols::letters))]
 pub fn atom_start(b: u8) -> Letter
     ensures { result ≡ letter_of b }
 {
@@ -238,13 +252,11 @@ pub fn atom_start(b: u8) -> Letter
 }
 
 // Whether an element stands outside brackets.
+#[tactic(auto, unfolding(crate::specs::Lookup::bare, crate::specs::Symbols::among))]
 pub fn is_bare(e: u8) -> bool
     ensures { result ≡ bare e }
 {
-    match e {
-        0 | 5 | 6 | 7 | 8 | 9 | 15 | 16 | 17 | 35 | 53 | 85 | 117 => true,
-        _ => false,
-    }
+    matches!(e, 0 | 5 | 6 | 7 | 8 | 9 | 15 | 16 | 17 | 35 | 53 | 85 | 117)
 }
 
 // A symbol of one letter.
@@ -279,6 +291,7 @@ fn spell_rare(e: u8) -> Spelling
 }
 
 // The symbol of an element; no bytes above 118. The common ones need no table.
+#[tactic(auto, unfolding(crate::specs::Lookup::bytes_of, crate::specs::Symbols::symbols))]
 pub fn spell(e: u8) -> Spelling
     ensures { result ≡ spelling (bytes_of e) }
 {
@@ -298,6 +311,7 @@ pub fn spell(e: u8) -> Spelling
 }
 
 // The selected letter of an element; no bytes where there is none.
+#[tactic(auto, unfolding(crate::specs::Lookup::selected_bytes))]
 pub fn spell_selected(e: u8) -> Spelling
     ensures { result ≡ spelling (selected_bytes e) }
 {

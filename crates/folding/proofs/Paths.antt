@@ -14,8 +14,7 @@ use mir.Val.{SFits, to_z, of_z}
 use mir.Facts.{to_z-of_z, to_z_pos}
 use Rattle.loops.specs.Loop.{pick}
 use Rattle.loops.proofs.Loops.{and_left, and_right}
-use Rattle.kinds.specs.Kind.{single, mark_of}
-use Rattle.kinds.proofs.Kind.{mark-none, mark-some}
+use Rattle.kinds.specs.Kind.{single, is_mark}
 use Rattle.table.specs.Limits.{max_atoms, max_bonds, ELEMENT, HYDROGENS, KIND}
 use Rattle.table.specs.Cells.{in_range, atom_place, bond_place, atom_cell, bond_cell, hydrogens, end1, end2, kind}
 use Rattle.table.specs.declared.Atom.{Atom}
@@ -33,13 +32,13 @@ bond-row a b c ha hb hc = simp (to_z_pos w32 {n = a} (omega arith), to_z_pos w32
 
 -- ---- bare_bond
 module _ (t : List ℤ) (b : ℕ) where
-  pub bare-no : mark_of (kind t b) ≡ 0 → t ≡ bare_bond b t
+  pub bare-no : is_mark (kind t b) ≡ false → t ≡ bare_bond b t
   unfolding bare_bond
-  bare-no e = rw (mark-none (kind t b) e)
+  bare-no e = rw e
 
-  pub bare-yes : (mark_of (kind t b) ≡ 0 → ⊥) → {u : List ℤ} → u ≡ set t (bond_place b KIND) (pos single) → u ≡ bare_bond b t
+  pub bare-yes : is_mark (kind t b) ≡ true → {u : List ℤ} → u ≡ set t (bond_place b KIND) (pos single) → u ≡ bare_bond b t
   unfolding bare_bond
-  bare-yes n e = rw (mark-some (kind t b) n) e
+  bare-yes n e = rw n e
 
 -- ---- takes
 module _ (t : List ℤ) (p : ℕ) where

@@ -1,13 +1,12 @@
 -- auxiliary: folding as the code does it: one pass over the bonds for the neighbours of atoms with one single bond, and a buffer of new numbers
-use Rattle.std.specs.Prelude.{ℕ, ◌+◌, ◌-◌, ◌<◌, ◌≤◌, ◌≡◌, List, Bool, ◌&&◌, not, length, get_or, replicate, ℤ, pos, eqb, leb, ltb}
+use Rattle.std.specs.Prelude.{ℕ, ◌+◌, ◌-◌, ◌<◌, ◌≤◌, List, Bool, ◌&&◌, not, get_or, ℤ, pos, eqb, leb, ltb}
 use Rattle.loops.specs.Loop.{pick, each, run, how_many}
 use Rattle.kinds.specs.Kind.{order}
 use Rattle.table.specs.Limits.{max_atoms, max_bonds, ELEMENT, KIND}
 use Rattle.table.specs.Cells.{bond_cell, element, hydrogens, end1, end2, kind, touches}
 use Rattle.table.specs.declared.Bond.{Bond}
 use Rattle.table.specs.Rows.{atom_row, with_atom, with_bond}
-use Rattle.same_model.specs.Same.{Molecule}
-use Rattle.folding.specs.Folding.{other_end, is_cell, plain_row, one_more, Complete}
+use Rattle.folding.specs.Folding.{other_end, is_cell, plain_row, one_more}
 
 -- no number of an atom
 abbrev pub none : ℕ
@@ -93,10 +92,3 @@ move_bond numbers b s = pick (kept_by numbers b s.table) (placing (with_bond s.t
 
 unfoldable pub move_bonds : List ℕ → ℕ → List ℤ → Placing
 move_bonds numbers m t = run (move_bond numbers) 0 m (placing t 0)
-
--- tables of a molecule, and two buffers of zeros for its atoms
-pub record Buffers (x : Molecule) (links numbers : List ℕ) : Type 0 where
-  pub complete : Complete x
-  pub links_room : x.n ≤ length links
-  pub numbers_room : x.n ≤ length numbers
-  pub zeros : links ≡ replicate (length links) 0

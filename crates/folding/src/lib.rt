@@ -6,7 +6,7 @@ ghost use Rattle.loops.specs.Loop.{how_many, up_to};
 ghost use Rattle.table.specs.Limits.{max_atoms, max_bonds};
 ghost use Rattle.same_model.specs.Same.{molecule};
 ghost use Rattle.folding.specs.Folding.{bared_atoms, bare_bond, bared_bonds, plain_row, merged, folded, Complete};
-ghost use Rattle.folding.specs.Links.{none, linked, link, Ends, no_hydrogen, takes_one, folds_by, fold_by, folded_by, stays_by, new_number, next_number, number_by, move_atom, move_atoms, placing, move_bond, move_bonds, Buffers};
+ghost use Rattle.folding.specs.Links.{none, linked, link, Ends, no_hydrogen, takes_one, folds_by, fold_by, folded_by, stays_by, new_number, next_number, number_by, move_atom, move_atoms, placing, move_bond, move_bonds};
 
 use ids::{AtomId, BondId, SMALL};
 use table::{
@@ -14,7 +14,7 @@ use table::{
     row,
 };
 
-// No number of an atom.
+// No number of an atom. Stays: `none` of specs/Links is this number, and what a fold does is defined by it.
 const NONE: u16 = 65535;
 
 // The kind of a single bond, as a cell of a table holds it.
@@ -32,11 +32,9 @@ fn bare_atoms(atoms: &mut [i32], n: usize)
     requires { n ≤ max_atoms }
     ensures { atoms.new ≡ bared_atoms n atoms.old }
 {
-    let mut i = 0;
-    while i < n {
+    for i in 0..n {
         cell::put_atom_cell(atoms, AtomId(i), EXTENSION, 0);
         cell::put_atom_cell(atoms, AtomId(i), MARK, 0);
-        i += 1;
     }
 }
 
@@ -46,7 +44,7 @@ fn bare_bond(bonds: &mut [i32], b: BondId)
     ensures { bonds.new ≡ bare_bond b.0 bonds.old }
 {
     let k = cell::bond_number(bonds, b, KIND);
-    if kinds::mark(k) == 0 {
+    if !kinds::is_mark(k) {
         return;
     }
     cell::put_bond_cell(bonds, b, KIND, SINGLE);
@@ -57,10 +55,8 @@ fn bare_bonds(bonds: &mut [i32], m: usize)
     requires { m ≤ max_bonds }
     ensures { bonds.new ≡ bared_bonds m bonds.old }
 {
-    let mut i = 0;
-    while i < m {
+    for i in 0..m {
         bare_bond(bonds, BondId(i));
-        i += 1;
     }
 }
 
@@ -69,12 +65,10 @@ fn no_hydrogen(atoms: &[i32], n: usize) -> bool
     requires { n ≤ max_atoms }
     ensures { result ≡ no_hydrogen atoms.now n }
 {
-    let mut i = 0;
-    while i < n {
+    for i in 0..n {
         if cell::atom_number(atoms, AtomId(i), ELEMENT) == 1 {
             return false;
         }
-        i += 1;
     }
     true
 }
@@ -99,15 +93,13 @@ fn link_bonds(bonds: &[i32], m: usize, links: &mut [u16])
     requires links_value { links.old ≡ replicate (length links.old) 0 }
     ensures { links.new ≡ up_to (link bonds.now m) 0 (length links.old) }
 {
-    let mut i = 0;
-    while i < m {
+    for i in 0..m {
         let row = row::get_bond(bonds, BondId(i));
         let first = cell::number(row.first);
         let second = cell::number(row.second);
         let order = kinds::order(cell::number(row.kind));
         links[first] = linked(links[first], second, order);
         links[second] = linked(links[second], first, order);
-        i += 1;
     }
 }
 
@@ -191,13 +183,11 @@ fn fold_atoms(atoms: &mut [i32], n: usize, links: &[u16], numbers: &mut [u16]) -
     ensures atoms_after { atoms.new ≡ folded_by links.now atoms.old n }
     ensures numbers_after { numbers.new ≡ up_to (number_by links.now atoms.old) 0 n ++ drop n numbers.old }
 {
-    let mut i = 0;
     let mut k = 0;
-    while i < n {
+    for i in 0..n {
         let gone = fold_atom(atoms, AtomId(i), links[i]);
         numbers[i] = new_number(gone, k);
         k = next_number(gone, k);
-        i += 1;
     }
     k
 }
@@ -220,10 +210,8 @@ fn move_atoms(atoms: &mut [i32], n: usize, numbers: &[u16])
     requires { (n ≤ max_atoms) × (n ≤ length numbers.now) }
     ensures { atoms.new ≡ move_atoms numbers.now n atoms.old }
 {
-    let mut i = 0;
-    while i < n {
+    for i in 0..n {
         move_atom(atoms, AtomId(i), numbers[i]);
-        i += 1;
     }
 }
 
@@ -231,10 +219,7 @@ fn move_atoms(atoms: &mut [i32], n: usize, numbers: &[u16])
 fn number_of(numbers: &[u16], a: usize) -> u16
     ensures { result ≡ get_or numbers.now a none }
 {
-    if numbers.len() <= a {
-        return NONE;
-    }
-    numbers[a]
+    numbers.get(a).copied().unwrap_or(NONE)
 }
 
 // The row of a bond.
@@ -273,31 +258,25 @@ fn move_bonds(bonds: &mut [i32], m: usize, numbers: &[u16]) -> usize
     requires { m ≤ max_bonds }
     ensures { placing bonds.new result ≡ move_bonds numbers.now m bonds.old }
 {
-    let mut i = 0;
     let mut k = 0;
-    while i < m {
+    for i in 0..m {
         k = move_bond(bonds, BondId(i), k, numbers);
-        i += 1;
     }
     k
 }
 
-// Folds bare tables, with two buffers, one of them of zeros.
-fn merge_in(
-    atoms: &mut [i32],
-    bonds: &mut [i32],
-    n: usize,
-    m: usize,
-    links: &mut [u16],
-    numbers: &mut [u16],
-) -> Counts
-    requires { Buffers (molecule atoms.old bonds.old n m) links.old numbers.old }
+// Folds bare tables of at most N atoms.
+fn merge_sized<const N: usize>(atoms: &mut [i32], bonds: &mut [i32], n: usize, m: usize) -> Counts
+    requires complete { Complete (molecule atoms.old bonds.old n m) }
+    requires room { (n ≤ N) × (N ≤ max_atoms) }
     ensures { molecule atoms.new bonds.new result.atoms result.bonds ≡ merged (molecule atoms.old bonds.old n m) }
 {
-    link_bonds(bonds, m, links);
-    let atoms_left = fold_atoms(atoms, n, links, numbers);
-    move_atoms(atoms, n, numbers);
-    let bonds_left = move_bonds(bonds, m, numbers);
+    let mut links = [0u16; N];
+    let mut numbers = [0u16; N];
+    link_bonds(bonds, m, &mut links);
+    let atoms_left = fold_atoms(atoms, n, &links, &mut numbers);
+    move_atoms(atoms, n, &numbers);
+    let bonds_left = move_bonds(bonds, m, &numbers);
     Counts {
         atoms: atoms_left,
         bonds: bonds_left,
@@ -310,13 +289,10 @@ fn merge(atoms: &mut [i32], bonds: &mut [i32], n: usize, m: usize) -> Counts
     ensures { molecule atoms.new bonds.new result.atoms result.bonds ≡ merged (molecule atoms.old bonds.old n m) }
 {
     if n <= SMALL {
-        let mut links = [0u16; SMALL];
-        let mut numbers = [0u16; SMALL];
-        return merge_in(atoms, bonds, n, m, &mut links, &mut numbers);
+        merge_sized::<SMALL>(atoms, bonds, n, m)
+    } else {
+        merge_sized::<MAX_ATOMS>(atoms, bonds, n, m)
     }
-    let mut links = [0u16; MAX_ATOMS];
-    let mut numbers = [0u16; MAX_ATOMS];
-    merge_in(atoms, bonds, n, m, &mut links, &mut numbers)
 }
 
 // internal: folds a molecule in place, and tells how many atoms and bonds are left.

@@ -1,9 +1,9 @@
 -- 01, The book: what a list of calls on tables and a row gives, from the enumeration of the molecule
-use Rattle.std.specs.Prelude.{ℕ, ◌-◌, ◌≡◌, List, [], ◌∷◌, ◌++◌, map, length, get_or, set, replicate, ℤ, leb}
+use Rattle.std.specs.Prelude.{ℕ, ◌-◌, ◌≡◌, List, [], ◌∷◌, ◌++◌, map, length, get_or, set, replicate, ℤ, leb, Result}
 use Rattle.loops.specs.Loop.{pick, run}
 use Rattle.table.specs.Valid.{check_code}
 use Rattle.table.specs.Sound.{sound}
-use Rattle.table.specs.declared.Check.{Check}
+use Rattle.refusal.specs.declared.Refusal.{Refusal}
 use Rattle.matching.specs.Graph.{enumeration}
 use Rattle.matching.specs.declared.Call.{Call}
 use Rattle.table_graph.specs.Graph.{delocalized_flags, graph_of}
@@ -41,7 +41,7 @@ pub record Replayed : Type 0 where
 abbrev pub replay_out : ℕ → List ℕ → List ℕ → Replayed
 replay_out c row codes = record { code = c; row = row; codes = codes }
 
-abbrev pub replayed : Check → List ℕ → List ℕ → Replayed
+abbrev pub replayed : Result (Unit {0}) Refusal → List ℕ → List ℕ → Replayed
 replayed a row codes = replay_out (check_code a) row codes
 
 -- the calls by their bytes, run on the tables; 1 and nothing changes where there is no cell for each code; cells past the codes are zeroed

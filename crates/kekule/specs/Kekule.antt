@@ -1,17 +1,16 @@
 -- 01, Hydrogens and kept atoms: the calls on tables, refusals in the order of 01. A placement is a matching, settling is kekulizing.
-use Rattle.std.specs.Prelude.{ℕ, ◌≤◌, List, Bool, ◌&&◌, length, take, get_or, replicate, ℤ, eqb, leb}
+use Rattle.std.specs.Prelude.{ℕ, ◌≤◌, List, Bool, ◌&&◌, length, take, get_or, replicate, ℤ, eqb, leb, Result}
 use Rattle.loops.specs.Loop.{pick, each}
 use Rattle.table.specs.Limits.{max_atoms, max_bonds}
 use Rattle.table.specs.Valid.{enough, check_code}
 use Rattle.table.specs.Sound.{sound}
 use Rattle.table.specs.Marks.{none_crowded}
 use Rattle.table.specs.Edits.{unselected_atoms, doubled_bonds}
-use Rattle.table.specs.declared.Check.{Check}
+use Rattle.refusal.specs.declared.Refusal.{Refusal}
 use Rattle.matching.specs.Enumeration.{Reply, is_row, row_call}
 use Rattle.matching.specs.declared.Call.{Call}
 use Rattle.table_graph.specs.Graph.{matching_of}
-use Rattle.kekule_answers.specs.declared.Found.{Found}
-use Rattle.kekule_answers.specs.Answers.{found_of, found_code}
+use Rattle.kekule_answers.specs.Answers.{Found, found_of, found_code}
 
 -- what a call for a matching hands back: 01's number for its answer, and the row as it is then
 pub record CallReply : Type 0 where
@@ -59,7 +58,7 @@ pub record KekulizeReply : Type 0 where
 abbrev pub kekulize_reply : ℕ → List ℤ → List ℤ → KekulizeReply
 kekulize_reply c atoms bonds = record { code = c; atoms = atoms; bonds = bonds }
 
-abbrev pub tables : Check → List ℤ → List ℤ → KekulizeReply
+abbrev pub tables : Result (Unit {0}) Refusal → List ℤ → List ℤ → KekulizeReply
 tables a atoms bonds = kekulize_reply (check_code a) atoms bonds
 
 -- 01, Settling: makes the matching's bonds kind 2 and clears every selected cell; all else stays

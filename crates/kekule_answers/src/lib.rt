@@ -7,36 +7,35 @@ ghost use Rattle.kekule_answers.specs.Answers.{found_of, found_code, is_given, c
 use matching::{Call, MatchingAnswer};
 use refusal::Refusal;
 
-// What the calls for a matching answer.
+// What a call for a matching answers where it refuses nothing.
 #[derive(Clone, Copy)]
-pub enum Found {
+pub enum Handed {
     // The row is the matching asked for.
     Given,
     // None follows.
-    End,
-    Refused(Refusal),
+    Ended,
 }
 
 // The code of an answer: 0 for a matching, 255 for the end, else the refusal's.
-pub fn found_code(f: Found) -> u8
-    ensures { result ≡ found_code f }
+pub fn found_code(found: Result<Handed, Refusal>) -> u8
+    ensures { result ≡ found_code found }
 {
-    match f {
-        Found::Given => 0,
-        Found::End => 255,
-        Found::Refused(r) => refusal::code(r),
+    match found {
+        Ok(Handed::Given) => 0,
+        Ok(Handed::Ended) => 255,
+        Err(refusal) => refusal::code(refusal),
     }
 }
 
 // internal: an answer of the search as an answer of a call.
-pub fn found_of(a: MatchingAnswer) -> Found
+pub fn found_of(a: MatchingAnswer) -> Result<Handed, Refusal>
     ensures { result ≡ found_of a }
 {
     match a {
-        MatchingAnswer::Given => Found::Given,
-        MatchingAnswer::Absent => Found::Refused(Refusal::Unmatchable),
-        MatchingAnswer::Refused => Found::Refused(Refusal::NotMatching),
-        MatchingAnswer::Ended => Found::End,
+        MatchingAnswer::Given => Ok(Handed::Given),
+        MatchingAnswer::Absent => Err(Refusal::Unmatchable),
+        MatchingAnswer::Refused => Err(Refusal::NotMatching),
+        MatchingAnswer::Ended => Ok(Handed::Ended),
     }
 }
 
@@ -48,12 +47,8 @@ pub fn call_of(b: u8) -> Call
 }
 
 // internal: whether an answer is a matching.
-pub fn is_given(f: Found) -> bool
-    ensures { result ≡ is_given f }
+pub fn is_given(found: Result<Handed, Refusal>) -> bool
+    ensures { result ≡ is_given found }
 {
-    match f {
-        Found::Given => true,
-        Found::End => false,
-        Found::Refused(_) => false,
-    }
+    matches!(found, Ok(Handed::Given))
 }

@@ -22,8 +22,7 @@ use Rattle.table_graph.proofs.Graph.{built-bonds, length-first, length-flags}
 use Rattle.matching_forced.specs.Forced.{forced_list}
 use Rattle.matching_forced.specs.Steps.{Roomy, FirstReply}
 use Rattle.matching_forced.proofs.Turns.{most}
-use Rattle.kekule_answers.specs.declared.Found.{Found}
-use Rattle.kekule_answers.specs.Answers.{found_of, found_code}
+use Rattle.kekule_answers.specs.Answers.{Found, found_of, found_code}
 use Rattle.kekule.specs.Kekule.{out, call_reply_of, roomy}
 use Rattle.kekule.proofs.Kekule.{cleared}
 use Rattle.kekule_forced.specs.Forced.{forced_of, ForcedCallReply, forced_call_reply, with_list, roomy_list, first_forced_on}

@@ -10,10 +10,10 @@ ghost use Rattle.table_graph.specs.Graph.{matching_of};
 ghost use Rattle.kekule.specs.Kekule.{call_reply, out, roomy, call_on};
 
 use ids::BondId;
-use kekule_answers::{Found, found_code, found_of};
-use matching::{Call, MatchingAnswer};
+use kekule_answers::{Handed, found_code, found_of};
+use matching::{Call, EndTables, Links, MatchingAnswer};
 use refusal::Refusal;
-use table::{MAX_ATOMS, MAX_BONDS};
+use table::{MAX_ATOMS, MAX_BONDS, Tables};
 
 // The tables and a row of a length are as long as they have to be.
 fn roomy(atoms: &[i32], bonds: &[i32], len: usize) -> bool
@@ -23,52 +23,52 @@ fn roomy(atoms: &[i32], bonds: &[i32], len: usize) -> bool
 }
 
 // The search for one of the two calls, on the graph of valid tables.
-fn search_graph(
-    c: Call,
-    atoms: &[i32],
-    bonds: &[i32],
-    n: usize,
-    m: usize,
-    row: &mut [u8],
-) -> MatchingAnswer
-    requires valid { Valid atoms.now bonds.now n m }
-    requires m_in_bounds { m ≤ length row.old }
-    ensures { reply result row.new ≡ row_call (matching_of atoms.now bonds.now n m) m c row.old }
+fn search_graph(c: Call, tables: Tables, row: &mut [u8]) -> MatchingAnswer
+    requires valid { Valid tables.atoms.now tables.bonds.now tables.n tables.m }
+    requires m_in_bounds { tables.m ≤ length row.old }
+    ensures { reply result row.new ≡ row_call (matching_of tables.entry.atoms.now tables.entry.bonds.now tables.entry.n tables.entry.m) tables.entry.m c row.old }
 {
+    let Tables { n, m, .. } = tables;
     let mut flags = [0u8; MAX_ATOMS];
     let mut ea = [0u16; MAX_BONDS];
     let mut eb = [0u16; MAX_BONDS];
     let mut el = [0u8; MAX_BONDS];
     let mut sums = [0u16; MAX_ATOMS];
-    table_graph::build(
-        atoms, bonds, n, m, &mut flags, &mut ea, &mut eb, &mut el, &mut sums,
-    );
+    table_graph::build(tables, &mut flags, &mut ea, &mut eb, &mut el, &mut sums);
+    let links = Links {
+        ends: EndTables {
+            first: &ea[..m],
+            second: &eb[..m],
+        },
+        elided: &el[..m],
+    };
     match c {
-        Call::First => matching_search::first(&ea[..m], &eb[..m], &el[..m], &mut flags[..n], row),
-        Call::Next => matching_search::next(&ea[..m], &eb[..m], &el[..m], &mut flags[..n], row),
+        Call::First => matching_search::first(links, &mut flags[..n], row),
+        Call::Next => matching_search::next(links, &mut flags[..n], row),
     }
 }
 
 // One of the two calls: refusals 1 and 13, then the search.
-fn call(c: Call, atoms: &[i32], bonds: &[i32], n: usize, m: usize, row: &mut [u8]) -> Found
-    ensures { out result row.new ≡ call_on c atoms.now bonds.now n m row.old }
+fn call(c: Call, tables: Tables, row: &mut [u8]) -> Result<Handed, Refusal>
+    ensures { out result row.new ≡ call_on c tables.entry.atoms.now tables.entry.bonds.now tables.entry.n tables.entry.m row.old }
 {
+    let Tables { atoms, bonds, .. } = tables;
     let len = row.len();
     if !roomy(atoms, bonds, len) {
-        return Found::Refused(Refusal::Short);
+        return Err(Refusal::Short);
     }
-    if !table_validity::sound(atoms, bonds, n, m) {
+    if !table_validity::sound(tables) {
         matching_search::clear(row, BondId(0));
-        return Found::Refused(Refusal::Invalid);
+        return Err(Refusal::Invalid);
     }
-    found_of(search_graph(c, atoms, bonds, n, m, row))
+    found_of(search_graph(c, tables, row))
 }
 
 // One of the two calls, answered by its code.
-fn ask(c: Call, atoms: &[i32], bonds: &[i32], n: usize, m: usize, row: &mut [u8]) -> u32
-    ensures { call_reply result row.new ≡ call_on c atoms.now bonds.now n m row.old }
+fn ask(c: Call, tables: Tables, row: &mut [u8]) -> u32
+    ensures { call_reply result row.new ≡ call_on c tables.entry.atoms.now tables.entry.bonds.now tables.entry.n tables.entry.m row.old }
 {
-    found_code(call(c, atoms, bonds, n, m, row)) as u32
+    found_code(call(c, tables, row)) as u32
 }
 
 // internal: the first matching, into the row: 0, 1, 13 or 11.
@@ -82,7 +82,7 @@ pub extern "C" fn balsa_plain_first(
 ) -> u32
     ensures { call_reply result row.new ≡ call_on Call.First atoms.now bonds.now n m row.old }
 {
-    ask(Call::First, atoms, bonds, n, m, row)
+    ask(Call::First, Tables { atoms, bonds, n, m }, row)
 }
 
 // internal: the next matching, into the row: 0, 255 for the end, 1, 13 or 12.
@@ -96,5 +96,5 @@ pub extern "C" fn balsa_plain_next(
 ) -> u32
     ensures { call_reply result row.new ≡ call_on Call.Next atoms.now bonds.now n m row.old }
 {
-    ask(Call::Next, atoms, bonds, n, m, row)
+    ask(Call::Next, Tables { atoms, bonds, n, m }, row)
 }

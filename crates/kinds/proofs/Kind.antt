@@ -1,12 +1,14 @@
 -- Laws of the kinds of bonds. Assumes nothing.
-use mathlib.Core.Path.{◌≡◌, refl}
+use mathlib.Core.Path.{◌≡◌, refl, sym, ap, ◌∙◌}
+use Rattle.std.specs.Option.{unwrap_or}
+use Rattle.std.specs.Prelude.{Option, Some, None}
 use mathlib.Core.Bool.{Bool, true, false, ◌&&◌, ◌||◌, not}
 use Prim.Native.Nat.{ℕ, ◌≤◌}
 use native.Mathlib.Omega.{arith}
 use lib.Dec.{eqb, leb}
-use borrow.Author.Tests.{eqb-true, leb-true}
+use borrow.Author.Tests.{eqb-true, eqb-false, leb-true}
 use Rattle.loops.specs.Loop.{pick}
-use Rattle.kinds.specs.Kind.{elided, single, double, triple, up, down, max_kind, is_mark, mark_of, order, symbol_kind, turned, meet, clash}
+use Rattle.kinds.specs.Kind.{elided, single, double, triple, up, down, max_kind, is_mark, mark_of, given, order, symbol_kind, turned, meet, clash}
 
 -- a bond adds at most 3
 pub order_small : (k : ℕ) → order k ≤ 3
@@ -31,6 +33,29 @@ symbol-small b = go (eqb b 45) (eqb b 61) (eqb b 35) (eqb b 47) (eqb b 92)
     go false false false true w = omega arith
     go false false false false true = omega arith
     go false false false false false = omega arith
+
+-- what an Option says of the number that it stands for
+module _ {r : Option ℕ} {k : ℕ} (e : r ≡ given k) where
+  pub none-given : r ≡ None → k ≡ 0
+  none-given n = go (eqb k 0) refl (sym e ∙ n)
+    where
+      go : (y : Bool) → eqb k 0 ≡ y → pick y None (Some k) ≡ None → k ≡ 0
+      go true f h = eqb-true k 0 f
+      go false f h = absurd (cc)
+
+  pub some-given : {x : ℕ} → r ≡ Some x → (x ≡ k) × (k ≡ 0 → ⊥)
+  some-given {x} n = go (eqb k 0) refl (sym e ∙ n)
+    where
+      go : (y : Bool) → eqb k 0 ≡ y → pick y None (Some k) ≡ Some x → (x ≡ k) × (k ≡ 0 → ⊥)
+      go true f h = absurd (cc)
+      go false f h = (cc, eqb-false k 0 f)
+
+pub unwrapped : {r : Option ℕ} (k : ℕ) → r ≡ given k → unwrap_or r 0 ≡ k
+unwrapped k e = ap (λ (o : Option ℕ). unwrap_or o 0) e ∙ go (eqb k 0) refl
+  where
+    go : (y : Bool) → eqb k 0 ≡ y → unwrap_or (pick y None (Some k)) 0 ≡ k
+    go true h = sym (eqb-true k 0 h)
+    go false h = refl
 
 -- a kind is a mark exactly if it has one
 module _ (k : ℕ) where

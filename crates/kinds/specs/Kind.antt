@@ -1,5 +1,5 @@
 -- 01, The tables, and 02, P5: the kinds of bonds by name, "kind (0 elided, 1, 2, 3)" and "`/` and `\` as kinds 4 and 5"; what each adds to a bond sum, its symbol, its mark seen from the other end, and how those at the two ends of a bridge meet
-use Rattle.std.specs.Prelude.{ℕ, Bool, ◌&&◌, ◌||◌, not, eqb, leb}
+use Rattle.std.specs.Prelude.{ℕ, Bool, ◌&&◌, ◌||◌, not, eqb, leb, Option, Some, None}
 use Rattle.loops.specs.Loop.{pick}
 
 abbrev pub elided : ℕ
@@ -32,6 +32,10 @@ is_mark k = eqb k up || eqb k down
 -- the mark of a kind; elided where it is none
 unfoldable pub mark_of : ℕ → ℕ
 mark_of k = pick (is_mark k) k elided
+
+-- a number that is there, where 0 stands for none
+abbrev pub given : ℕ → Option ℕ
+given k = pick (eqb k 0) None (Some k)
 
 -- "The bond sum of an atom adds the kinds of its bonds, an elided bond counting 1"; marks are "of order 1"; 0 where there is no such kind
 unfoldable pub order : ℕ → ℕ

@@ -7,8 +7,10 @@ use native.Mathlib.Omega.{arith}
 use lib.Dec.{eqb, leb, ltb}
 use borrow.Author.Tests.{ltb-true, ltb-false, leb-true, le-leb, eqb-true, eqb-false, not-false}
 use Rattle.lease.specs.declared.Lease.{Lease}
-use Rattle.lease.specs.declared.Release.TheVariants.{Yes, Withdrawn, Undecided, Stale, Halted}
-use Rattle.lease.specs.Lease.{heard_of, stored_of, fresh_of, release_of}
+use Rattle.std.specs.Prelude.{Err}
+use Rattle.lease.specs.declared.Release.{Release}
+use Rattle.lease.specs.declared.Withheld.TheVariants.{Withdrawn, Undecided, Stale, Halted}
+use Rattle.lease.specs.Lease.{heard_of, stored_of, fresh_of, yes, release_of}
 use Rattle.loops.specs.Loop.{pick}
 use Rattle.lease.proofs.Laws.{heard-halted, heard-back, heard-below, heard-on, stored-halted, stored-gap, stored_next, told-yes, by-age}
 use Rattle.lease.specs.History.{Event, heard, stored, failed, after, last_stored, Hearing, never, at, last_heard, head_of, broken, is_stored, Released}
@@ -76,12 +78,14 @@ record Needs (a c d : Bool) (h g x y : ℕ) : Type 0 where
   held : x ≡ h
   age : y ≡ g
 
-needed : (a b c d : Bool) (h g x y : ℕ) → pick a Halted (pick b Withdrawn (pick c (pick d (Yes h g) (Stale g)) Undecided)) ≡ Yes x y → Needs a c d h g x y
+needed : (a b c d : Bool) (h g x y : ℕ) → pick a (Err Halted) (pick b (Err Withdrawn) (pick c (pick d (yes h g) (Err (Stale g))) (Err Undecided))) ≡ yes x y → Needs a c d h g x y
 needed true b c d h g x y e = absurd (let z : ◌≡◌ {A = ℕ} 0 1 = cc in omega arith)
 needed false true c d h g x y e = absurd (let z : ◌≡◌ {A = ℕ} 0 1 = cc in omega arith)
 needed false false false d h g x y e = absurd (let z : ◌≡◌ {A = ℕ} 0 1 = cc in omega arith)
 needed false false true false h g x y e = absurd (let z : ◌≡◌ {A = ℕ} 0 1 = cc in omega arith)
-needed false false true true h g x y e = record { runs = refl; clear = refl; fresh = refl; held = cc; age = cc }
+needed false false true true h g x y e =
+    let z : ◌≡◌ {A = Release} (record { held = x; age = y }) (record { held = h; age = g }) = cc in
+    record { runs = refl; clear = refl; fresh = refl; held = ap (λ (r : Release). r.held) z; age = ap (λ (r : Release). r.age) z }
 
 -- what a fresh lease needs of the numbers
 record Fresh (s : Lease) (now limit : ℕ) : Type 0 where
@@ -103,12 +107,12 @@ fresh-needs s now limit e =
     let p : (eqb s.phase 1 ≡ true) × (leb s.head s.held ≡ true) × (leb s.asked now ≡ true) × (leb (now - s.asked) limit ≡ true) = all-four _ _ _ _ e in
     record { heard = eqb-true _ _ p.0; whole = leb-true _ _ p.1; past = leb-true _ _ p.2; young = leb-true _ _ p.3 }
 
-yes-needs : (s : Lease) (now limit verdict held age : ℕ) → release_of s now limit verdict ≡ Yes held age → Needs (ltb 1 s.phase) (eqb verdict 0) (fresh_of s now limit) s.held (now - s.asked) held age
+yes-needs : (s : Lease) (now limit verdict held age : ℕ) → release_of s now limit verdict ≡ yes held age → Needs (ltb 1 s.phase) (eqb verdict 0) (fresh_of s now limit) s.held (now - s.asked) held age
 unfolding release_of
 yes-needs s now limit verdict held age e = needed (ltb 1 s.phase) (eqb verdict 1) (eqb verdict 0) (fresh_of s now limit) s.held (now - s.asked) held age e
 
 -- a yes tells of the whole history: nothing withdrawn or undecided, no fault, gap or head that went back, everything up to the last head held, and that asked for within the limit
-pub yes-released : (start : ℕ) (events : List Event) (now limit verdict held age : ℕ) → release_of (after start events) now limit verdict ≡ Yes held age → Released start events now limit verdict held age
+pub yes-released : (start : ℕ) (events : List Event) (now limit verdict held age : ℕ) → release_of (after start events) now limit verdict ≡ yes held age → Released start events now limit verdict held age
 yes-released start events now limit verdict held age e =
     let s : Lease = after start events in
     let k : Needs (ltb 1 s.phase) (eqb verdict 0) (fresh_of s now limit) s.held (now - s.asked) held age = yes-needs s now limit verdict held age e in
@@ -153,7 +157,7 @@ all-stored start (failed ∷ past) e q l u = absurd (true≢false e)
 -- the clause: where the last head told covers all that was committed before it was asked for, a yes means that every withdrawal committed longer ago than the limit is stored
 pub missed-is-younger : (start : ℕ) (events : List Event) (now limit verdict held age : ℕ) (committed : ℕ → ℕ)
     → ((asked head : ℕ) → last_heard events ≡ at asked head → (q : ℕ) → committed q < asked → q ≤ head)
-    → release_of (after start events) now limit verdict ≡ Yes held age
+    → release_of (after start events) now limit verdict ≡ yes held age
     → (q : ℕ) → start < q → committed q + limit < now → is_stored q events ≡ true
 missed-is-younger start events now limit verdict held age committed honest e q l c =
     let r : Released start events now limit verdict held age = yes-released start events now limit verdict held age e in
@@ -161,7 +165,7 @@ missed-is-younger start events now limit verdict held age committed honest e q l
     all-stored start events r.unbroken q l (omega (arith, r.whole, r.last, m))
 
 -- and the other way round: a history that shows all of it gets its yes
-pub released-yes : (start : ℕ) (events : List Event) (now limit verdict held age : ℕ) → Released start events now limit verdict held age → release_of (after start events) now limit verdict ≡ Yes held age
+pub released-yes : (start : ℕ) (events : List Event) (now limit verdict held age : ℕ) → Released start events now limit verdict held age → release_of (after start events) now limit verdict ≡ yes held age
 released-yes start events now limit verdict held age r =
     let s : Lease = after start events in
     let u : s ≡ shown start events = unbroken-shown start events r.unbroken in

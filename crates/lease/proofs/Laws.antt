@@ -5,8 +5,9 @@ use Prim.Native.Nat.{ℕ, ◌+◌, ◌-◌, ◌≤◌, ◌<◌}
 use lib.Dec.{leb}
 use borrow.Author.Tests.{lt-ltb, le-ltb, le-leb, lt-leb, eq-eqb, ne_eqb}
 use Rattle.lease.specs.declared.Lease.{Lease}
-use Rattle.lease.specs.declared.Release.TheVariants.{Yes, Withdrawn, Undecided, Stale, Halted}
-use Rattle.lease.specs.Lease.{halted, heard_of, stored_of, fresh_of, release_of}
+use Rattle.std.specs.Prelude.{Err}
+use Rattle.lease.specs.declared.Withheld.TheVariants.{Withdrawn, Undecided, Stale, Halted}
+use Rattle.lease.specs.Lease.{halted, heard_of, stored_of, fresh_of, yes, release_of}
 
 module _ (s : Lease) (asked head : ℕ) where
   pub heard-halted : 1 < s.phase → halted s ≡ heard_of s asked head
@@ -56,22 +57,22 @@ module _ (s : Lease) (now limit : ℕ) where
   by-age p q r = simp (eq-eqb s.phase 1 p, le-leb s.head s.held q, le-leb s.asked now r)
 
 module _ (s : Lease) (now limit verdict : ℕ) where
-  pub told-halted : 1 < s.phase → Halted ≡ release_of s now limit verdict
+  pub told-halted : 1 < s.phase → Err Halted ≡ release_of s now limit verdict
   unfolding release_of
   told-halted p = simp (lt-ltb 1 s.phase p)
 
-  pub told-withdrawn : s.phase ≤ 1 → verdict ≡ 1 → Withdrawn ≡ release_of s now limit verdict
+  pub told-withdrawn : s.phase ≤ 1 → verdict ≡ 1 → Err Withdrawn ≡ release_of s now limit verdict
   unfolding release_of
   told-withdrawn p q = simp (le-ltb 1 s.phase p, eq-eqb verdict 1 q)
 
-  pub told-undecided : s.phase ≤ 1 → (verdict ≡ 1 → ⊥) → (verdict ≡ 0 → ⊥) → Undecided ≡ release_of s now limit verdict
+  pub told-undecided : s.phase ≤ 1 → (verdict ≡ 1 → ⊥) → (verdict ≡ 0 → ⊥) → Err Undecided ≡ release_of s now limit verdict
   unfolding release_of
   told-undecided p q r = simp (le-ltb 1 s.phase p, ne_eqb verdict 1 q, ne_eqb verdict 0 r)
 
-  pub told-yes : s.phase ≤ 1 → (verdict ≡ 1 → ⊥) → verdict ≡ 0 → fresh_of s now limit ≡ true → Yes s.held (now - s.asked) ≡ release_of s now limit verdict
+  pub told-yes : s.phase ≤ 1 → (verdict ≡ 1 → ⊥) → verdict ≡ 0 → fresh_of s now limit ≡ true → yes s.held (now - s.asked) ≡ release_of s now limit verdict
   unfolding release_of
   told-yes p q r f = simp (le-ltb 1 s.phase p, ne_eqb verdict 1 q, eq-eqb verdict 0 r, f)
 
-  pub told-stale : s.phase ≤ 1 → (verdict ≡ 1 → ⊥) → verdict ≡ 0 → fresh_of s now limit ≡ false → Stale (now - s.asked) ≡ release_of s now limit verdict
+  pub told-stale : s.phase ≤ 1 → (verdict ≡ 1 → ⊥) → verdict ≡ 0 → fresh_of s now limit ≡ false → Err (Stale (now - s.asked)) ≡ release_of s now limit verdict
   unfolding release_of
   told-stale p q r f = simp (le-ltb 1 s.phase p, ne_eqb verdict 1 q, eq-eqb verdict 0 r, f)

@@ -1,9 +1,10 @@
 -- The lease of a follower: what each event makes of it, and when it says yes
-use Rattle.std.specs.Prelude.{ℕ, ◌+◌, ◌-◌, Bool, ◌&&◌, ◌||◌, eqb, leb, ltb}
+use Rattle.std.specs.Prelude.{ℕ, ◌+◌, ◌-◌, Bool, ◌&&◌, ◌||◌, eqb, leb, ltb, Result, Ok, Err}
 use Rattle.loops.specs.Loop.{pick}
 use Rattle.lease.specs.declared.Lease.{Lease}
 use Rattle.lease.specs.declared.Release.{Release}
-use Rattle.lease.specs.declared.Release.TheVariants.{Yes, Withdrawn, Undecided, Stale, Halted}
+use Rattle.lease.specs.declared.Withheld.{Withheld}
+use Rattle.lease.specs.declared.Withheld.TheVariants.{Withdrawn, Undecided, Stale, Halted}
 
 -- everything up to a number is held, and nothing was heard
 abbrev pub begun : ℕ → Lease
@@ -32,10 +33,14 @@ stored_of s number =
 unfoldable pub fresh_of : Lease → ℕ → ℕ → Bool
 fresh_of s now limit = eqb s.phase 1 && (leb s.head s.held && (leb s.asked now && leb (now - s.asked) limit))
 
+-- a yes with its two numbers
+abbrev pub yes : ℕ → ℕ → Result Release Withheld
+yes held age = Ok (record { held = held; age = age })
+
 -- the answer, by the verdict of all that is held: 0 clear, 1 withdrawn, any other undecided
-unfoldable pub release_of : Lease → ℕ → ℕ → ℕ → Release
+unfoldable pub release_of : Lease → ℕ → ℕ → ℕ → Result Release Withheld
 release_of s now limit verdict =
-    pick (is_halted s) Halted
-    (pick (eqb verdict 1) Withdrawn
-    (pick (eqb verdict 0) (pick (fresh_of s now limit) (Yes s.held (now - s.asked)) (Stale (now - s.asked)))
-    Undecided))
+    pick (is_halted s) (Err Halted)
+    (pick (eqb verdict 1) (Err Withdrawn)
+    (pick (eqb verdict 0) (pick (fresh_of s now limit) (yes s.held (now - s.asked)) (Err (Stale (now - s.asked))))
+    (Err Undecided)))

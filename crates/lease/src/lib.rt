@@ -9,6 +9,7 @@ ghost use Rattle.lease.specs.Lease.{begun, halted, heard_of, stored_of, fresh_of
 #[derive(Clone, Copy)]
 pub struct Lease {
     // 0: no head was heard; 1: one was; any other: halted for good.
+    // Stays: a number, as C hands the struct over by value, and any number is a phase.
     pub phase: u32,
     // Every withdrawal up to this number is stored.
     pub held: u64,
@@ -17,11 +18,16 @@ pub struct Lease {
     pub asked: u64,
 }
 
-// The answer to "may this be released".
-#[derive(Clone, Copy)]
-pub enum Release {
-    // Everything up to the number is held, and the head was asked for so long ago.
-    Yes { held: u64, age: u64 },
+// A yes to "may this be released": everything up to the number is held, and the head was asked for so long ago.
+#[derive(Clone, Copy, Debug, PartialEq, Eq)]
+pub struct Release {
+    pub held: u64,
+    pub age: u64,
+}
+
+// Why it may not.
+#[derive(Clone, Copy, Debug, PartialEq, Eq)]
+pub enum Withheld {
     Withdrawn,
     Undecided,
     // No head that is young enough and wholly held.
@@ -46,12 +52,7 @@ impl Lease {
     pub fn halt(self) -> Lease
         ensures { result ≡ halted self }
     {
-        Lease {
-            phase: 2,
-            held: self.held,
-            head: self.head,
-            asked: self.asked,
-        }
+        Lease { phase: 2, ..self }
     }
 
     // A head was heard, asked for at a time. One below an earlier head or below what is held halts.
@@ -87,10 +88,8 @@ impl Lease {
         }
         if number - self.held == 1 {
             Lease {
-                phase: self.phase,
                 held: number,
-                head: self.head,
-                asked: self.asked,
+                ..self
             }
         } else {
             self.halt()
@@ -101,11 +100,7 @@ impl Lease {
     fn age(self, now: u64) -> u64
         ensures { result ≡ now - self.asked }
     {
-        if self.asked <= now {
-            now - self.asked
-        } else {
-            0
-        }
+        now.saturating_sub(self.asked)
     }
 
     // Whether the newest head is wholly held, and was asked for at most the limit ago.
@@ -125,26 +120,27 @@ impl Lease {
     }
 
     // Whether a text may be released now, by the verdict of all that is held on it: 0 clear, 1 withdrawn, any other undecided.
-    pub fn release(self, now: u64, limit: u64, verdict: u32) -> Release
+    // Stays: a number, as each is a verdict; an enum would ask more of a caller.
+    pub fn release(self, now: u64, limit: u64, verdict: u32) -> Result<Release, Withheld>
         ensures { result ≡ release_of self now limit verdict }
     {
         if 1 < self.phase {
-            return Release::Halted;
+            return Err(Withheld::Halted);
         }
         if verdict == 1 {
-            return Release::Withdrawn;
+            return Err(Withheld::Withdrawn);
         }
         if verdict != 0 {
-            return Release::Undecided;
+            return Err(Withheld::Undecided);
         }
         let age = self.age(now);
         if self.fresh(now, limit) {
-            Release::Yes {
+            Ok(Release {
                 held: self.held,
                 age,
-            }
+            })
         } else {
-            Release::Stale { age }
+            Err(Withheld::Stale { age })
         }
     }
 }

@@ -16,3 +16,17 @@ pub enum Call {
     First,
     Next,
 }
+
+// The ends of the bonds, by number: the first of each, and the second.
+#[derive(Clone, Copy)]
+pub struct EndTables<'a> {
+    pub first: &'a [u16],
+    pub second: &'a [u16],
+}
+
+// The bonds as a search meets them: their ends, and 1 for each that can be chosen.
+#[derive(Clone, Copy)]
+pub struct Links<'a> {
+    pub ends: EndTables<'a>,
+    pub elided: &'a [u8],
+}

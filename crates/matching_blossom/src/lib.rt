@@ -6,9 +6,8 @@
 // to the second, and 2 j + 1 back. `head` has 1 more than the first half at each atom, `link` that of the next; 0 ends a list.
 #![tactic(auto)]
 
-ghost use Rattle.std.specs.Prelude.{◌≤◌};
-
 use ids::{AtomId, BondId, MAX_ATOMS, MAX_BONDS};
+use matching::Links;
 
 // No atom.
 const NONE: usize = MAX_ATOMS;
@@ -21,15 +20,11 @@ pub const LABELS: usize = MAX_ATOMS + 2;
 // internal: as many halves as bonds have ends.
 pub const HALVES: usize = 2 * MAX_BONDS;
 
-fn wide(x: u16) -> usize {
-    x as usize
-}
-
 // What a table holds for the atom v, as an atom; none past its end.
 fn get(table: &[u16], v: AtomId) -> AtomId {
     let at = v.0;
     if at < table.len() {
-        AtomId(wide(table[at]))
+        AtomId(usize::from(table[at]))
     } else {
         AtomId(NONE)
     }
@@ -54,49 +49,29 @@ fn set(marks: &mut [u8], v: AtomId, x: u8) {
 // Whether the atom v is marked with 1.
 fn marked(marks: &[u8], v: AtomId) -> bool {
     let at = v.0;
-    if at < marks.len() {
-        marks[at] == 1
-    } else {
-        false
-    }
+    at < marks.len() && marks[at] == 1
 }
 
 // The end of the bond k in a table of ends; none past its end.
 fn end_of(ends: &[u16], k: BondId) -> AtomId {
-    let at = k.0;
-    if at < ends.len() {
-        AtomId(wide(ends[at]))
-    } else {
-        AtomId(NONE)
-    }
+    get(ends, AtomId(k.0))
 }
 
 // The bond k can be chosen.
-fn usable(ea: &[u16], eb: &[u16], el: &[u8], need: &[u8], k: BondId) -> bool {
+fn usable(links: Links, need: &[u8], k: BondId) -> bool {
     let at = k.0;
-    if at < el.len() {
-        if el[at] == 1 {
-            return marked(need, end_of(ea, k)) && marked(need, end_of(eb, k));
-        }
-    }
-    false
-}
-
-// The smaller of two numbers.
-fn fewer(x: usize, y: usize) -> usize
-    ensures { result ≤ y }
-{
-    if x < y { x } else { y }
+    at < links.elided.len()
+        && links.elided[at] == 1
+        && marked(need, end_of(links.ends.first, k))
+        && marked(need, end_of(links.ends.second, k))
 }
 
 // Puts the half h in front of the list of the atom v.
 fn hang(head: &mut [u16; MAX_ATOMS], link: &mut [u16; HALVES], v: AtomId, h: usize) {
     let at = v.0;
-    if at < MAX_ATOMS {
-        if h < HALVES {
-            link[h] = head[at];
-            head[at] = (h + 1) as u16;
-        }
+    if at < MAX_ATOMS && h < HALVES {
+        link[h] = head[at];
+        head[at] = (h + 1) as u16;
     }
 }
 
@@ -112,9 +87,7 @@ fn confirm(mate: &[u16], ok: &mut [u8], a: AtomId, b: AtomId) {
 
 // Lists the bond k if it is usable, and marks its ends if they are mates.
 fn gather_bond(
-    ea: &[u16],
-    eb: &[u16],
-    el: &[u8],
+    links: Links,
     need: &[u8],
     k: BondId,
     mate: &[u16],
@@ -123,9 +96,9 @@ fn gather_bond(
     link: &mut [u16; HALVES],
 ) {
     let at = k.0;
-    if at < MAX_BONDS && usable(ea, eb, el, need, k) {
-        let a = end_of(ea, k);
-        let b = end_of(eb, k);
+    if at < MAX_BONDS && usable(links, need, k) {
+        let a = end_of(links.ends.first, k);
+        let b = end_of(links.ends.second, k);
         hang(head, link, a, 2 * at);
         hang(head, link, b, 2 * at + 1);
         confirm(mate, ok, a, b);
@@ -144,9 +117,7 @@ fn tidy(mate: &mut [u16], ok: &[u8]) {
 
 // Lists the usable bonds from k on, and forgets mates that none of them joins; `ok` comes with no mark.
 fn gather(
-    ea: &[u16],
-    eb: &[u16],
-    el: &[u8],
+    links: Links,
     need: &[u8],
     k: BondId,
     mate: &mut [u16],
@@ -155,9 +126,9 @@ fn gather(
     link: &mut [u16; HALVES],
 ) {
     let from = k.0;
-    let m = el.len();
+    let m = links.elided.len();
     for j in from..m {
-        gather_bond(ea, eb, el, need, BondId(j), mate, ok, head, link);
+        gather_bond(links, need, BondId(j), mate, ok, head, link);
     }
     tidy(mate, ok);
 }
@@ -165,20 +136,24 @@ fn gather(
 // One more than the first half at the atom v, or 0.
 fn first_half(head: &[u16; MAX_ATOMS], v: AtomId) -> usize {
     let at = v.0;
-    if at < MAX_ATOMS { wide(head[at]) } else { 0 }
+    if at < MAX_ATOMS {
+        usize::from(head[at])
+    } else {
+        0
+    }
 }
 
 // One more than the half after h at its atom, or 0.
 fn next_half(link: &[u16; HALVES], h: usize) -> usize {
-    if h < HALVES { wide(link[h]) } else { 0 }
+    if h < HALVES { usize::from(link[h]) } else { 0 }
 }
 
 // The atom to which the half h leads.
-fn far(ea: &[u16], eb: &[u16], h: usize) -> AtomId {
+fn far(links: Links, h: usize) -> AtomId {
     if h % 2 == 0 {
-        end_of(eb, BondId(h / 2))
+        end_of(links.ends.second, BondId(h / 2))
     } else {
-        end_of(ea, BondId(h / 2))
+        end_of(links.ends.first, BondId(h / 2))
     }
 }
 
@@ -333,8 +308,7 @@ fn visit(
 
 // All bonds of the outer atom v: the end of an augmenting path, or none.
 fn spread(
-    ea: &[u16],
-    eb: &[u16],
+    links: Links,
     head: &[u16; MAX_ATOMS],
     link: &[u16; HALVES],
     mate: &[u16],
@@ -351,7 +325,7 @@ fn spread(
             break;
         }
         let at = h - 1;
-        let end = visit(mate, up, base, outer, queue, count, v, far(ea, eb, at));
+        let end = visit(mate, up, base, outer, queue, count, v, far(links, at));
         if end.0 != NONE {
             return end;
         }
@@ -372,8 +346,7 @@ fn reset(up: &mut [u16], base: &mut [u16], outer: &mut [u8]) {
 
 // A tree from the atom root, which has no mate: the end of an augmenting path, or none.
 fn grow(
-    ea: &[u16],
-    eb: &[u16],
+    links: Links,
     head: &[u16; MAX_ATOMS],
     link: &[u16; HALVES],
     mate: &[u16],
@@ -390,9 +363,9 @@ fn grow(
         if count <= at {
             break;
         }
-        let v = AtomId(wide(queue[at]));
+        let v = AtomId(usize::from(queue[at]));
         let end = spread(
-            ea, eb, head, link, mate, up, base, outer, &mut queue, &mut count, v,
+            links, head, link, mate, up, base, outer, &mut queue, &mut count, v,
         );
         if end.0 != NONE {
             return end;
@@ -428,7 +401,7 @@ fn label_of(up: &[u16], base: &[u16], outer: &[u8], v: AtomId) -> usize {
 
 // The labels of the tree.
 fn label(up: &[u16], base: &[u16], outer: &[u8], lab: &mut [usize; MAX_ATOMS]) {
-    let n = fewer(base.len(), MAX_ATOMS);
+    let n = base.len().min(MAX_ATOMS);
     for v in 0..n {
         lab[v] = label_of(up, base, outer, AtomId(v));
     }
@@ -436,8 +409,7 @@ fn label(up: &[u16], base: &[u16], outer: &[u8], lab: &mut [usize; MAX_ATOMS]) {
 
 // Gives the atom v a mate if it has none and needs one; false, with its tree, where it stays over.
 fn pair(
-    ea: &[u16],
-    eb: &[u16],
+    links: Links,
     need: &[u8],
     head: &[u16; MAX_ATOMS],
     link: &[u16; HALVES],
@@ -451,7 +423,7 @@ fn pair(
     if m.0 != NONE || !marked(need, v) {
         return true;
     }
-    let end = grow(ea, eb, head, link, mate, up, base, outer, v);
+    let end = grow(links, head, link, mate, up, base, outer, v);
     if end.0 == NONE {
         return false;
     }
@@ -461,8 +433,7 @@ fn pair(
 
 // Gives every atom that needs one a mate; false, with the labels of its tree, where an atom stays over.
 fn pair_all(
-    ea: &[u16],
-    eb: &[u16],
+    links: Links,
     need: &[u8],
     head: &[u16; MAX_ATOMS],
     link: &[u16; HALVES],
@@ -474,7 +445,7 @@ fn pair_all(
 ) -> bool {
     let n = base.len();
     for v in 0..n {
-        if !pair(ea, eb, need, head, link, mate, up, base, outer, AtomId(v)) {
+        if !pair(links, need, head, link, mate, up, base, outer, AtomId(v)) {
             label(up, base, outer, lab);
             return false;
         }
@@ -485,35 +456,22 @@ fn pair_all(
 // internal: looks for a reason why the bonds from k on have no matching, and hands back whether the labels should be one.
 // The mates are kept from call to call, so that a call after a small change is quick.
 pub fn propose(
-    ea: &[u16],
-    eb: &[u16],
-    el: &[u8],
+    links: Links,
     need: &[u8],
     k: BondId,
     mate: &mut [u16; MAX_ATOMS],
     lab: &mut [usize; MAX_ATOMS],
 ) -> bool {
-    let n = fewer(need.len(), MAX_ATOMS);
+    let n = need.len().min(MAX_ATOMS);
     let mut head = [0u16; MAX_ATOMS];
     let mut link = [0u16; HALVES];
     let mut ok = [0u8; MAX_ATOMS];
-    gather(
-        ea,
-        eb,
-        el,
-        need,
-        k,
-        mate,
-        &mut ok[..n],
-        &mut head,
-        &mut link,
-    );
+    gather(links, need, k, mate, &mut ok[..n], &mut head, &mut link);
     let mut up = [EMPTY; MAX_ATOMS];
     let mut base = [EMPTY; MAX_ATOMS];
     let mut outer = [0u8; MAX_ATOMS];
     !pair_all(
-        ea,
-        eb,
+        links,
         need,
         &head,
         &link,

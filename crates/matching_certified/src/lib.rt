@@ -11,6 +11,7 @@ ghost use Rattle.matching.specs.Model.{Shape, BondTables, Searched, Ends, all_fr
 ghost use Rattle.matching.specs.Cut.{cnt, odds, fine, all_fine, flips, marks};
 
 use ids::{AtomId, BondId, MAX_ATOMS};
+use matching::{EndTables, Links};
 use matching_blossom::{EMPTY, LABELS, OUTSIDE};
 
 // 1 for an atom v without a partner in the cut, else 0.
@@ -34,11 +35,9 @@ fn cut_size(need: &[u8], lab: &[usize]) -> usize
     ensures { result ≡ cnt need.now lab.now 0 }
 {
     let mut n: usize = 0;
-    let mut v: usize = 0;
-    while v < need.len() {
+    for v in 0..need.len() {
         let x = in_cut(need, lab, AtomId(v));
         n = n + x;
-        v += 1;
     }
     n
 }
@@ -62,10 +61,8 @@ fn parities(need: &[u8], lab: &[usize], odd: &mut [bool])
     requires { length need.now ≤ length lab.now }
     ensures { odd.new ≡ run (flips need.now lab.now) 0 (length need.now) odd.old }
 {
-    let mut v: usize = 0;
-    while v < need.len() {
+    for v in 0..need.len() {
         flip(need, lab, odd, AtomId(v));
-        v += 1;
     }
 }
 
@@ -80,22 +77,20 @@ fn odd_labels(odd: &[bool]) -> usize
     ensures { result ≡ marks odd.now (length odd.now - 1) }
 {
     let mut n: usize = 0;
-    let mut i: usize = 1;
-    while i < odd.len() {
+    for i in 1..odd.len() {
         let x = one(odd[i]);
         n = n + x;
-        i += 1;
     }
     n
 }
 
 // The bond k has an end in the cut, or joins two atoms of one label.
-fn is_fine(ea: &[u16], eb: &[u16], lab: &[usize], k: BondId) -> bool
-    requires { Ends ea.now eb.now lab.now k.0 }
-    ensures { result ≡ fine lab.now (table_bond ea.now eb.now [] k.0) }
+fn is_fine(ends: EndTables, lab: &[usize], k: BondId) -> bool
+    requires { Ends ends.first.now ends.second.now lab.now k.0 }
+    ensures { result ≡ fine lab.now (table_bond ends.entry.first.now ends.entry.second.now [] k.0) }
 {
-    let first = matching_search::end_of(ea, k);
-    let second = matching_search::end_of(eb, k);
+    let first = matching_search::end_of(ends.first, k);
+    let second = matching_search::end_of(ends.second, k);
     let a = first.0;
     let b = second.0;
     let la = lab[a];
@@ -104,42 +99,40 @@ fn is_fine(ea: &[u16], eb: &[u16], lab: &[usize], k: BondId) -> bool
 }
 
 // The bond k is fine, or cannot be chosen.
-fn passes(ea: &[u16], eb: &[u16], el: &[u8], need: &[u8], lab: &[usize], k: BondId) -> bool
-    requires ends { Ends ea.now eb.now need.now k.0 }
-    requires k_in_bounds { (k.0 < length el.now) × (length need.now ≤ length lab.now) }
-    ensures { result ≡ (not (free_at ea.now eb.now el.now need.now k.0) || fine lab.now (table_bond ea.now eb.now el.now k.0)) }
+fn passes(links: Links, need: &[u8], lab: &[usize], k: BondId) -> bool
+    requires ends { Ends links.ends.first.now links.ends.second.now need.now k.0 }
+    requires k_in_bounds { (k.0 < length links.elided.now) × (length need.now ≤ length lab.now) }
+    ensures { result ≡ (not (free_at links.entry.ends.first.now links.entry.ends.second.now links.entry.elided.now need.now k.0) || fine lab.now (table_bond links.entry.ends.first.now links.entry.ends.second.now links.entry.elided.now k.0)) }
 {
-    if matching_search::choosable(ea, eb, el, need, k) {
-        return is_fine(ea, eb, lab, k);
+    if matching_search::choosable(links, need, k) {
+        return is_fine(links.ends, lab, k);
     }
     true
 }
 
 // All bonds from k on pass.
-fn all_fine(ea: &[u16], eb: &[u16], el: &[u8], need: &[u8], lab: &[usize], k: BondId) -> bool
-    requires bond_tables { BondTables ea.now eb.now el.now need.now k.0 }
+fn all_fine(links: Links, need: &[u8], lab: &[usize], k: BondId) -> bool
+    requires bond_tables { BondTables links.ends.first.now links.ends.second.now links.elided.now need.now k.0 }
     requires need_in_bounds { length need.now ≤ length lab.now }
-    ensures { result ≡ all_fine need.now lab.now (bonds_from ea.now eb.now el.now k.0) }
+    ensures { result ≡ all_fine need.now lab.now (bonds_from links.entry.ends.first.now links.entry.ends.second.now links.entry.elided.now k.0) }
 {
-    let mut j = k.0;
-    while j < ea.len() {
-        if !passes(ea, eb, el, need, lab, BondId(j)) {
+    for j in k.0..links.ends.first.len() {
+        if !passes(links, need, lab, BondId(j)) {
             return false;
         }
-        j += 1;
     }
     true
 }
 
 // The labels show that the bonds from k on have no matching.
-fn barred(ea: &[u16], eb: &[u16], el: &[u8], need: &[u8], lab: &[usize], k: BondId) -> bool
-    requires { BondTables ea.now eb.now el.now need.now k.0 }
-    ensures { result ≡ true → all_from ea.now eb.now el.now need.now k.0 ≡ [] }
+fn barred(links: Links, need: &[u8], lab: &[usize], k: BondId) -> bool
+    requires { BondTables links.ends.first.now links.ends.second.now links.elided.now need.now k.0 }
+    ensures { result ≡ true → all_from links.entry.ends.first.now links.entry.ends.second.now links.entry.elided.now need.now k.0 ≡ [] }
 {
     if lab.len() < need.len() {
         return false;
     }
-    if !all_fine(ea, eb, el, need, lab, k) {
+    if !all_fine(links, need, lab, k) {
         return false;
     }
     let mut odd = [false; LABELS];
@@ -150,78 +143,60 @@ fn barred(ea: &[u16], eb: &[u16], el: &[u8], need: &[u8], lab: &[usize], k: Bond
 }
 
 // The same of labels in an array.
-fn barred_by(
-    ea: &[u16],
-    eb: &[u16],
-    el: &[u8],
-    need: &[u8],
-    lab: &[usize; MAX_ATOMS],
-    k: BondId,
-) -> bool
-    requires { BondTables ea.now eb.now el.now need.now k.0 }
-    ensures { result ≡ true → all_from ea.now eb.now el.now need.now k.0 ≡ [] }
+fn barred_by(links: Links, need: &[u8], lab: &[usize; MAX_ATOMS], k: BondId) -> bool
+    requires { BondTables links.ends.first.now links.ends.second.now links.elided.now need.now k.0 }
+    ensures { result ≡ true → all_from links.entry.ends.first.now links.entry.ends.second.now links.entry.elided.now need.now k.0 ≡ [] }
 {
-    barred(ea, eb, el, need, lab, k)
+    barred(links, need, lab, k)
 }
 
 // The bonds from k on have no matching, for a reason that was found and checked.
-fn hopeless(
-    ea: &[u16],
-    eb: &[u16],
-    el: &[u8],
-    need: &[u8],
-    k: BondId,
-    mate: &mut [u16; MAX_ATOMS],
-) -> bool
-    requires { BondTables ea.now eb.now el.now need.now k.0 }
-    ensures { result ≡ true → all_from ea.now eb.now el.now need.now k.0 ≡ [] }
+fn hopeless(links: Links, need: &[u8], k: BondId, mate: &mut [u16; MAX_ATOMS]) -> bool
+    requires { BondTables links.ends.first.now links.ends.second.now links.elided.now need.now k.0 }
+    ensures { result ≡ true → all_from links.entry.ends.first.now links.entry.ends.second.now links.entry.elided.now need.now k.0 ≡ [] }
 {
     let mut lab = [OUTSIDE; MAX_ATOMS];
-    if matching_blossom::propose(ea, eb, el, need, k, mate, &mut lab) {
-        return barred_by(ea, eb, el, need, &lab, k);
+    if matching_blossom::propose(links, need, k, mate, &mut lab) {
+        return barred_by(links, need, &lab, k);
     }
     false
 }
 
 // The first matching of the bonds from k on, written to the row from k on; zeros where there is none.
 fn seek_from(
-    ea: &[u16],
-    eb: &[u16],
-    el: &[u8],
+    links: Links,
     need: &mut [u8],
     row: &mut [u8],
     k: BondId,
     mate: &mut [u16; MAX_ATOMS],
 ) -> bool
-    requires { Shape ea.now eb.now el.now need.old row.old k.0 }
-    ensures { Searched need.old row.old k.0 (length ea.now) (all_from ea.now eb.now el.now need.old k.0) result need.new row.new }
+    requires { Shape links.ends.first.now links.ends.second.now links.elided.now need.old row.old k.0 }
+    ensures { Searched need.old row.old k.0 (length links.entry.ends.first.now) (all_from links.entry.ends.first.now links.entry.ends.second.now links.entry.elided.now need.old k.0) result need.new row.new }
 {
-    let mut at = k.0;
-    while at < ea.len() {
-        if matching_search::choosable(ea, eb, el, need, BondId(at)) {
-            if hopeless(ea, eb, el, need, BondId(at), mate) {
-                matching_search::blank(row, BondId(at), BondId(ea.len()));
+    for at in k.0..links.ends.first.len() {
+        if matching_search::choosable(links, need, BondId(at)) {
+            if hopeless(links, need, BondId(at), mate) {
+                matching_search::blank(row, BondId(at), BondId(links.ends.first.len()));
                 return false;
             }
-            matching_search::mark(ea, eb, need, BondId(at), 0);
+            matching_search::mark(links.ends, need, BondId(at), 0);
             row[at] = 1;
-            let found = seek_from(ea, eb, el, need, row, BondId(at + 1), mate);
-            matching_search::mark(ea, eb, need, BondId(at), 1);
+            let found = seek_from(links, need, row, BondId(at + 1), mate);
+            matching_search::mark(links.ends, need, BondId(at), 1);
             if found {
                 return true;
             }
         }
         row[at] = 0;
-        at += 1;
     }
     matching_search::all_paired(need)
 }
 
 // internal: the same, with no mates known.
-pub fn seek(ea: &[u16], eb: &[u16], el: &[u8], need: &mut [u8], row: &mut [u8], k: BondId) -> bool
-    requires { Shape ea.now eb.now el.now need.old row.old k.0 }
-    ensures { Searched need.old row.old k.0 (length ea.now) (all_from ea.now eb.now el.now need.old k.0) result need.new row.new }
+pub fn seek(links: Links, need: &mut [u8], row: &mut [u8], k: BondId) -> bool
+    requires { Shape links.ends.first.now links.ends.second.now links.elided.now need.old row.old k.0 }
+    ensures { Searched need.old row.old k.0 (length links.entry.ends.first.now) (all_from links.entry.ends.first.now links.entry.ends.second.now links.entry.elided.now need.old k.0) result need.new row.new }
 {
     let mut mate = [EMPTY; MAX_ATOMS];
-    seek_from(ea, eb, el, need, row, k, &mut mate)
+    seek_from(links, need, row, k, &mut mate)
 }

@@ -1,12 +1,10 @@
 -- Laws of taking each bond in order, and of copying the flags for it. Assumes nothing.
 use mathlib.Core.Path.{◌≡◌, refl, sym, ap, subst, ◌∙◌}
 use mathlib.Core.Bool.{Bool, true, false}
-use mathlib.Core.List.{List, [], ◌∷◌, ◌++◌}
+use mathlib.Core.List.{List, ◌++◌}
 use Prim.Native.Nat.{ℕ, ◌+◌, ◌-◌, ◌≤◌, ◌<◌}
 use native.Mathlib.Omega.{arith}
-use native.Mathlib.Numerals.{add-one}
-use lib.ListN.{length, take, get_or, set, replicate, length-set}
-use lib.Seq.{take_all, take-suc, take-suc-set}
+use lib.ListN.{length, take, set, replicate, length-set}
 use Rattle.loops.specs.Loop.{pick}
 use Rattle.matching.specs.Enumeration.{row_first}
 use Rattle.matching.specs.Graph.{none_flagged, is_matching}
@@ -73,28 +71,6 @@ module _ {ea eb el need₀ row₀ : List ℕ} {i : ℕ} {need row : List ℕ} (t
 
     pub taking_step : {x : ℕ} {need' : List ℕ} → Taken ea eb el need i x need' → length need' ≡ length need → Taking ea eb el need₀ row₀ (i + 1) need' (set row i x)
     taking_step w l = step (free_at ea eb el need i) refl w.digit w.flags l
-
--- the first i flags are copied
-pub record Copying (from to₀ : List ℕ) (i : ℕ) (to : List ℕ) : Type 0 where
-  pub long : length to ≡ length to₀
-  pub so_far : take i to ≡ take i from
-
-pub copying-start : {from to : List ℕ} → Copying from to 0 to
-copying-start = record { long = refl; so_far = refl }
-
-module _ {from to₀ : List ℕ} {i : ℕ} {to : List ℕ} (same : length to₀ ≡ length from) (w : Copying from to₀ i to) where
-  pub copying-step : i < length from → Copying from to₀ (i + 1) (set to i (get_or from i 0))
-  copying-step h =
-      let h' : i < length to = omega (arith, w.long) in
-      record {
-        long = length-set to i (get_or from i 0) ∙ w.long;
-        so_far = rw (add-one i) (take-suc-set to i (get_or from i 0) h' ∙ ap (λ (l : List ℕ). l ++ (get_or from i 0 ∷ [])) w.so_far ∙ sym (take-suc from i 0 h));
-      }
-
-  pub copying-end : length from ≤ i → to ≡ from
-  copying-end h =
-      let h' : length to ≤ i = omega (arith, w.long) in
-      sym (take_all i to h') ∙ w.so_far ∙ take_all i from h
 
 -- what was found with a copy of the flags
 pub found-by-copy : {ea eb el need used row row1 : List ℕ} → Shape ea eb el need row 0 → used ≡ need → {r : Bool}

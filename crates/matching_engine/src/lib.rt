@@ -12,7 +12,7 @@ ghost use Rattle.matching.specs.Model.{Shape, BondTables, Searched, Ends, all_fr
 ghost use Rattle.matching_engine.specs.Tried.{Tried, paired_bond, Lasts, noted, Stranded, Taken};
 
 use ids::{AtomId, BondId, MAX_ATOMS, SMALL};
-use matching::MatchingAnswer;
+use matching::{Links, MatchingAnswer};
 
 // How many bonds the plain search may choose before it gives up.
 const BUDGET: usize = 400;
@@ -36,27 +36,33 @@ fn note(last: &mut [usize], v: AtomId, k: BondId)
 }
 
 // Both ends of the bond k get the number of the bond after it, if it can be chosen.
-fn note_bond(ea: &[u16], eb: &[u16], el: &[u8], need: &[u8], last: &mut [usize], k: BondId)
-    requires ends { Ends ea.now eb.now need.now k.0 }
-    requires k_in_bounds { k.0 < length el.now }
-    ensures { last.new ≡ noted ea.now eb.now el.now need.now k.0 last.old }
+fn note_bond(links: Links, need: &[u8], last: &mut [usize], k: BondId)
+    requires ends { Ends links.ends.first.now links.ends.second.now need.now k.0 }
+    requires k_in_bounds { k.0 < length links.elided.now }
+    ensures { last.new ≡ noted links.entry.ends.first.now links.entry.ends.second.now links.entry.elided.now need.now k.0 last.old }
 {
-    if matching_search::choosable(ea, eb, el, need, k) {
+    if matching_search::choosable(links, need, k) {
         let next = k.0 + 1;
-        note(last, matching_search::end_of(ea, k), BondId(next));
-        note(last, matching_search::end_of(eb, k), BondId(next));
+        note(
+            last,
+            matching_search::end_of(links.ends.first, k),
+            BondId(next),
+        );
+        note(
+            last,
+            matching_search::end_of(links.ends.second, k),
+            BondId(next),
+        );
     }
 }
 
 // At each atom, the number of the bond after the last one that can be chosen there.
-fn fill_lasts(ea: &[u16], eb: &[u16], el: &[u8], need: &[u8], last: &mut [usize])
-    requires { BondTables ea.now eb.now el.now need.now 0 }
-    ensures { Lasts ea.now eb.now el.now need.now last.new }
+fn fill_lasts(links: Links, need: &[u8], last: &mut [usize])
+    requires { BondTables links.ends.first.now links.ends.second.now links.elided.now need.now 0 }
+    ensures { Lasts links.entry.ends.first.now links.entry.ends.second.now links.entry.elided.now need.now last.new }
 {
-    let mut j: usize = 0;
-    while j < ea.len() {
-        note_bond(ea, eb, el, need, last, BondId(j));
-        j += 1;
+    for j in 0..links.ends.first.len() {
+        note_bond(links, need, last, BondId(j));
     }
 }
 
@@ -74,16 +80,26 @@ fn stranded(need: &[u8], last: &[usize], v: AtomId, from: BondId) -> bool
 }
 
 // An end of the bond k is stranded behind it.
-fn dead_end(ea: &[u16], eb: &[u16], el: &[u8], need: &[u8], last: &[usize], k: BondId) -> bool
-    requires bond_tables { BondTables ea.now eb.now el.now need.now (k.0 + 1) }
-    requires lasts { Lasts ea.now eb.now el.now need.now last.now }
-    ensures { result ≡ true → all_from ea.now eb.now el.now need.now (k.0 + 1) ≡ [] }
+fn dead_end(links: Links, need: &[u8], last: &[usize], k: BondId) -> bool
+    requires bond_tables { BondTables links.ends.first.now links.ends.second.now links.elided.now need.now (k.0 + 1) }
+    requires lasts { Lasts links.ends.first.now links.ends.second.now links.elided.now need.now last.now }
+    ensures { result ≡ true → all_from links.entry.ends.first.now links.entry.ends.second.now links.entry.elided.now need.now (k.0 + 1) ≡ [] }
 {
     let next = k.0 + 1;
-    if stranded(need, last, matching_search::end_of(ea, k), BondId(next)) {
+    if stranded(
+        need,
+        last,
+        matching_search::end_of(links.ends.first, k),
+        BondId(next),
+    ) {
         return true;
     }
-    stranded(need, last, matching_search::end_of(eb, k), BondId(next))
+    stranded(
+        need,
+        last,
+        matching_search::end_of(links.ends.second, k),
+        BondId(next),
+    )
 }
 
 // Takes 1 from the budget; false if it is spent.
@@ -99,20 +115,18 @@ fn spend(budget: &mut usize) -> bool {
 // The first matching of the bonds from k on that chooses the bond k, if it can be chosen.
 #[cycle(choose_seek)]
 fn choose(
-    ea: &[u16],
-    eb: &[u16],
-    el: &[u8],
+    links: Links,
     need: &mut [u8],
     row: &mut [u8],
     last: &[usize],
     k: BondId,
     budget: &mut usize,
 ) -> Sought
-    requires shape { Shape ea.now eb.now el.now need.old row.old k.0 }
-    requires k_in_bounds { (k.0 < length ea.now) × Lasts ea.now eb.now el.now need.old last.now }
-    ensures { Tried need.old row.old k.0 (length ea.now) (paired_bond ea.now eb.now el.now need.old k.0) result need.new row.new }
+    requires shape { Shape links.ends.first.now links.ends.second.now links.elided.now need.old row.old k.0 }
+    requires k_in_bounds { (k.0 < length links.ends.first.now) × Lasts links.ends.first.now links.ends.second.now links.elided.now need.old last.now }
+    ensures { Tried need.old row.old k.0 (length links.entry.ends.first.now) (paired_bond links.entry.ends.first.now links.entry.ends.second.now links.entry.elided.now need.old k.0) result need.new row.new }
 {
-    if !matching_search::choosable(ea, eb, el, need, k) {
+    if !matching_search::choosable(links, need, k) {
         return Sought::Absent;
     }
     if !spend(budget) {
@@ -120,40 +134,36 @@ fn choose(
     }
     let at = k.0;
     let next = at + 1;
-    matching_search::mark(ea, eb, need, k, 0);
+    matching_search::mark(links.ends, need, k, 0);
     row[at] = 1;
-    let got = seek(ea, eb, el, need, row, last, BondId(next), budget);
-    matching_search::mark(ea, eb, need, k, 1);
+    let got = seek(links, need, row, last, BondId(next), budget);
+    matching_search::mark(links.ends, need, k, 1);
     got
 }
 
 // The first matching of the bonds from k on, under a budget.
 #[cycle(choose_seek)]
 fn seek(
-    ea: &[u16],
-    eb: &[u16],
-    el: &[u8],
+    links: Links,
     need: &mut [u8],
     row: &mut [u8],
     last: &[usize],
     k: BondId,
     budget: &mut usize,
 ) -> Sought
-    requires shape { Shape ea.now eb.now el.now need.old row.old k.0 }
-    requires lasts { Lasts ea.now eb.now el.now need.old last.now }
-    ensures { Tried need.old row.old k.0 (length ea.now) (all_from ea.now eb.now el.now need.old k.0) result need.new row.new }
+    requires shape { Shape links.ends.first.now links.ends.second.now links.elided.now need.old row.old k.0 }
+    requires lasts { Lasts links.ends.first.now links.ends.second.now links.elided.now need.old last.now }
+    ensures { Tried need.old row.old k.0 (length links.entry.ends.first.now) (all_from links.entry.ends.first.now links.entry.ends.second.now links.entry.elided.now need.old k.0) result need.new row.new }
 {
-    let mut at = k.0;
-    while at < ea.len() {
-        let got = choose(ea, eb, el, need, row, last, BondId(at), budget);
+    for at in k.0..links.ends.first.len() {
+        let got = choose(links, need, row, last, BondId(at), budget);
         let Sought::Absent = got else {
             return got;
         };
         row[at] = 0;
-        if dead_end(ea, eb, el, need, last, BondId(at)) {
+        if dead_end(links, need, last, BondId(at)) {
             return Sought::Absent;
         }
-        at += 1;
     }
     if matching_search::all_paired(need) {
         Sought::Found
@@ -163,173 +173,121 @@ fn seek(
 }
 
 // The first matching of the bonds from k on, written to the row from k on; zeros where there is none.
-fn seek_any(
-    ea: &[u16],
-    eb: &[u16],
-    el: &[u8],
-    need: &mut [u8],
-    row: &mut [u8],
-    last: &[usize],
-    k: BondId,
-) -> bool
-    requires shape { Shape ea.now eb.now el.now need.old row.old k.0 }
-    requires lasts { Lasts ea.now eb.now el.now need.old last.now }
-    ensures { Searched need.old row.old k.0 (length ea.now) (all_from ea.now eb.now el.now need.old k.0) result need.new row.new }
+fn seek_any(links: Links, need: &mut [u8], row: &mut [u8], last: &[usize], k: BondId) -> bool
+    requires shape { Shape links.ends.first.now links.ends.second.now links.elided.now need.old row.old k.0 }
+    requires lasts { Lasts links.ends.first.now links.ends.second.now links.elided.now need.old last.now }
+    ensures { Searched need.old row.old k.0 (length links.entry.ends.first.now) (all_from links.entry.ends.first.now links.entry.ends.second.now links.entry.elided.now need.old k.0) result need.new row.new }
 {
     let mut budget = BUDGET;
-    let got = seek(ea, eb, el, need, row, last, k, &mut budget);
+    let got = seek(links, need, row, last, k, &mut budget);
     match got {
         Sought::Found => true,
         Sought::Absent => {
-            matching_search::blank(row, k, BondId(ea.len()));
+            matching_search::blank(row, k, BondId(links.ends.first.len()));
             false
         }
-        Sought::GaveUp => matching_certified::seek(ea, eb, el, need, row, k),
+        Sought::GaveUp => matching_certified::seek(links, need, row, k),
     }
 }
 
 // internal: the same, with no numbers known.
-pub fn seek_from(
-    ea: &[u16],
-    eb: &[u16],
-    el: &[u8],
-    need: &mut [u8],
-    row: &mut [u8],
-    k: BondId,
-) -> bool
-    requires { Shape ea.now eb.now el.now need.old row.old k.0 }
-    ensures { Searched need.old row.old k.0 (length ea.now) (all_from ea.now eb.now el.now need.old k.0) result need.new row.new }
+pub fn seek_from(links: Links, need: &mut [u8], row: &mut [u8], k: BondId) -> bool
+    requires { Shape links.ends.first.now links.ends.second.now links.elided.now need.old row.old k.0 }
+    ensures { Searched need.old row.old k.0 (length links.entry.ends.first.now) (all_from links.entry.ends.first.now links.entry.ends.second.now links.entry.elided.now need.old k.0) result need.new row.new }
 {
     let mut last = [0usize; MAX_ATOMS];
-    fill_lasts(ea, eb, el, need, &mut last);
-    seek_any(ea, eb, el, need, row, &last, k)
+    fill_lasts(links, need, &mut last);
+    seek_any(links, need, row, &last, k)
 }
 
 // The first matching of the bonds from k on that comes after the row, written over it; zeros where there is none.
-fn later(
-    ea: &[u16],
-    eb: &[u16],
-    el: &[u8],
-    need: &mut [u8],
-    row: &mut [u8],
-    last: &[usize],
-    k: BondId,
-) -> bool
-    requires shape { Shape ea.now eb.now el.now need.old row.old k.0 }
-    requires k_value { (matching_from ea.now eb.now el.now need.old (part (length ea.now) row.old k.0) k.0 ≡ true) × Lasts ea.now eb.now el.now need.old last.now }
-    ensures { Searched need.old row.old k.0 (length ea.now) (later_from ea.now eb.now el.now need.old (part (length ea.now) row.old k.0) k.0) result need.new row.new }
+fn later(links: Links, need: &mut [u8], row: &mut [u8], last: &[usize], k: BondId) -> bool
+    requires shape { Shape links.ends.first.now links.ends.second.now links.elided.now need.old row.old k.0 }
+    requires k_value { (matching_from links.ends.first.now links.ends.second.now links.elided.now need.old (part (length links.ends.first.now) row.old k.0) k.0 ≡ true) × Lasts links.ends.first.now links.ends.second.now links.elided.now need.old last.now }
+    ensures { Searched need.old row.old k.0 (length links.entry.ends.first.now) (later_from links.entry.ends.first.now links.entry.ends.second.now links.entry.elided.now need.old (part (length links.entry.ends.first.now) row.old k.0) k.0) result need.new row.new }
 {
     let at = k.0;
-    if at == ea.len() {
+    if at == links.ends.first.len() {
         return false;
     }
     let next = at + 1;
     if row[at] == 1 {
-        matching_search::mark(ea, eb, need, k, 0);
-        let found = later(ea, eb, el, need, row, last, BondId(next));
-        matching_search::mark(ea, eb, need, k, 1);
+        matching_search::mark(links.ends, need, k, 0);
+        let found = later(links, need, row, last, BondId(next));
+        matching_search::mark(links.ends, need, k, 1);
         if found {
             return true;
         }
         row[at] = 0;
-        return seek_any(ea, eb, el, need, row, last, BondId(next));
+        return seek_any(links, need, row, last, BondId(next));
     }
-    later(ea, eb, el, need, row, last, BondId(next))
+    later(links, need, row, last, BondId(next))
 }
 
 // Takes the bond k if it can be chosen: its digit in the row.
-fn take_bond(ea: &[u16], eb: &[u16], el: &[u8], need: &mut [u8], k: BondId) -> u8
-    requires ends { Ends ea.now eb.now need.old k.0 }
-    requires k_in_bounds { k.0 < length el.now }
-    ensures { Taken ea.now eb.now el.now need.old k.0 result need.new }
+fn take_bond(links: Links, need: &mut [u8], k: BondId) -> u8
+    requires ends { Ends links.ends.first.now links.ends.second.now need.old k.0 }
+    requires k_in_bounds { k.0 < length links.elided.now }
+    ensures { Taken links.entry.ends.first.now links.entry.ends.second.now links.entry.elided.now need.old k.0 result need.new }
 {
-    if !matching_search::choosable(ea, eb, el, need, k) {
+    if !matching_search::choosable(links, need, k) {
         return 0;
     }
-    matching_search::mark(ea, eb, need, k, 0);
+    matching_search::mark(links.ends, need, k, 0);
     1
 }
 
 // Takes each bond that can be chosen, in order: true if every atom has its partner then. The flags are used up.
-fn greedy(ea: &[u16], eb: &[u16], el: &[u8], need: &mut [u8], row: &mut [u8]) -> bool
-    requires { Shape ea.now eb.now el.now need.old row.old 0 }
-    ensures { result ≡ true → Searched need.old row.old 0 (length ea.now) (all_from ea.now eb.now el.now need.old 0) true need.old row.new }
+fn greedy(links: Links, need: &mut [u8], row: &mut [u8]) -> bool
+    requires { Shape links.ends.first.now links.ends.second.now links.elided.now need.old row.old 0 }
+    ensures { result ≡ true → Searched need.old row.old 0 (length links.entry.ends.first.now) (all_from links.entry.ends.first.now links.entry.ends.second.now links.entry.elided.now need.old 0) true need.old row.new }
 {
-    let mut at = 0;
-    while at < ea.len() {
-        row[at] = take_bond(ea, eb, el, need, BondId(at));
-        at += 1;
+    for at in 0..links.ends.first.len() {
+        row[at] = take_bond(links, need, BondId(at));
     }
     matching_search::all_paired(need)
 }
 
-// The flags of all atoms, copied.
-fn copy(from: &[u8], to: &mut [u8])
-    requires { length to.old ≡ length from.now }
-    ensures { to.new ≡ from.now }
+// The same on a copy of the flags, of at most N atoms.
+fn greedy_sized<const N: usize>(links: Links, need: &[u8], row: &mut [u8]) -> bool
+    requires shape { Shape links.ends.first.now links.ends.second.now links.elided.now need.now row.old 0 }
+    requires need_len_bound { (length need.now ≤ N) × (N ≤ max_atoms) }
+    ensures { result ≡ true → Searched need.now row.old 0 (length links.entry.ends.first.now) (all_from links.entry.ends.first.now links.entry.ends.second.now links.entry.elided.now need.now 0) true need.now row.new }
 {
-    let mut i = 0;
-    while i < from.len() {
-        to[i] = from[i];
-        i += 1;
-    }
-}
-
-// The same on a copy of the flags of few atoms.
-fn greedy_small(ea: &[u16], eb: &[u16], el: &[u8], need: &[u8], row: &mut [u8]) -> bool
-    requires shape { Shape ea.now eb.now el.now need.now row.old 0 }
-    requires need_len_bound { length need.now ≤ small }
-    ensures { result ≡ true → Searched need.now row.old 0 (length ea.now) (all_from ea.now eb.now el.now need.now 0) true need.now row.new }
-{
-    let n = need.len();
-    let mut flags = [0u8; SMALL];
-    let used = &mut flags[..n];
-    copy(need, used);
-    greedy(ea, eb, el, used, row)
-}
-
-// The same on a copy of the flags of any molecule.
-fn greedy_large(ea: &[u16], eb: &[u16], el: &[u8], need: &[u8], row: &mut [u8]) -> bool
-    requires shape { Shape ea.now eb.now el.now need.now row.old 0 }
-    requires need_len_bound { length need.now ≤ max_atoms }
-    ensures { result ≡ true → Searched need.now row.old 0 (length ea.now) (all_from ea.now eb.now el.now need.now 0) true need.now row.new }
-{
-    let n = need.len();
-    let mut flags = [0u8; MAX_ATOMS];
-    let used = &mut flags[..n];
-    copy(need, used);
-    greedy(ea, eb, el, used, row)
+    let mut flags = [0u8; N];
+    let used = &mut flags[..need.len()];
+    used.copy_from_slice(need);
+    greedy(links, used, row)
 }
 
 // The same on a copy of the flags: true if the row is the first matching, false says nothing.
-fn try_greedy(ea: &[u16], eb: &[u16], el: &[u8], need: &[u8], row: &mut [u8]) -> bool
-    requires { Shape ea.now eb.now el.now need.now row.old 0 }
-    ensures { result ≡ true → Searched need.now row.old 0 (length ea.now) (all_from ea.now eb.now el.now need.now 0) true need.now row.new }
+fn try_greedy(links: Links, need: &[u8], row: &mut [u8]) -> bool
+    requires { Shape links.ends.first.now links.ends.second.now links.elided.now need.now row.old 0 }
+    ensures { result ≡ true → Searched need.now row.old 0 (length links.entry.ends.first.now) (all_from links.entry.ends.first.now links.entry.ends.second.now links.entry.elided.now need.now 0) true need.now row.new }
 {
-    let n = need.len();
-    if n <= SMALL {
-        return greedy_small(ea, eb, el, need, row);
+    match need.len() {
+        n if n <= SMALL => greedy_sized::<SMALL>(links, need, row),
+        n if n <= MAX_ATOMS => greedy_sized::<MAX_ATOMS>(links, need, row),
+        _ => false,
     }
-    if n <= MAX_ATOMS {
-        return greedy_large(ea, eb, el, need, row);
-    }
-    false
 }
 
 // internal: the first matching.
-pub fn first(ea: &[u16], eb: &[u16], el: &[u8], need: &mut [u8], row: &mut [u8]) -> MatchingAnswer
-    requires { Shape ea.now eb.now el.now need.old row.old 0 }
+// Stays: beside `matching_search::first` and `next`, since a trait over both would share only the last lines: this one tries greedily
+// first, and lends its searches a table of last bonds.
+pub fn first(links: Links, need: &mut [u8], row: &mut [u8]) -> MatchingAnswer
+    requires { Shape links.ends.first.now links.ends.second.now links.elided.now need.old row.old 0 }
     ensures need_unchanged { need.new ≡ need.old }
-    ensures row_after { reply result row.new ≡ row_first (is_matching need.old (bonds_of ea.now eb.now el.now)) (length ea.now) (length row.old) }
+    ensures row_after { reply result row.new ≡ row_first (is_matching need.old (bonds_of links.entry.ends.first.now links.entry.ends.second.now links.entry.elided.now)) (length links.entry.ends.first.now) (length row.old) }
 {
-    if try_greedy(ea, eb, el, need, row) {
-        matching_search::clear(row, BondId(ea.len()));
+    if try_greedy(links, need, row) {
+        matching_search::clear(row, BondId(links.ends.first.len()));
         return MatchingAnswer::Given;
     }
     let mut last = [0usize; MAX_ATOMS];
-    fill_lasts(ea, eb, el, need, &mut last);
-    let found = seek_any(ea, eb, el, need, row, &last, BondId(0));
-    matching_search::clear(row, BondId(ea.len()));
+    fill_lasts(links, need, &mut last);
+    let found = seek_any(links, need, row, &last, BondId(0));
+    matching_search::clear(row, BondId(links.ends.first.len()));
     if found {
         MatchingAnswer::Given
     } else {
@@ -338,19 +296,19 @@ pub fn first(ea: &[u16], eb: &[u16], el: &[u8], need: &mut [u8], row: &mut [u8])
 }
 
 // internal: the first matching that comes after the row.
-pub fn next(ea: &[u16], eb: &[u16], el: &[u8], need: &mut [u8], row: &mut [u8]) -> MatchingAnswer
-    requires { Shape ea.now eb.now el.now need.old row.old 0 }
+pub fn next(links: Links, need: &mut [u8], row: &mut [u8]) -> MatchingAnswer
+    requires { Shape links.ends.first.now links.ends.second.now links.elided.now need.old row.old 0 }
     ensures need_unchanged { need.new ≡ need.old }
-    ensures row_after { reply result row.new ≡ row_next (is_matching need.old (bonds_of ea.now eb.now el.now)) (length ea.now) (length row.old) (take (length ea.now) row.old) }
+    ensures row_after { reply result row.new ≡ row_next (is_matching need.old (bonds_of links.entry.ends.first.now links.entry.ends.second.now links.entry.elided.now)) (length links.entry.ends.first.now) (length row.old) (take (length links.entry.ends.first.now) row.old) }
 {
-    if !matching_search::is_matching(ea, eb, el, need, row, BondId(0)) {
+    if !matching_search::is_matching(links, need, row, BondId(0)) {
         matching_search::clear(row, BondId(0));
         return MatchingAnswer::Refused;
     }
     let mut last = [0usize; MAX_ATOMS];
-    fill_lasts(ea, eb, el, need, &mut last);
-    let found = later(ea, eb, el, need, row, &last, BondId(0));
-    matching_search::clear(row, BondId(ea.len()));
+    fill_lasts(links, need, &mut last);
+    let found = later(links, need, row, &last, BondId(0));
+    matching_search::clear(row, BondId(links.ends.first.len()));
     if found {
         MatchingAnswer::Given
     } else {

@@ -209,10 +209,3 @@ module _ {p : ℕ → Bool} {m i : ℕ} (w : Sought p m i) where
   pub sought-end : m ≤ i → m ≡ lowest p 0 m
   unfolding lowest
   sought-end h = let d : m - i ≡ 0 = omega arith in let q : i ≡ m = omega (arith, w.within) in sym (w.same ∙ rw d q)
-
--- the same loop, by how many are left
-pub sought-left : {p : ℕ → Bool} {m : ℕ} → Sought p m (m - m)
-sought-left {p} {m} = let d : m - m ≡ 0 = omega arith in rw d sought-start
-
-pub sought-fewer : {p : ℕ → Bool} {m left : ℕ} → Sought p m (m - left) → left ≤ m → 0 < left → p (m - left) ≡ false → Sought p m (m - (left - 1))
-sought-fewer {p} {m} {left} w h l e = let d : m - (left - 1) ≡ (m - left) + 1 = omega arith in rw d (sought-step w (omega arith) e)

@@ -13,7 +13,7 @@ ghost use Rattle.matching_forced.specs.Forced.{lowest, free_of, free_bond};
 ghost use Rattle.matching_forced.specs.Steps.{bumped, raised, with_count, Counts, Turned, Roomy, Filled, ones, zeros, undone, Ones, lowest_free, Chosen, off, all_of, taken_of, left_of, later_of, later_with, is_of, FirstReply};
 
 use ids::{AtomId, BondId, MAX_ATOMS};
-use matching::MatchingAnswer;
+use matching::{EndTables, Links, MatchingAnswer};
 use matching_engine::Sought;
 
 // How many pairs the search may make before it gives up.
@@ -54,13 +54,13 @@ fn raise(counts: &mut [u16], v: AtomId)
 }
 
 // One more at each end of the bond k; at the one atom, where both are the same.
-fn raise_ends(ea: &[u16], eb: &[u16], counts: &mut [u16], k: BondId)
-    requires ends { Ends ea.now eb.now counts.old k.0 }
+fn raise_ends(ends: EndTables, counts: &mut [u16], k: BondId)
+    requires ends { Ends ends.first.now ends.second.now counts.old k.0 }
     requires by_index { (v : ℕ) → get_or counts.old v 0 < 65535 }
-    ensures { counts.new ≡ raised (get_or ea.now k.0 0) (get_or eb.now k.0 0) counts.old }
+    ensures { counts.new ≡ raised (get_or ends.entry.first.now k.0 0) (get_or ends.entry.second.now k.0 0) counts.old }
 {
-    let first = matching_search::end_of(ea, k);
-    let second = matching_search::end_of(eb, k);
+    let first = matching_search::end_of(ends.first, k);
+    let second = matching_search::end_of(ends.second, k);
     raise(counts, first);
     let a = first.0;
     let b = second.0;
@@ -70,18 +70,16 @@ fn raise_ends(ea: &[u16], eb: &[u16], counts: &mut [u16], k: BondId)
 }
 
 // How many free bonds each atom has, counted into zeros.
-fn fill_counts(ea: &[u16], eb: &[u16], el: &[u8], need: &[u8], counts: &mut [u16])
-    requires bond_tables { BondTables ea.now eb.now el.now need.now 0 }
-    requires need_in_bounds { (length need.now ≤ length counts.old) × (length ea.now ≤ max_bonds) }
+fn fill_counts(links: Links, need: &[u8], counts: &mut [u16])
+    requires bond_tables { BondTables links.ends.first.now links.ends.second.now links.elided.now need.now 0 }
+    requires need_in_bounds { (length need.now ≤ length counts.old) × (length links.ends.first.now ≤ max_bonds) }
     requires by_index { (v : ℕ) → get_or counts.old v 0 ≡ 0 }
-    ensures { Counts (bonds_of ea.now eb.now el.now) need.now counts.new }
+    ensures { Counts (bonds_of links.entry.ends.first.now links.entry.ends.second.now links.entry.elided.now) need.now counts.new }
 {
-    let mut i = 0;
-    while i < ea.len() {
-        if matching_search::choosable(ea, eb, el, need, BondId(i)) {
-            raise_ends(ea, eb, counts, BondId(i));
+    for i in 0..links.ends.first.len() {
+        if matching_search::choosable(links, need, BondId(i)) {
+            raise_ends(links.ends, counts, BondId(i));
         }
-        i += 1;
     }
 }
 
@@ -90,54 +88,49 @@ fn lowest_with(need: &[u8], counts: &[u16], d: u16) -> AtomId
     requires { length need.now ≤ length counts.now }
     ensures { result.0 ≡ lowest (with_count need.now counts.now d) 0 (length need.now) }
 {
-    let mut left = need.len();
-    while 0 < left {
-        let v = need.len() - left;
+    for v in 0..need.len() {
         if matching_search::unpaired(need, AtomId(v)) & (counts[v] == d) {
             return AtomId(v);
         }
-        left -= 1;
     }
     AtomId(need.len())
 }
 
 // The bond k is free and has the atom v as an end.
-fn free_of(ea: &[u16], eb: &[u16], el: &[u8], need: &[u8], v: AtomId, k: BondId) -> bool
-    requires bond_tables { BondTables ea.now eb.now el.now need.now 0 }
-    requires k_in_bounds { k.0 < length ea.now }
-    ensures { result ≡ free_of (bonds_of ea.now eb.now el.now) need.now v.0 k.0 }
+fn free_of(links: Links, need: &[u8], v: AtomId, k: BondId) -> bool
+    requires bond_tables { BondTables links.ends.first.now links.ends.second.now links.elided.now need.now 0 }
+    requires k_in_bounds { k.0 < length links.ends.first.now }
+    ensures { result ≡ free_of (bonds_of links.entry.ends.first.now links.entry.ends.second.now links.entry.elided.now) need.now v.0 k.0 }
 {
-    let first = matching_search::end_of(ea, k);
-    let second = matching_search::end_of(eb, k);
+    let first = matching_search::end_of(links.ends.first, k);
+    let second = matching_search::end_of(links.ends.second, k);
     let a = first.0;
     let b = second.0;
     let at = v.0;
-    matching_search::choosable(ea, eb, el, need, k) & ((a == at) | (b == at))
+    matching_search::choosable(links, need, k) & ((a == at) | (b == at))
 }
 
 // The first free bond of the atom v; the number of bonds where it has none.
-fn free_bond(ea: &[u16], eb: &[u16], el: &[u8], need: &[u8], v: AtomId) -> BondId
-    requires { BondTables ea.now eb.now el.now need.now 0 }
-    ensures { result.0 ≡ free_bond (bonds_of ea.now eb.now el.now) need.now v.0 }
+fn free_bond(links: Links, need: &[u8], v: AtomId) -> BondId
+    requires { BondTables links.ends.first.now links.ends.second.now links.elided.now need.now 0 }
+    ensures { result.0 ≡ free_bond (bonds_of links.entry.ends.first.now links.entry.ends.second.now links.entry.elided.now) need.now v.0 }
 {
-    let mut i = 0;
-    while i < ea.len() {
-        if free_of(ea, eb, el, need, v, BondId(i)) {
+    for i in 0..links.ends.first.len() {
+        if free_of(links, need, v, BondId(i)) {
             return BondId(i);
         }
-        i += 1;
     }
-    BondId(ea.len())
+    BondId(links.ends.first.len())
 }
 
 // One turn of the rule.
-fn take_turn(ea: &[u16], eb: &[u16], el: &[u8], need: &[u8]) -> Turn
-    requires bond_tables { BondTables ea.now eb.now el.now need.now 0 }
-    requires need_len_bound { (length need.now ≤ max_atoms) × (length ea.now ≤ max_bonds) }
-    ensures { Turned (bonds_of ea.now eb.now el.now) need.now result }
+fn take_turn(links: Links, need: &[u8]) -> Turn
+    requires bond_tables { BondTables links.ends.first.now links.ends.second.now links.elided.now need.now 0 }
+    requires need_len_bound { (length need.now ≤ max_atoms) × (length links.ends.first.now ≤ max_bonds) }
+    ensures { Turned (bonds_of links.entry.ends.first.now links.entry.ends.second.now links.entry.elided.now) need.now result }
 {
     let mut counts = [0u16; MAX_ATOMS];
-    fill_counts(ea, eb, el, need, &mut counts);
+    fill_counts(links, need, &mut counts);
     let alone = lowest_with(need, &counts, 0);
     let stuck = alone.0;
     if stuck < need.len() {
@@ -146,20 +139,20 @@ fn take_turn(ea: &[u16], eb: &[u16], el: &[u8], need: &[u8]) -> Turn
     let forcing = lowest_with(need, &counts, 1);
     let v = forcing.0;
     if v < need.len() {
-        return Turn::Pair(free_bond(ea, eb, el, need, forcing));
+        return Turn::Pair(free_bond(links, need, forcing));
     }
     Turn::Rests
 }
 
 // internal: the forced list, filled into pairs from its start; need is left with the flags of the atoms that stay unpaired.
-pub fn force(ea: &[u16], eb: &[u16], el: &[u8], need: &mut [u8], pairs: &mut [u16]) -> Forcing
-    requires bond_tables { BondTables ea.now eb.now el.now need.old 0 }
-    requires roomy { Roomy ea.now eb.now el.now need.old pairs.old }
-    ensures { Filled (bonds_of ea.now eb.now el.now) need.old pairs.old result.count result.stuck need.new pairs.new }
+pub fn force(links: Links, need: &mut [u8], pairs: &mut [u16]) -> Forcing
+    requires bond_tables { BondTables links.ends.first.now links.ends.second.now links.elided.now need.old 0 }
+    requires roomy { Roomy links.ends.first.now links.ends.second.now links.elided.now need.old pairs.old }
+    ensures { Filled (bonds_of links.entry.ends.first.now links.entry.ends.second.now links.entry.elided.now) need.old pairs.old result.count result.stuck need.new pairs.new }
 {
     let mut n = 0;
     loop {
-        let turn = take_turn(ea, eb, el, need);
+        let turn = take_turn(links, need);
         match turn {
             Turn::Stuck => return Forcing {
                 count: n,
@@ -171,7 +164,7 @@ pub fn force(ea: &[u16], eb: &[u16], el: &[u8], need: &mut [u8], pairs: &mut [u1
             },
             Turn::Pair(bond) => {
                 pairs[n] = bond.0 as u16;
-                matching_search::mark(ea, eb, need, bond, 0);
+                matching_search::mark(links.ends, need, bond, 0);
                 n += 1;
             }
         }
@@ -183,9 +176,7 @@ fn set_ones(row: &mut [u8], pairs: &[u16], n: usize)
     requires { Ones row.old pairs.now n }
     ensures { row.new ≡ ones (take n pairs.now) row.old }
 {
-    let mut i = n;
-    while 0 < i {
-        i -= 1;
+    for i in (0..n).rev() {
         let k = pairs[i] as usize;
         row[k] = 1;
     }
@@ -196,58 +187,41 @@ fn set_zeros(row: &mut [u8], pairs: &[u16], n: usize)
     requires { Ones row.old pairs.now n }
     ensures { row.new ≡ zeros (take n pairs.now) row.old }
 {
-    let mut i = 0;
-    while i < n {
+    for i in 0..n {
         let k = pairs[i] as usize;
         row[k] = 0;
-        i += 1;
     }
 }
 
 // Takes the first n pairs back, the last first: their atoms are unpaired again.
-fn undo(ea: &[u16], eb: &[u16], need: &mut [u8], pairs: &[u16], n: usize)
-    requires ones { Ones ea.now pairs.now n }
-    requires by_index { (k : ℕ) → k < length ea.now → Ends ea.now eb.now need.old k }
-    ensures { need.new ≡ undone ea.now eb.now (take n pairs.now) need.old }
+fn undo(ends: EndTables, need: &mut [u8], pairs: &[u16], n: usize)
+    requires ones { Ones ends.first.now pairs.now n }
+    requires by_index { (k : ℕ) → k < length ends.first.now → Ends ends.first.now ends.second.now need.old k }
+    ensures { need.new ≡ undone ends.entry.first.now ends.entry.second.now (take n pairs.now) need.old }
 {
-    let mut i = n;
-    while 0 < i {
-        i -= 1;
+    for i in (0..n).rev() {
         let k = pairs[i] as usize;
-        matching_search::mark(ea, eb, need, BondId(k), 1);
+        matching_search::mark(ends, need, BondId(k), 1);
     }
 }
 
 // The lowest free bond; the number of bonds where there is none.
-fn lowest_free(ea: &[u16], eb: &[u16], el: &[u8], need: &[u8]) -> BondId
-    requires { BondTables ea.now eb.now el.now need.now 0 }
-    ensures { result.0 ≡ lowest_free (bonds_of ea.now eb.now el.now) need.now }
+fn lowest_free(links: Links, need: &[u8]) -> BondId
+    requires { BondTables links.ends.first.now links.ends.second.now links.elided.now need.now 0 }
+    ensures { result.0 ≡ lowest_free (bonds_of links.entry.ends.first.now links.entry.ends.second.now links.entry.elided.now) need.now }
 {
-    let mut i = 0;
-    while i < ea.len() {
-        if matching_search::choosable(ea, eb, el, need, BondId(i)) {
+    for i in 0..links.ends.first.len() {
+        if matching_search::choosable(links, need, BondId(i)) {
             return BondId(i);
         }
-        i += 1;
     }
-    BondId(ea.len())
-}
-
-// Takes n from the budget, or what is left of it.
-fn charge(budget: &mut usize, n: usize) {
-    let left = *budget;
-    if left < n {
-        *budget = 0;
-    } else {
-        *budget = left - n;
-    }
+    BondId(links.ends.first.len())
 }
 
 // The first matching with the free bond b.
 #[cycle(choose_seek_with_bond_without_bond)]
 fn with_bond(
-    ea: &[u16],
-    eb: &[u16],
+    ends: EndTables,
     el: &mut [u8],
     need: &mut [u8],
     row: &mut [u8],
@@ -255,14 +229,14 @@ fn with_bond(
     b: BondId,
     budget: &mut usize,
 ) -> Sought
-    requires shape { Shape ea.now eb.now el.old need.old row.old 0 }
-    requires roomy { Roomy ea.now eb.now el.old need.old pairs.old × Chosen ea.now eb.now el.old need.old b.0 }
-    ensures tried { Tried need.old row.old 0 (length ea.now) (taken_of (bonds_of ea.now eb.now el.old) need.old b.0) result need.new row.new }
+    requires shape { Shape ends.first.now ends.second.now el.old need.old row.old 0 }
+    requires roomy { Roomy ends.first.now ends.second.now el.old need.old pairs.old × Chosen ends.first.now ends.second.now el.old need.old b.0 }
+    ensures tried { Tried need.old row.old 0 (length ends.entry.first.now) (taken_of (bonds_of ends.entry.first.now ends.entry.second.now el.old) need.old b.0) result need.new row.new }
     ensures el_unchanged { el.new ≡ el.old }
 {
-    matching_search::mark(ea, eb, need, b, 0);
-    let got = seek(ea, eb, el, need, row, pairs, budget);
-    matching_search::mark(ea, eb, need, b, 1);
+    matching_search::mark(ends, need, b, 0);
+    let got = seek(ends, el, need, row, pairs, budget);
+    matching_search::mark(ends, need, b, 1);
     let Sought::Found = got else {
         return got;
     };
@@ -274,8 +248,7 @@ fn with_bond(
 // The first matching without the free bond b.
 #[cycle(choose_seek_with_bond_without_bond)]
 fn without_bond(
-    ea: &[u16],
-    eb: &[u16],
+    ends: EndTables,
     el: &mut [u8],
     need: &mut [u8],
     row: &mut [u8],
@@ -283,14 +256,14 @@ fn without_bond(
     b: BondId,
     budget: &mut usize,
 ) -> Sought
-    requires shape { Shape ea.now eb.now el.old need.old row.old 0 }
-    requires roomy { Roomy ea.now eb.now el.old need.old pairs.old × Chosen ea.now eb.now el.old need.old b.0 }
-    ensures tried { Tried need.old row.old 0 (length ea.now) (left_of (bonds_of ea.now eb.now el.old) need.old b.0) result need.new row.new }
+    requires shape { Shape ends.first.now ends.second.now el.old need.old row.old 0 }
+    requires roomy { Roomy ends.first.now ends.second.now el.old need.old pairs.old × Chosen ends.first.now ends.second.now el.old need.old b.0 }
+    ensures tried { Tried need.old row.old 0 (length ends.entry.first.now) (left_of (bonds_of ends.entry.first.now ends.entry.second.now el.old) need.old b.0) result need.new row.new }
     ensures el_unchanged { el.new ≡ el.old }
 {
     let at = b.0;
     el[at] = 0;
-    let got = seek(ea, eb, el, need, row, pairs, budget);
+    let got = seek(ends, el, need, row, pairs, budget);
     el[at] = 1;
     got
 }
@@ -298,8 +271,7 @@ fn without_bond(
 // The search on what is left after the forced pairs: none where an atom is stuck; else the lowest free bond is chosen, and then left.
 #[cycle(choose_seek_with_bond_without_bond)]
 fn choose(
-    ea: &[u16],
-    eb: &[u16],
+    ends: EndTables,
     el: &mut [u8],
     need: &mut [u8],
     row: &mut [u8],
@@ -307,67 +279,55 @@ fn choose(
     stuck: bool,
     budget: &mut usize,
 ) -> Sought
-    requires shape { Shape ea.now eb.now el.old need.old row.old 0 }
-    requires roomy { Roomy ea.now eb.now el.old need.old pairs.old }
-    requires need_value { stuck ≡ true → all_of (bonds_of ea.now eb.now el.old) need.old ≡ [] }
-    ensures tried { Tried need.old row.old 0 (length ea.now) (all_of (bonds_of ea.now eb.now el.old) need.old) result need.new row.new }
+    requires shape { Shape ends.first.now ends.second.now el.old need.old row.old 0 }
+    requires roomy { Roomy ends.first.now ends.second.now el.old need.old pairs.old }
+    requires need_value { stuck ≡ true → all_of (bonds_of ends.first.now ends.second.now el.old) need.old ≡ [] }
+    ensures tried { Tried need.old row.old 0 (length ends.entry.first.now) (all_of (bonds_of ends.entry.first.now ends.entry.second.now el.old) need.old) result need.new row.new }
     ensures el_unchanged { el.new ≡ el.old }
 {
     if stuck {
         return Sought::Absent;
     }
-    let b = lowest_free(ea, eb, el, need);
+    let b = lowest_free(Links { ends, elided: el }, need);
     let at = b.0;
-    if ea.len() <= at {
-        matching_search::blank(row, BondId(0), BondId(ea.len()));
+    if ends.first.len() <= at {
+        matching_search::blank(row, BondId(0), BondId(ends.first.len()));
         return if matching_search::all_paired(need) {
             Sought::Found
         } else {
             Sought::Absent
         };
     }
-    let left = *budget;
-    if left == 0 {
+    if *budget == 0 {
         return Sought::GaveUp;
     }
-    let got = with_bond(ea, eb, el, need, row, pairs, b, budget);
+    let got = with_bond(ends, el, need, row, pairs, b, budget);
     let Sought::Absent = got else {
         return got;
     };
-    without_bond(ea, eb, el, need, row, pairs, b, budget)
+    without_bond(ends, el, need, row, pairs, b, budget)
 }
 
 // The first matching, under a budget: the forced pairs, then what is left.
 #[cycle(choose_seek_with_bond_without_bond)]
 fn seek(
-    ea: &[u16],
-    eb: &[u16],
+    ends: EndTables,
     el: &mut [u8],
     need: &mut [u8],
     row: &mut [u8],
     pairs: &mut [u16],
     budget: &mut usize,
 ) -> Sought
-    requires shape { Shape ea.now eb.now el.old need.old row.old 0 }
-    requires roomy { Roomy ea.now eb.now el.old need.old pairs.old }
-    ensures tried { Tried need.old row.old 0 (length ea.now) (all_of (bonds_of ea.now eb.now el.old) need.old) result need.new row.new }
+    requires shape { Shape ends.first.now ends.second.now el.old need.old row.old 0 }
+    requires roomy { Roomy ends.first.now ends.second.now el.old need.old pairs.old }
+    ensures tried { Tried need.old row.old 0 (length ends.entry.first.now) (all_of (bonds_of ends.entry.first.now ends.entry.second.now el.old) need.old) result need.new row.new }
     ensures el_unchanged { el.new ≡ el.old }
 {
-    let forcing = force(ea, eb, el, need, pairs);
+    let forcing = force(Links { ends, elided: el }, need, pairs);
     let n = forcing.count;
-    charge(budget, n);
-    charge(budget, 1);
-    let got = choose(
-        ea,
-        eb,
-        el,
-        need,
-        row,
-        &mut pairs[n..],
-        forcing.stuck,
-        budget,
-    );
-    undo(ea, eb, need, pairs, n);
+    *budget = budget.saturating_sub(n).saturating_sub(1);
+    let got = choose(ends, el, need, row, &mut pairs[n..], forcing.stuck, budget);
+    undo(ends, need, pairs, n);
     let Sought::Found = got else {
         return got;
     };
@@ -377,27 +337,31 @@ fn seek(
 
 // The first matching, written to the row up to the last bond; zeros where there is none. Where the budget is spent, the certified search answers.
 fn seek_any(
-    ea: &[u16],
-    eb: &[u16],
+    ends: EndTables,
     el: &mut [u8],
     need: &mut [u8],
     row: &mut [u8],
     pairs: &mut [u16],
 ) -> bool
-    requires shape { Shape ea.now eb.now el.old need.old row.old 0 }
-    requires roomy { Roomy ea.now eb.now el.old need.old pairs.old }
-    ensures searched { Searched need.old row.old 0 (length ea.now) (all_of (bonds_of ea.now eb.now el.old) need.old) result need.new row.new }
+    requires shape { Shape ends.first.now ends.second.now el.old need.old row.old 0 }
+    requires roomy { Roomy ends.first.now ends.second.now el.old need.old pairs.old }
+    ensures searched { Searched need.old row.old 0 (length ends.entry.first.now) (all_of (bonds_of ends.entry.first.now ends.entry.second.now el.old) need.old) result need.new row.new }
     ensures el_unchanged { el.new ≡ el.old }
 {
     let mut budget = BUDGET;
-    let got = seek(ea, eb, el, need, row, pairs, &mut budget);
+    let got = seek(ends, el, need, row, pairs, &mut budget);
     match got {
         Sought::Found => true,
         Sought::Absent => {
-            matching_search::blank(row, BondId(0), BondId(ea.len()));
+            matching_search::blank(row, BondId(0), BondId(ends.first.len()));
             false
         }
-        Sought::GaveUp => matching_certified::seek(ea, eb, el, need, row, BondId(0)),
+        Sought::GaveUp => matching_certified::seek(
+            Links { ends, elided: el },
+            need,
+            row,
+            BondId(0),
+        ),
     }
 }
 
@@ -406,30 +370,25 @@ pub fn clear_pairs(pairs: &mut [u16], from: usize)
     requires { from ≤ length pairs.old }
     ensures { pairs.new ≡ take from pairs.old ++ replicate (length pairs.old - from) 0 }
 {
-    let mut i = from;
-    while i < pairs.len() {
-        pairs[i] = 0;
-        i += 1;
-    }
+    pairs[from..].fill(0);
 }
 
 // internal: the first matching, and the forced list with its number, zeroed where there is no matching. The flags are used up.
 pub fn first_forced(
-    ea: &[u16],
-    eb: &[u16],
+    ends: EndTables,
     el: &mut [u8],
     need: &mut [u8],
     row: &mut [u8],
     pairs: &mut [u16],
 ) -> ForcedAnswer
-    requires shape { Shape ea.now eb.now el.old need.old row.old 0 }
-    requires roomy { Roomy ea.now eb.now el.old need.old pairs.old × (length ea.now ≤ length pairs.old) }
-    ensures { FirstReply (bonds_of ea.now eb.now el.old) need.old row.old pairs.old result.answer result.count row.new pairs.new }
+    requires shape { Shape ends.first.now ends.second.now el.old need.old row.old 0 }
+    requires roomy { Roomy ends.first.now ends.second.now el.old need.old pairs.old × (length ends.first.now ≤ length pairs.old) }
+    ensures { FirstReply (bonds_of ends.entry.first.now ends.entry.second.now el.old) need.old row.old pairs.old result.answer result.count row.new pairs.new }
 {
-    let m = ea.len();
-    let forcing = force(ea, eb, el, need, pairs);
+    let m = ends.first.len();
+    let forcing = force(Links { ends, elided: el }, need, pairs);
     let n = forcing.count;
-    let found = seek_any(ea, eb, el, need, row, &mut pairs[n..]);
+    let found = seek_any(ends, el, need, row, &mut pairs[n..]);
     matching_search::clear(row, BondId(m));
     if found {
         set_ones(row, pairs, n);
@@ -449,25 +408,24 @@ pub fn first_forced(
 // The first matching after the row that has the free bond b, as the row has it.
 #[cycle(later_later_left_later_with_later_without)]
 fn later_with(
-    ea: &[u16],
-    eb: &[u16],
+    ends: EndTables,
     el: &mut [u8],
     need: &mut [u8],
     row: &mut [u8],
     pairs: &mut [u16],
     b: BondId,
 ) -> bool
-    requires shape { Shape ea.now eb.now el.old need.old row.old 0 }
-    requires roomy { Roomy ea.now eb.now el.old need.old pairs.old × Chosen ea.now eb.now el.old need.old b.0 }
-    requires row_value { (is_of (bonds_of ea.now eb.now el.old) need.old (take (length ea.now) row.old) ≡ true) × (get_or row.old b.0 0 ≡ 1) }
-    ensures searched { Searched need.old row.old 0 (length ea.now) (later_with (bonds_of ea.now eb.now el.old) need.old (take (length ea.now) row.old) b.0) result need.new row.new }
+    requires shape { Shape ends.first.now ends.second.now el.old need.old row.old 0 }
+    requires roomy { Roomy ends.first.now ends.second.now el.old need.old pairs.old × Chosen ends.first.now ends.second.now el.old need.old b.0 }
+    requires row_value { (is_of (bonds_of ends.first.now ends.second.now el.old) need.old (take (length ends.first.now) row.old) ≡ true) × (get_or row.old b.0 0 ≡ 1) }
+    ensures searched { Searched need.old row.old 0 (length ends.entry.first.now) (later_with (bonds_of ends.entry.first.now ends.entry.second.now el.old) need.old (take (length ends.entry.first.now) row.old) b.0) result need.new row.new }
     ensures el_unchanged { el.new ≡ el.old }
 {
     let at = b.0;
     row[at] = 0;
-    matching_search::mark(ea, eb, need, b, 0);
-    let found = later(ea, eb, el, need, row, pairs);
-    matching_search::mark(ea, eb, need, b, 1);
+    matching_search::mark(ends, need, b, 0);
+    let found = later(ends, el, need, row, pairs);
+    matching_search::mark(ends, need, b, 1);
     if found {
         row[at] = 1;
     }
@@ -477,45 +435,43 @@ fn later_with(
 // The first matching after the row without the free bond b, as the row is without it.
 #[cycle(later_later_left_later_with_later_without)]
 fn later_without(
-    ea: &[u16],
-    eb: &[u16],
+    ends: EndTables,
     el: &mut [u8],
     need: &mut [u8],
     row: &mut [u8],
     pairs: &mut [u16],
     b: BondId,
 ) -> bool
-    requires shape { Shape ea.now eb.now el.old need.old row.old 0 }
-    requires roomy { Roomy ea.now eb.now el.old need.old pairs.old × Chosen ea.now eb.now el.old need.old b.0 }
-    requires row_value { (is_of (bonds_of ea.now eb.now el.old) need.old (take (length ea.now) row.old) ≡ true) × (get_or row.old b.0 0 ≡ 0) }
-    ensures searched { Searched need.old row.old 0 (length ea.now) (later_of (off (bonds_of ea.now eb.now el.old) b.0) need.old (take (length ea.now) row.old)) result need.new row.new }
+    requires shape { Shape ends.first.now ends.second.now el.old need.old row.old 0 }
+    requires roomy { Roomy ends.first.now ends.second.now el.old need.old pairs.old × Chosen ends.first.now ends.second.now el.old need.old b.0 }
+    requires row_value { (is_of (bonds_of ends.first.now ends.second.now el.old) need.old (take (length ends.first.now) row.old) ≡ true) × (get_or row.old b.0 0 ≡ 0) }
+    ensures searched { Searched need.old row.old 0 (length ends.entry.first.now) (later_of (off (bonds_of ends.entry.first.now ends.entry.second.now el.old) b.0) need.old (take (length ends.entry.first.now) row.old)) result need.new row.new }
     ensures el_unchanged { el.new ≡ el.old }
 {
     let at = b.0;
     el[at] = 0;
-    let found = later(ea, eb, el, need, row, pairs);
+    let found = later(ends, el, need, row, pairs);
     el[at] = 1;
     found
 }
 
 // The first matching of all without the free bond b.
 fn first_without(
-    ea: &[u16],
-    eb: &[u16],
+    ends: EndTables,
     el: &mut [u8],
     need: &mut [u8],
     row: &mut [u8],
     pairs: &mut [u16],
     b: BondId,
 ) -> bool
-    requires shape { Shape ea.now eb.now el.old need.old row.old 0 }
-    requires roomy { Roomy ea.now eb.now el.old need.old pairs.old × Chosen ea.now eb.now el.old need.old b.0 }
-    ensures searched { Searched need.old row.old 0 (length ea.now) (left_of (bonds_of ea.now eb.now el.old) need.old b.0) result need.new row.new }
+    requires shape { Shape ends.first.now ends.second.now el.old need.old row.old 0 }
+    requires roomy { Roomy ends.first.now ends.second.now el.old need.old pairs.old × Chosen ends.first.now ends.second.now el.old need.old b.0 }
+    ensures searched { Searched need.old row.old 0 (length ends.entry.first.now) (left_of (bonds_of ends.entry.first.now ends.entry.second.now el.old) need.old b.0) result need.new row.new }
     ensures el_unchanged { el.new ≡ el.old }
 {
     let at = b.0;
     el[at] = 0;
-    let found = seek_any(ea, eb, el, need, row, pairs);
+    let found = seek_any(ends, el, need, row, pairs);
     el[at] = 1;
     found
 }
@@ -523,54 +479,46 @@ fn first_without(
 // What is left after the forced pairs, from a row that is a matching: the lowest free bond is kept as the row has it, and then left.
 #[cycle(later_later_left_later_with_later_without)]
 fn later_left(
-    ea: &[u16],
-    eb: &[u16],
+    ends: EndTables,
     el: &mut [u8],
     need: &mut [u8],
     row: &mut [u8],
     pairs: &mut [u16],
 ) -> bool
-    requires shape { Shape ea.now eb.now el.old need.old row.old 0 }
-    requires roomy { Roomy ea.now eb.now el.old need.old pairs.old }
-    requires row_value { is_of (bonds_of ea.now eb.now el.old) need.old (take (length ea.now) row.old) ≡ true }
-    ensures searched { Searched need.old row.old 0 (length ea.now) (later_of (bonds_of ea.now eb.now el.old) need.old (take (length ea.now) row.old)) result need.new row.new }
+    requires shape { Shape ends.first.now ends.second.now el.old need.old row.old 0 }
+    requires roomy { Roomy ends.first.now ends.second.now el.old need.old pairs.old }
+    requires row_value { is_of (bonds_of ends.first.now ends.second.now el.old) need.old (take (length ends.first.now) row.old) ≡ true }
+    ensures searched { Searched need.old row.old 0 (length ends.entry.first.now) (later_of (bonds_of ends.entry.first.now ends.entry.second.now el.old) need.old (take (length ends.entry.first.now) row.old)) result need.new row.new }
     ensures el_unchanged { el.new ≡ el.old }
 {
-    let b = lowest_free(ea, eb, el, need);
+    let b = lowest_free(Links { ends, elided: el }, need);
     let at = b.0;
-    if ea.len() <= at {
+    if ends.first.len() <= at {
         return false;
     }
     if row[at] == 1 {
-        if later_with(ea, eb, el, need, row, pairs, b) {
+        if later_with(ends, el, need, row, pairs, b) {
             return true;
         }
-        return first_without(ea, eb, el, need, row, pairs, b);
+        return first_without(ends, el, need, row, pairs, b);
     }
-    later_without(ea, eb, el, need, row, pairs, b)
+    later_without(ends, el, need, row, pairs, b)
 }
 
 // The first matching that comes after the row, which is one, written over it; zeros where there is none.
 #[cycle(later_later_left_later_with_later_without)]
-fn later(
-    ea: &[u16],
-    eb: &[u16],
-    el: &mut [u8],
-    need: &mut [u8],
-    row: &mut [u8],
-    pairs: &mut [u16],
-) -> bool
-    requires shape { Shape ea.now eb.now el.old need.old row.old 0 }
-    requires roomy { Roomy ea.now eb.now el.old need.old pairs.old }
-    requires row_value { is_of (bonds_of ea.now eb.now el.old) need.old (take (length ea.now) row.old) ≡ true }
-    ensures searched { Searched need.old row.old 0 (length ea.now) (later_of (bonds_of ea.now eb.now el.old) need.old (take (length ea.now) row.old)) result need.new row.new }
+fn later(ends: EndTables, el: &mut [u8], need: &mut [u8], row: &mut [u8], pairs: &mut [u16]) -> bool
+    requires shape { Shape ends.first.now ends.second.now el.old need.old row.old 0 }
+    requires roomy { Roomy ends.first.now ends.second.now el.old need.old pairs.old }
+    requires row_value { is_of (bonds_of ends.first.now ends.second.now el.old) need.old (take (length ends.first.now) row.old) ≡ true }
+    ensures searched { Searched need.old row.old 0 (length ends.entry.first.now) (later_of (bonds_of ends.entry.first.now ends.entry.second.now el.old) need.old (take (length ends.entry.first.now) row.old)) result need.new row.new }
     ensures el_unchanged { el.new ≡ el.old }
 {
-    let forcing = force(ea, eb, el, need, pairs);
+    let forcing = force(Links { ends, elided: el }, need, pairs);
     let n = forcing.count;
     set_zeros(row, pairs, n);
-    let found = later_left(ea, eb, el, need, row, &mut pairs[n..]);
-    undo(ea, eb, need, pairs, n);
+    let found = later_left(ends, el, need, row, &mut pairs[n..]);
+    undo(ends, need, pairs, n);
     if found {
         set_ones(row, pairs, n);
     }
@@ -579,23 +527,22 @@ fn later(
 
 // internal: the first matching that comes after the row. What pairs holds afterwards is left open: it is scratch.
 pub fn next_forced(
-    ea: &[u16],
-    eb: &[u16],
+    ends: EndTables,
     el: &mut [u8],
     need: &mut [u8],
     row: &mut [u8],
     pairs: &mut [u16],
 ) -> MatchingAnswer
-    requires shape { Shape ea.now eb.now el.old need.old row.old 0 }
-    requires roomy { Roomy ea.now eb.now el.old need.old pairs.old }
-    ensures { reply result row.new ≡ row_next (is_matching need.old (bonds_of ea.now eb.now el.old)) (length ea.now) (length row.old) (take (length ea.now) row.old) }
+    requires shape { Shape ends.first.now ends.second.now el.old need.old row.old 0 }
+    requires roomy { Roomy ends.first.now ends.second.now el.old need.old pairs.old }
+    ensures { reply result row.new ≡ row_next (is_matching need.old (bonds_of ends.entry.first.now ends.entry.second.now el.old)) (length ends.entry.first.now) (length row.old) (take (length ends.entry.first.now) row.old) }
 {
-    if !matching_search::is_matching(ea, eb, el, need, row, BondId(0)) {
+    if !matching_search::is_matching(Links { ends, elided: el }, need, row, BondId(0)) {
         matching_search::clear(row, BondId(0));
         return MatchingAnswer::Refused;
     }
-    let found = later(ea, eb, el, need, row, pairs);
-    matching_search::clear(row, BondId(ea.len()));
+    let found = later(ends, el, need, row, pairs);
+    matching_search::clear(row, BondId(ends.first.len()));
     if found {
         MatchingAnswer::Given
     } else {

@@ -1,29 +1,27 @@
 -- The flags of the atoms without a partner: looking for one, and marking a bond's ends and back. Assumes nothing.
 use mathlib.Core.Path.{◌≡◌, refl, sym, ap, ◌∙◌}
-use mathlib.Core.Bool.{Bool, true, false, ◌&&◌, not}
-use mathlib.Core.List.{List}
-use Prim.Native.Nat.{ℕ, ◌+◌, ◌≤◌, ◌<◌}
+use mathlib.Core.Bool.{Bool, true, false, ◌&&◌, ◌||◌, not}
+use mathlib.Core.List.{List, [], ◌∷◌}
+use Prim.Native.Nat.{ℕ}
 use native.Mathlib.Omega.{arith}
-use native.Mathlib.Numerals.{add-one}
 use native.Mathlib.Decide.{ℕ_discrete}
 use lib.Dec.{eqb}
-use lib.ListN.{length, drop, get_or, set, drop_of_length-le}
-use lib.Seq.{drop-cons, set-set, set_comm, set-get_or}
-use borrow.Author.Tests.{eq-eqb, ne_eqb, eqb-true}
+use lib.ListN.{get_or, set}
+use lib.Seq.{set-set, set_comm, set-get_or}
+use borrow.Author.Tests.{eqb-true}
+use Rattle.std.specs.List.{list_any}
 use Rattle.matching.specs.Graph.{none_flagged, flagged}
 use Rattle.matching.specs.Model.{free_at, mark_at}
 
-pub none_here : (need : List ℕ) (i : ℕ) → i < length need → get_or need i 0 ≡ 1 → none_flagged (drop i need) ≡ false
-unfolding none_flagged
-none_here need i h e = rw (drop-cons need i 0 h, eq-eqb (get_or need i 0) 1 e)
+not_or : (a b : Bool) → not (a || b) ≡ (not a && not b)
+not_or true b = refl
+not_or false b = refl
 
-pub none-step : (need : List ℕ) (i : ℕ) → i < length need → (get_or need i 0 ≡ 1 → ⊥) → none_flagged (drop i need) ≡ none_flagged (drop (i + 1) need)
+-- every atom has its partner where no flag is 1
+pub none-any : (need : List ℕ) → not (list_any (λ k. eqb k 1) need) ≡ none_flagged need
 unfolding none_flagged
-none-step need i h e = rw (add-one, drop-cons need i 0 h, ne_eqb (get_or need i 0) 1 e)
-
-pub none_end : (need : List ℕ) (i : ℕ) → length need ≤ i → none_flagged (drop i need) ≡ true
-unfolding none_flagged
-none_end need i h = rw (drop_of_length-le need h)
+none-any [] = refl
+none-any (k ∷ ks) = rw (← none-any ks) (not_or (eqb k 1) (list_any (λ k. eqb k 1) ks))
 
 -- the ends of a chosen bond get their flags back
 restore-by : (need : List ℕ) (a b : ℕ) → Dec (a ≡ b) → get_or need a 0 ≡ 1 → get_or need b 0 ≡ 1 → set (set (set (set need a 0) b 0) a 1) b 1 ≡ need

@@ -1,4 +1,3 @@
-pub mod Copying
 pub mod Rows
 pub mod Used
 pub mod Claims

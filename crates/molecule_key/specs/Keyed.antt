@@ -1,6 +1,7 @@
 -- The key of a molecule in tables: what the call hands back, and what it does not look at
-use Rattle.std.specs.Prelude.{ℕ, ◌<◌, ◌≡◌, List, ℤ}
+use Rattle.std.specs.Prelude.{ℕ, ◌<◌, ◌≡◌, List, ℤ, Result, Ok, Err}
 use Rattle.loops.specs.Loop.{pick}
+use Rattle.refusal.specs.declared.Refusal.{Refusal}
 use Rattle.refusal.specs.Code.{code_of}
 use Rattle.table.specs.Limits.{atom_cells, bond_cells}
 use Rattle.table.specs.Cells.{atom_cell, bond_cell}
@@ -9,7 +10,6 @@ use Rattle.table.specs.Sound.{sound}
 use Rattle.same_model.specs.Same.{Molecule, molecule}
 use Rattle.folding.specs.Folding.{folded}
 use Rattle.drawing_key.specs.Key.{key_of}
-use Rattle.molecule_key.specs.declared.KeyAnswer.{KeyAnswer}
 
 -- 0 with the key, or a refusal's code with 0
 pub record KeyOut : Type 0 where
@@ -19,9 +19,9 @@ pub record KeyOut : Type 0 where
 abbrev pub keyed : ℕ → ℕ → KeyOut
 keyed c k = record { code = c; key = k }
 
-abbrev pub told : KeyAnswer → KeyOut
-told (KeyAnswer.Key k) = keyed 0 k
-told (KeyAnswer.Refused r) = keyed (code_of r) 0
+abbrev pub told : Result ℕ Refusal → KeyOut
+told (Ok k) = keyed 0 k
+told (Err r) = keyed (code_of r) 0
 
 -- 1, then 13, then the key of the folded molecule
 unfoldable pub keyed_of : List ℤ → List ℤ → ℕ → ℕ → KeyOut

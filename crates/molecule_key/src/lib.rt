@@ -2,8 +2,7 @@
 #![tactic(auto)]
 
 ghost use Rattle.std.specs.Prelude.{◌≡◌, ◌*◌, ◌≤◌, length};
-ghost use Rattle.ids.specs.Small.{small};
-ghost use Rattle.table.specs.Limits.{atom_cells, bond_cells};
+ghost use Rattle.table.specs.Limits.{max_atoms, max_bonds, atom_cells, bond_cells};
 ghost use Rattle.same_model.specs.Same.{molecule};
 ghost use Rattle.folding.specs.Folding.{folded, Complete};
 ghost use Rattle.drawing_key.specs.Key.{key_of};
@@ -11,95 +10,70 @@ ghost use Rattle.molecule_key.specs.Keyed.{told, keyed_of};
 
 use ids::SMALL;
 use refusal::Refusal;
-use table::{ATOM_CELLS, BOND_CELLS, MAX_ATOMS, MAX_BONDS};
+use table::{ATOM_CELLS, BOND_CELLS, MAX_ATOMS, MAX_BONDS, Tables};
 
-// The key, or a refusal.
-#[derive(Clone, Copy)]
-pub enum KeyAnswer {
-    Key(u64),
-    Refused(Refusal),
-}
+// The cells of the tables of a small molecule, and of any molecule.
+const SMALL_ATOM_CELLS: usize = ATOM_CELLS * SMALL;
 
-// Copies all cells.
-fn copy(from: &[i32], to: &mut [i32])
-    requires { length to.old ≡ length from.now }
-    ensures { to.new ≡ from.now }
+const SMALL_BOND_CELLS: usize = BOND_CELLS * SMALL;
+
+const MAX_ATOM_CELLS: usize = ATOM_CELLS * MAX_ATOMS;
+
+const MAX_BOND_CELLS: usize = BOND_CELLS * MAX_BONDS;
+
+// The key of the used rows, which are copied into at most A and B cells and folded there.
+fn folded_key<const A: usize, const B: usize>(tables: Tables) -> u64
+    requires complete { Complete (molecule tables.atoms.now tables.bonds.now tables.n tables.m) }
+    requires room { (length tables.atoms.now ≤ A) × (length tables.bonds.now ≤ B) }
+    requires sizes { (A ≤ atom_cells * max_atoms) × (B ≤ bond_cells * max_bonds) }
+    ensures { result ≡ key_of (folded (molecule tables.entry.atoms.now tables.entry.bonds.now tables.entry.n tables.entry.m)) }
 {
-    let mut i = 0;
-    while i < from.len() {
-        to[i] = from[i];
-        i += 1;
-    }
-}
-
-// The key of the used rows, which are copied and folded.
-fn folded_key(
-    atoms: &[i32],
-    bonds: &[i32],
-    n: usize,
-    m: usize,
-    spare: &mut [i32],
-    beside: &mut [i32],
-) -> u64
-    requires complete { Complete (molecule atoms.now bonds.now n m) }
-    requires spare_len { (length spare.old ≡ length atoms.now) × (length beside.old ≡ length bonds.now) }
-    ensures { result ≡ key_of (folded (molecule atoms.now bonds.now n m)) }
-{
-    copy(atoms, spare);
-    copy(bonds, beside);
+    let Tables { atoms, bonds, n, m } = tables;
+    let mut spare = [0i32; A];
+    let mut beside = [0i32; B];
+    let spare = &mut spare[..atoms.len()];
+    let beside = &mut beside[..bonds.len()];
+    spare.copy_from_slice(atoms);
+    beside.copy_from_slice(bonds);
     let c = folding::fold(spare, beside, n, m);
-    drawing_key::key(spare, beside, c.atoms, c.bonds)
-}
-
-// The key of few atoms and bonds.
-fn small_key(atoms: &[i32], bonds: &[i32], n: usize, m: usize) -> u64
-    requires complete { Complete (molecule atoms.now bonds.now n m) }
-    requires atoms_len { (length atoms.now ≡ atom_cells * n) × (length bonds.now ≡ bond_cells * m) × (n ≤ small) × (m ≤ small) }
-    ensures { result ≡ key_of (folded (molecule atoms.now bonds.now n m)) }
-{
-    let mut spare = [0i32; ATOM_CELLS * SMALL];
-    let mut beside = [0i32; BOND_CELLS * SMALL];
-    let a = ATOM_CELLS * n;
-    let b = BOND_CELLS * m;
-    folded_key(atoms, bonds, n, m, &mut spare[..a], &mut beside[..b])
-}
-
-// The key of any molecule.
-fn large_key(atoms: &[i32], bonds: &[i32], n: usize, m: usize) -> u64
-    requires complete { Complete (molecule atoms.now bonds.now n m) }
-    requires atoms_len { (length atoms.now ≡ atom_cells * n) × (length bonds.now ≡ bond_cells * m) }
-    ensures { result ≡ key_of (folded (molecule atoms.now bonds.now n m)) }
-{
-    let mut spare = [0i32; ATOM_CELLS * MAX_ATOMS];
-    let mut beside = [0i32; BOND_CELLS * MAX_BONDS];
-    let a = ATOM_CELLS * n;
-    let b = BOND_CELLS * m;
-    folded_key(atoms, bonds, n, m, &mut spare[..a], &mut beside[..b])
+    drawing_key::key(Tables {
+        atoms: spare,
+        bonds: beside,
+        n: c.atoms,
+        m: c.bonds,
+    })
 }
 
 // The key of tables that hold their used rows and no more.
-fn rows_key(atoms: &[i32], bonds: &[i32], n: usize, m: usize) -> u64
-    requires complete { Complete (molecule atoms.now bonds.now n m) }
-    requires atoms_len { (length atoms.now ≡ atom_cells * n) × (length bonds.now ≡ bond_cells * m) }
-    ensures { result ≡ key_of (folded (molecule atoms.now bonds.now n m)) }
+fn rows_key(tables: Tables) -> u64
+    requires complete { Complete (molecule tables.atoms.now tables.bonds.now tables.n tables.m) }
+    requires atoms_len { (length tables.atoms.now ≡ atom_cells * tables.n) × (length tables.bonds.now ≡ bond_cells * tables.m) }
+    ensures { result ≡ key_of (folded (molecule tables.entry.atoms.now tables.entry.bonds.now tables.entry.n tables.entry.m)) }
 {
-    if (n <= SMALL) & (m <= SMALL) {
-        return small_key(atoms, bonds, n, m);
+    if tables.n <= SMALL && tables.m <= SMALL {
+        folded_key::<SMALL_ATOM_CELLS, SMALL_BOND_CELLS>(tables)
+    } else {
+        folded_key::<MAX_ATOM_CELLS, MAX_BOND_CELLS>(tables)
     }
-    large_key(atoms, bonds, n, m)
 }
 
 // The key of the molecule of the tables, of any size: redrawings have equal keys. Refusals 1, 13.
-pub fn key(atoms: &[i32], bonds: &[i32], n: usize, m: usize) -> KeyAnswer
-    ensures { told result ≡ keyed_of atoms.now bonds.now n m }
+pub fn key(tables: Tables) -> Result<u64, Refusal>
+    ensures { told result ≡ keyed_of tables.entry.atoms.now tables.entry.bonds.now tables.entry.n tables.entry.m }
 {
+    let Tables { atoms, bonds, n, m } = tables;
     if !table_validity::enough(atoms, bonds) {
-        return KeyAnswer::Refused(Refusal::Short);
+        return Err(Refusal::Short);
     }
-    if !table_validity::sound(atoms, bonds, n, m) {
-        return KeyAnswer::Refused(Refusal::Invalid);
+    if !table_validity::sound(tables) {
+        return Err(Refusal::Invalid);
     }
     let a = ATOM_CELLS * n;
     let b = BOND_CELLS * m;
-    KeyAnswer::Key(rows_key(&atoms[..a], &bonds[..b], n, m))
+    Ok(rows_key(Tables {
+        atoms: &atoms[..a],
+        bonds: &bonds[..b],
+        n,
+        m,
+    }))
 }

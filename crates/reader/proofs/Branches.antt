@@ -31,10 +31,11 @@ use Rattle.reading_fields.specs.Field.{Peeked}
 use Rattle.reading_fields.proofs.Rest.{rest_end, rest_up, rest-up-refused, rest-down}
 use Rattle.reading_fields.proofs.Bytes.{there, byte-in}
 use Rattle.reader.specs.declared.piece.Start.{Start}
-use Rattle.reader.specs.declared.bridge.Why.{Why}
+use Rattle.std.specs.Prelude.{Result, Ok, Err}
+use Rattle.reader.specs.declared.answer.TextRefusal.{TextRefusal}
 use Rattle.reader.specs.Piece.{pending_of, Joined}
 use Rattle.reader.specs.Added.{Reaches}
-use Rattle.reader.specs.Outcome.{Bounded, Outcome, refused_at, Past, Sequenced, Branched, Closable, ended_as, branch_ended}
+use Rattle.reader.specs.Outcome.{Bounded, Reached, Outcome, refused_at, Sequenced, Branched, Closable, branch_ended}
 use Rattle.reader.proofs.Bridges.{set-le}
 
 open_up : (b : ℕ) → b ≡ 40 → next (seq plain) b ≡ up
@@ -68,19 +69,12 @@ ends-inside s p d μ z e =
     rest_end s p (seq plain) μ (omega arith) ∙ ap (λ (k : ℕ). pick (resting (seq plain) k) (good μ) (bad 3 (length s))) e ∙ ap (bad 3) (sym z)
 
 -- ---- the end of a branch
-pub as-closable : (w : Why) (t : Steering) → Closable w t → w ≡ Why.Fine → (0 < t.depth) × Bounded t
-as-closable w t h e = subst (λ (z : Why). Closable z t) e h
+module _ (s : List ℕ) (o : Reached) {c : ℕ} (k : Peeked s o.at c) where
+  pub ended-closed : {v : Steering} → c ≡ 41 → v ≡ closed o.st → ◌≡◌ {A = Outcome} (Ok (record { at = o.at + 1; st = v })) (branch_ended s o)
+  ended-closed z e = rw (e, eq-eqb (get_or s o.at 0) 41 (sym k.is ∙ z))
 
-module _ (s : List ℕ) (o : Outcome) where
-  pub ended-refused : {c : Refusal} {e : ℕ} → o.why ≡ Why.Refused c e → o ≡ branch_ended s o
-  ended-refused w = rw w refl
-
-  module _ (w : o.why ≡ Why.Fine) {c : ℕ} (k : Peeked s o.at c) where
-    pub ended-closed : {v : Steering} → c ≡ 41 → v ≡ closed o.st → record { why = Why.Fine; at = o.at + 1; st = v } ≡ branch_ended s o
-    ended-closed z e = rw (w, e, eq-eqb (get_or s o.at 0) 41 (sym k.is ∙ z))
-
-    pub ended-unclosed : {x : Outcome} → (c ≡ 41 → ⊥) → x ≡ refused_at Grammar o.at o.st → x ≡ branch_ended s o
-    ended-unclosed n e = rw (w, e, ne_eqb (get_or s o.at 0) 41 (λ y. n (k.is ∙ y)))
+  pub ended-unclosed : (c ≡ 41 → ⊥) → refused_at Grammar o.at ≡ branch_ended s o
+  ended-unclosed n = rw (ne_eqb (get_or s o.at 0) 41 (λ y. n (k.is ∙ y)))
 
 module _ (s : List ℕ) (p : ℕ) (t : Steering) (a b : List ℤ) (l : p < length s) (e : get_or s p 0 ≡ 40) where
   pub deep-refused : max_depth ≤ t.depth → (i : ℕ) (f : Fields) → rest s p (seq plain) (memory t a b nothing i f) ≡ bad 6 p
@@ -96,17 +90,13 @@ module _ (s : List ℕ) (p : ℕ) (t : Steering) (a b : List ℤ) (l : p < lengt
         ∙ j.is (opened t) a b i f ∙ ap (λ (v : Steering). rest s r.at atomNext (memory v a b (pending_of r.joint) i f)) (sym eu)
 
     -- where its sequence was read, the branch is open
-    pub inner-closable : {a' b' : List ℤ} {o : Outcome} → Sequenced s r.at r.joint u a b a' b' o → Closable o.why o.st
+    pub inner-closable : {a' b' : List ℤ} (o : Reached) → Sequenced s r.at r.joint u a b a' b' (Ok o) → Closable o.st
     unfolding opened
-    inner-closable {o = o} g = by o.why g.past
-      where
-        by : (w : Why) → Past s r.at u w o.at o.st → Closable w o.st
-        by Why.Fine y = (omega (arith, y.deep, ap (λ (v : Steering). v.depth) eu), y.bounded)
-        by (Why.Refused c q) y = tt
+    inner-closable o g = (omega (arith, g.past.deep, ap (λ (v : Steering). v.depth) eu), g.past.bounded)
 
     module _ {a' b' : List ℤ} where
       -- the sequence of the branch was read up to q, and the branch closes there, or does not
-      module _ {q : ℕ} {v : Steering} (g : Sequenced s r.at r.joint u a b a' b' (record { why = Why.Fine; at = q; st = v })) where
+      module _ {q : ℕ} {v : Steering} (g : Sequenced s r.at r.joint u a b a' b' (Ok (record { at = q; st = v }))) where
         inner-deep : v.depth ≡ t.depth + 1
         unfolding opened
         inner-deep = g.past.deep ∙ ap (λ (y : Steering). y.depth) eu
@@ -114,7 +104,7 @@ module _ (s : List ℕ) (p : ℕ) (t : Steering) (a b : List ℤ) (l : p < lengt
         inner : (i : ℕ) (f : Fields) → Reaches s (rest s p (seq plain) (memory t a b nothing i f)) q (seq plain) nothing v a' b'
         inner i f = let y = g.goes i f in record { tens = y.tens; draft = y.draft; is = goes_in i f ∙ y.is }
 
-        branch_closes : get_or s q 0 ≡ 41 → Branched s p t a b a' b' (record { why = Why.Fine; at = q + 1; st = closed v })
+        branch_closes : get_or s q 0 ≡ 41 → Branched s p t a b a' b' (Ok (record { at = q + 1; st = closed v }))
         unfolding closed
         branch_closes z = let w = byte-in (there s q) z in record {
           goes = λ i f. let y = inner i f in record {
@@ -131,7 +121,7 @@ module _ (s : List ℕ) (p : ℕ) (t : Steering) (a b : List ℤ) (l : p < lengt
           };
         }
 
-        branch-unclosed : (get_or s q 0 ≡ 41 → ⊥) → Branched s p t a b a' b' (refused_at Grammar q v)
+        branch-unclosed : (get_or s q 0 ≡ 41 → ⊥) → Branched s p t a b a' b' (refused_at Grammar q)
         branch-unclosed n =
             let d : v.depth ≡ suc t.depth = omega (arith, inner-deep) in
             record {
@@ -140,13 +130,12 @@ module _ (s : List ℕ) (p : ℕ) (t : Steering) (a b : List ℤ) (l : p < lengt
             }
 
       -- the branch ends as its sequence did
-      pub branch-ends : {o x : Outcome} → Sequenced s r.at r.joint u a b a' b' o → x ≡ branch_ended s o → Branched s p t a b a' b' x
-      branch-ends {o} g ex = rw ex (by o.why g)
+      pub branch-ends : (o : Reached) {x : Outcome} → Sequenced s r.at r.joint u a b a' b' (Ok o) → x ≡ branch_ended s o → Branched s p t a b a' b' x
+      branch-ends o g ex = rw ex (split (eqb (get_or s o.at 0) 41) refl)
         where
-          by : (w : Why) → Sequenced s r.at r.joint u a b a' b' (record { why = w; at = o.at; st = o.st }) → Branched s p t a b a' b' (ended_as s w o.at o.st)
-          by Why.Fine g = split (eqb (get_or s o.at 0) 41) refl
-            where
-              split : (z : Bool) → eqb (get_or s o.at 0) 41 ≡ z → Branched s p t a b a' b' (ended_as s Why.Fine o.at o.st)
-              split true e = rw e (branch_closes g (eqb-true (get_or s o.at 0) 41 e))
-              split false e = rw e (branch-unclosed g (eqb-false (get_or s o.at 0) 41 e))
-          by (Why.Refused c q) g = record { goes = λ i f. goes_in i f ∙ g.goes i f; past = tt }
+          split : (z : Bool) → eqb (get_or s o.at 0) 41 ≡ z → Branched s p t a b a' b' (pick z (Ok (record { at = o.at + 1; st = closed o.st })) (refused_at Grammar o.at))
+          split true e = branch_closes g (eqb-true (get_or s o.at 0) 41 e)
+          split false e = branch-unclosed g (eqb-false (get_or s o.at 0) 41 e)
+
+      pub branch-refused : (e : TextRefusal) → Sequenced s r.at r.joint u a b a' b' (Err e) → Branched s p t a b a' b' (Err e)
+      branch-refused e g = record { goes = λ i f. goes_in i f ∙ g.goes i f; past = tt }

@@ -5,13 +5,13 @@ use native.Mathlib.Decide.{ℕ_discrete}
 use mathlib.Core.Path.{◌≡◌, refl, sym, ap, ◌∙◌, subst}
 use mathlib.Core.Bool.{Bool, true, false, not, ◌&&◌, ◌||◌}
 use mathlib.Core.List.{List, [], ◌∷◌}
+use Rattle.std.specs.Prelude.{Option, Some, None, Result, Ok, Err}
 use lib.ListN.{get_or, set}
 use lib.IntN.{ℤ}
 use lib.Dec.{eqb, ltb}
 use Rattle.loops.specs.Loop.{pick}
 use Rattle.loops.proofs.Loops.{Left, left-pass, left-fail, left_end, each_all}
 use borrow.Author.Tests.{eq-eqb, ne_eqb, eqb-true, eqb-false, le-leb, lt-leb, lt-ltb}
-use Rattle.ids.specs.declared.AtomId.{AtomId}
 use Rattle.refusal.specs.declared.Refusal.{Refusal}
 use Rattle.refusal.specs.declared.Refusal.TheVariants.{ManyBonds, SelfBridge, RepeatedBond, SymbolClash}
 use Rattle.ids.specs.Limits.{max_text}
@@ -27,11 +27,10 @@ use Rattle.kinds.specs.Kind.{meet, clash}
 use Rattle.reading.specs.Memory.{nothing, symbol, kind_of, joins, joined_already, between, close_refusal, moved}
 use Rattle.reading.specs.Act.{or_refuse, bridge_act, bridge_bond}
 use Rattle.reading_fields.specs.Rest.{memory}
-use Rattle.reader.specs.declared.bridge.Why.{Why}
-use Rattle.reader.specs.declared.bridge.Closing.{Closing}
+use Rattle.reader.specs.declared.answer.TextRefusal.{TextRefusal}
 use Rattle.reader.specs.Piece.{kind_pending}
 use Rattle.reader.specs.Outcome.{Bounded}
-use Rattle.reader.specs.Bridge.{Away, Closes, Bridges}
+use Rattle.reader.specs.Bridge.{Away, Closes, BridgeJoins, Bridges}
 
 module _ (bonds : List ℤ) (a b : ℕ) {m i : ℕ} (l : Left (λ j. not (joins bonds a b j)) m i) where
   pub found : i < m → joins bonds a b i ≡ true → true ≡ joined_already bonds m a b
@@ -88,27 +87,27 @@ module _ {bonds : List ℤ} {a b : ℕ} where
       sym (ap not (each_all (λ i. not (joins bonds a b i)) m (λ j l. ap not (no_join (eqb (end1 bonds j) a) (eqb (end1 bonds j) b) (eqb (end2 bonds j) a) (eqb (end2 bonds j) b) (v.all refl j l)))))
 
 -- ---- the refusals of a bridge that closes
-module _ (bonds : List ℤ) (m u h j k : ℕ) where
-  pub closes-many : max_bonds ≤ m → Closes bonds m u h j k (Closing.Refused ManyBonds)
+module _ (bonds : List ℤ) (m u h j k i : ℕ) where
+  pub closes-many : max_bonds ≤ m → Closes bonds m u h j k i (Err (record { refusal = ManyBonds; at = i }))
   unfolding close_refusal
-  closes-many l p μ = rw (le-leb max_bonds m l)
+  closes-many l = (refl, λ p μ. rw (le-leb max_bonds m l))
 
   module _ (l : m < max_bonds) where
-    pub closes-self : u ≡ h → Closes bonds m u h j k (Closing.Refused SelfBridge)
+    pub closes-self : u ≡ h → Closes bonds m u h j k i (Err (record { refusal = SelfBridge; at = i }))
     unfolding close_refusal
-    closes-self e p μ = rw (lt-leb max_bonds m l, eq-eqb u h e)
+    closes-self e = (refl, λ p μ. rw (lt-leb max_bonds m l, eq-eqb u h e))
 
     module _ (n : u ≡ h → ⊥) where
-      pub closes-again : true ≡ joined_already bonds m u h → Closes bonds m u h j k (Closing.Refused RepeatedBond)
+      pub closes-again : true ≡ joined_already bonds m u h → Closes bonds m u h j k i (Err (record { refusal = RepeatedBond; at = i }))
       unfolding close_refusal
-      closes-again e p μ = rw (lt-leb max_bonds m l, ne_eqb u h n, ← e)
+      closes-again e = (refl, λ p μ. rw (lt-leb max_bonds m l, ne_eqb u h n, ← e))
 
       module _ (e : false ≡ joined_already bonds m u h) where
-        pub closes-clash : clash j k ≡ true → Closes bonds m u h j k (Closing.Refused SymbolClash)
+        pub closes-clash : clash j k ≡ true → Closes bonds m u h j k i (Err (record { refusal = SymbolClash; at = i }))
         unfolding close_refusal
-        closes-clash c p μ = rw (lt-leb max_bonds m l, ne_eqb u h n, ← e, c)
+        closes-clash c = (refl, λ p μ. rw (lt-leb max_bonds m l, ne_eqb u h n, ← e, c))
 
-        pub closes-bond : {x : Bond} {y : ℕ} → clash j k ≡ false → y ≡ meet j k → x ≡ between u h y → Closes bonds m u h j k (Closing.Bond x)
+        pub closes-bond : {x : Bond} {y : ℕ} → clash j k ≡ false → y ≡ meet j k → x ≡ between u h y → Closes bonds m u h j k i (Ok x)
         unfolding close_refusal
         closes-bond c ey ex = (rw (lt-leb max_bonds m l, ne_eqb u h n, ← e, c), l, ex ∙ ap (between u h) ey)
 
@@ -128,56 +127,52 @@ set-le (x ∷ l) (suc r) v n h k zero = k zero
 set-le (x ∷ l) (suc r) v n h k (suc i) = set-le l r v n h (λ j. k (suc j)) i
 
 -- ---- where a number was opened
-module _ (t : Steering) (r : ℕ) {x : Opening} (ex : x ≡ opening_of t r) where
-  opened-free : x ≡ Opening.Free → get_or t.opener r 0 ≡ 0
+module _ (t : Steering) (r : ℕ) {x : Option Opening} (ex : x ≡ opening_of t r) where
+  opened-free : x ≡ None → get_or t.opener r 0 ≡ 0
   unfolding opening_of
   opened-free e = split (eqb (get_or t.opener r 0) 0) refl (sym ex ∙ e)
     where
-      split : (y : Bool) → eqb (get_or t.opener r 0) 0 ≡ y → pick y Opening.Free (Opening.At (record { 0 = get_or t.opener r 0 - 1 }) (get_or t.symbol r 0)) ≡ Opening.Free → get_or t.opener r 0 ≡ 0
+      split : (y : Bool) → eqb (get_or t.opener r 0) 0 ≡ y → pick {A = Option Opening} y None (Some (record { atom = record { 0 = get_or t.opener r 0 - 1 }; symbol = get_or t.symbol r 0 })) ≡ None → get_or t.opener r 0 ≡ 0
       split true q h = eqb-true (get_or t.opener r 0) 0 q
       split false q h = absurd (let z : ◌≡◌ {A = ℕ} 0 1 = cc in omega arith)
 
-  opened-at : {u : AtomId} {j : ℕ} → x ≡ Opening.At u j → (get_or t.opener r 0 ≡ 0 → ⊥) × (u.0 ≡ get_or t.opener r 0 - 1) × (j ≡ get_or t.symbol r 0)
+  opened-at : {o : Opening} → x ≡ Some o → (get_or t.opener r 0 ≡ 0 → ⊥) × (o.atom.0 ≡ get_or t.opener r 0 - 1) × (o.symbol ≡ get_or t.symbol r 0)
   unfolding opening_of
-  opened-at {u} {j} e = split (eqb (get_or t.opener r 0) 0) refl (sym ex ∙ e)
+  opened-at {o} e = split (eqb (get_or t.opener r 0) 0) refl (sym ex ∙ e)
     where
-      split : (y : Bool) → eqb (get_or t.opener r 0) 0 ≡ y → pick y Opening.Free (Opening.At (record { 0 = get_or t.opener r 0 - 1 }) (get_or t.symbol r 0)) ≡ Opening.At u j
-          → (get_or t.opener r 0 ≡ 0 → ⊥) × (u.0 ≡ get_or t.opener r 0 - 1) × (j ≡ get_or t.symbol r 0)
+      split : (y : Bool) → eqb (get_or t.opener r 0) 0 ≡ y → pick {A = Option Opening} y None (Some (record { atom = record { 0 = get_or t.opener r 0 - 1 }; symbol = get_or t.symbol r 0 })) ≡ Some o
+          → (get_or t.opener r 0 ≡ 0 → ⊥) × (o.atom.0 ≡ get_or t.opener r 0 - 1) × (o.symbol ≡ get_or t.symbol r 0)
       split true q h = absurd (let z : ◌≡◌ {A = ℕ} 0 1 = cc in omega arith)
-      split false q h = (eqb-false (get_or t.opener r 0) 0 q, cc, cc)
+      split false q h = let e : o ≡ record { atom = record { 0 = get_or t.opener r 0 - 1 }; symbol = get_or t.symbol r 0 } = cc in
+          rw e (eqb-false (get_or t.opener r 0) 0 q, refl, refl)
 
-  pub opened-small : {u : AtomId} {j : ℕ} → x ≡ Opening.At u j → Bounded t → u.0 < 65536
+  pub opened-small : {o : Opening} → x ≡ Some o → Bounded t → o.atom.0 < 65536
   opened-small e g = omega (arith, (opened-at e).1, g.opener r)
 
-module _ (t : Steering) (r k p : ℕ) (b : List ℤ) {x : Opening} (ex : x ≡ opening_of t r) where
+module _ (t : Steering) (r k p : ℕ) (b : List ℤ) {x : Option Opening} (ex : x ≡ opening_of t r) where
   -- a bridge that opens
-  pub bridge-opens : {o' y' : List ℕ} → x ≡ Opening.Free → o' ≡ set t.offset r p → y' ≡ t.keys → Bridges t r k p b b o' y' Why.Fine
+  pub bridge-opens : {o' y' : List ℕ} → x ≡ None → o' ≡ set t.offset r p → y' ≡ t.keys → BridgeJoins t r k p b b o' y'
   unfolding bridge_act joined
   bridge-opens e eo ey = let q = eq-eqb (get_or t.opener r 0) 0 (opened-free t r ex e) in
       record { is = λ a i f. rw (q, kind-kept k); offsets = eo ∙ rw q; keys = ey ∙ rw q; bonds = λ l. rw q l }
 
-  module _ {u : AtomId} {j : ℕ} (e : x ≡ Opening.At u j) (c : Closing) (h : Closes b t.bonds u.0 t.hub.0 j k c) where
+  module _ {o : Opening} (e : x ≡ Some o) where
     free? : eqb (get_or t.opener r 0) 0 ≡ false
     free? = ne_eqb (get_or t.opener r 0) 0 (opened-at t r ex e).0
 
     -- the refusal that the action looks for, at the atom and with the symbol of the opening
-    refusal-at : close_refusal b t.bonds (get_or t.opener r 0 - 1) t.hub.0 (get_or t.symbol r 0) k ≡ close_refusal b t.bonds u.0 t.hub.0 j k
+    refusal-at : close_refusal b t.bonds (get_or t.opener r 0 - 1) t.hub.0 (get_or t.symbol r 0) k ≡ close_refusal b t.bonds o.atom.0 t.hub.0 o.symbol k
     refusal-at = rw ((opened-at t r ex e).1, (opened-at t r ex e).2)
 
-    act-closes : {n : ℕ} → close_refusal b t.bonds u.0 t.hub.0 j k ≡ n → (a : List ℤ) (i : ℕ) (f : Fields) → bridge_act r p (memory t a b (kind_pending k) i f)
+    act-closes : {n : ℕ} → close_refusal b t.bonds o.atom.0 t.hub.0 o.symbol k ≡ n → (a : List ℤ) (i : ℕ) (f : Fields) → bridge_act r p (memory t a b (kind_pending k) i f)
         ≡ or_refuse n p (moved (joined t r k p) (bridge_bond r (memory t a b (kind_pending k) i f)))
     unfolding bridge_act
     act-closes z a i f = rw (free?, kind-kept k, refusal-at, z)
 
-    -- there is room for its keys
-    pub closes-room : {y : Bond} → c ≡ Closing.Bond y → t.bonds < max_bonds
-    closes-room ec = (subst (Closes b t.bonds u.0 t.hub.0 j k) ec h).1
-
-    pub bridge-closes : {y : Bond} {b' : List ℤ} {o' y' : List ℕ} → c ≡ Closing.Bond y → b' ≡ put_bond b t.bonds y → o' ≡ set t.offset r 0
-        → y' ≡ pick (ltb u.0 t.hub.0) (keyed t.keys t.bonds (get_or t.offset r 0) p) (keyed t.keys t.bonds p (get_or t.offset r 0)) → Bridges t r k p b b' o' y' Why.Fine
+    pub bridge-closes : {y : Bond} {b' : List ℤ} {o' y' : List ℕ} → Closes b t.bonds o.atom.0 t.hub.0 o.symbol k p (Ok y) → b' ≡ put_bond b t.bonds y → o' ≡ set t.offset r 0
+        → y' ≡ pick (ltb o.atom.0 t.hub.0) (keyed t.keys t.bonds (get_or t.offset r 0) p) (keyed t.keys t.bonds p (get_or t.offset r 0)) → BridgeJoins t r k p b b' o' y'
     unfolding joined put_bond
-    bridge-closes {y} {b'} ec eb eo ey =
-        let w = subst (Closes b t.bonds u.0 t.hub.0 j k) ec h in
+    bridge-closes {y} {b'} w eb eo ey =
         let v : b' ≡ with_bond b t.bonds (between (get_or t.opener r 0 - 1) t.hub.0 (meet (get_or t.symbol r 0) k)) = eb ∙ rw (lt-ltb t.bonds max_bonds w.1, w.2, (opened-at t r ex e).1, (opened-at t r ex e).2) in
         record {
           is = λ a i f. act-closes w.0 a i f ∙ rw (kind-kept k, v);
@@ -186,8 +181,8 @@ module _ (t : Steering) (r k p : ℕ) (b : List ℤ) {x : Opening} (ex : x ≡ o
           bonds = λ l. rw free? (omega (arith, w.1));
         }
 
-    pub bridge-refused : {z : Refusal} (b' : List ℤ) (o' y' : List ℕ) → c ≡ Closing.Refused z → Bridges t r k p b b' o' y' (Why.Refused z p)
-    bridge-refused b' o' y' ec a i f = act-closes refl a i f ∙ subst (Closes b t.bonds u.0 t.hub.0 j k) ec h p (moved (joined t r k p) (bridge_bond r (memory t a b (kind_pending k) i f)))
+    pub bridge-refused : (z : TextRefusal) (b' : List ℤ) (o' y' : List ℕ) → Closes b t.bonds o.atom.0 t.hub.0 o.symbol k p (Err z) → Bridges t r k p b b' o' y' (Err z)
+    bridge-refused z b' o' y' h a i f = rw h.0 (act-closes refl a i f ∙ h.1 p (moved (joined t r k p) (bridge_bond r (memory t a b (kind_pending k) i f))))
 
 -- ---- the state after a bridge
 module _ (t : Steering) (r k p : ℕ) where

@@ -56,12 +56,14 @@ use Rattle.reading_fields.specs.Rest.{rest, memory}
 use Rattle.reading_fields.proofs.Rest.{rest_end, rest-down-stop}
 use Rattle.reading_fields.proofs.Bytes.{there}
 use Rattle.reader.specs.declared.piece.Joint.{Joint}
-use Rattle.reader.specs.declared.bridge.Why.{Why}
-use Rattle.reader.specs.declared.ending.ReadAnswer as reply
-use Rattle.reader.specs.Outcome.{Bounded, Outcome, refused_at, PastFine, Past, Goes, Stops, Sequenced}
+use Rattle.std.specs.Prelude.{Option, Some, None, Result, Ok, Err}
+use Rattle.std.specs.Option.{is_some}
+use Rattle.reader.specs.declared.answer.TextRefusal.{TextRefusal}
+use Rattle.reader.specs.Outcome.{Bounded, Reached, Outcome, refused_at, PastFine, Sequenced}
+use Rattle.kekule.specs.First.{FirstIn}
 use Rattle.reader.specs.Ranks.{Rankable}
 use Rattle.reader.specs.Filled.{hydrogens_by, hydrogenated_by, placed_by}
-use Rattle.reader.specs.Ending.{told, ended_of, answer_of, Ready, Blank, TextGoes, TextRead}
+use Rattle.reader.specs.Ending.{told, counted, refused_text, ended_of, answer_of, Ready, Blank, TextGoes, TextRead}
 use Rattle.reader.proofs.Branches.{close_down}
 
 -- ---- the whole text
@@ -84,12 +86,12 @@ bounded-started e = rw e (record { atoms = omega arith; bonds = omega arith; dep
 pub new-started : {st : State} {p x y : List ℕ} → p ≡ replicate bridges 0 → x ≡ replicate max_atoms 0 → y ≡ replicate key_count 0 → steering st (replicate bridges 0) (replicate max_atoms 0) (replicate key_count 0) ≡ started → steering st p x y ≡ started
 new-started ep ex ey e = rw (ep, ex, ey) e
 
-pub text-empty : (s : List ℕ) (a b : List ℤ) {u : Steering} → length s ≡ 0 → u ≡ started → TextRead s a b a b (record { why = Why.Fine; at = 0; st = u })
+pub text-empty : (s : List ℕ) (a b : List ℤ) {u : Steering} → length s ≡ 0 → u ≡ started → TextRead s a b a b (Ok (record { at = 0; st = u }))
 unfolding answer read accepting
 text-empty [] a b e q = record { is = (0, blank, bounded-started q, rw q) }
 text-empty (x ∷ s) a b e q = absurd (omega arith)
 
-module _ (s : List ℕ) (a b : List ℤ) (h : length s ≡ 0 → ⊥) {u : Steering} (eu : u ≡ started) {a' b' : List ℤ} {o : Outcome} (g : Sequenced s 0 Joint.Elided u a b a' b' o) where
+module _ (s : List ℕ) (a b : List ℤ) (h : length s ≡ 0 → ⊥) {u : Steering} (eu : u ≡ started) where
   positive : 0 < length s
   positive = split (length s) h
     where
@@ -100,43 +102,37 @@ module _ (s : List ℕ) (a b : List ℤ) (h : length s ≡ 0 → ⊥) {u : Steer
   begun-at : answer_of s a b ≡ rest s 0 atomNext (memory u a b nothing 0 blank)
   begun-at = start-dot s a b positive ∙ ap (λ (v : Steering). rest s 0 atomNext (memory v a b nothing 0 blank)) (sym eu)
 
-  pub text-refused : {c : Refusal} {p : ℕ} → o.why ≡ Why.Refused c p → TextRead s a b a' b' o
-  text-refused w = record {
-    is = subst⁻¹ (λ (z : Why). TextGoes s a b a' b' z o.st) w
-        (begun-at ∙ subst (λ (z : Why). Goes s 0 atomNext nothing u a b z o.at o.st a' b') w g.goes 0 blank);
-  }
+  pub text-refused : {a' b' : List ℤ} (e : TextRefusal) → Sequenced s 0 Joint.Elided u a b a' b' (Err e) → TextRead s a b a' b' (Err e)
+  text-refused e g = record { is = begun-at ∙ g.goes 0 blank }
 
-  module _ (w : o.why ≡ Why.Fine) where
+  module _ {a' b' : List ℤ} (o : Reached) (g : Sequenced s 0 Joint.Elided u a b a' b' (Ok o)) where
     past : PastFine s 0 u o.at o.st
-    past = subst (λ (z : Why). Past s 0 u z o.at o.st) w g.past
+    past = g.past
 
     flat : o.st.depth ≡ 0
     unfolding started
     flat = past.deep ∙ ap (λ (v : Steering). v.depth) eu
 
     reached : (i : ℕ) × (f : Fields) × (answer_of s a b ≡ rest s o.at (seq plain) (memory o.st a' b' nothing i f))
-    reached = let y = subst (λ (z : Why). Goes s 0 atomNext nothing u a b z o.at o.st a' b') w g.goes 0 blank in (y.tens, y.draft, begun-at ∙ y.is)
+    reached = let y = g.goes 0 blank in (y.tens, y.draft, begun-at ∙ y.is)
 
     -- a `)` that closes nothing
-    pub text-wrong : {x : Outcome} → o.at < length s → x ≡ refused_at Grammar o.at o.st → TextRead s a b a' b' x
-    text-wrong l ex = rw ex (record { is = reached.2 ∙ rest-down-stop s o.at (seq plain) (memory o.st a' b' nothing reached.0 reached.1) (there s o.at) l (close_down (get_or s o.at 0) closing) flat })
+    pub text-wrong : o.at < length s → TextRead s a b a' b' (refused_at Grammar o.at)
+    text-wrong l = record { is = reached.2 ∙ rest-down-stop s o.at (seq plain) (memory o.st a' b' nothing reached.0 reached.1) (there s o.at) l (close_down (get_or s o.at 0) closing) flat }
       where
         closing : get_or s o.at 0 ≡ 41
         closing = split (eqb (get_or s o.at 0) 41) refl
           where
             split : (t : Bool) → eqb (get_or s o.at 0) 41 ≡ t → get_or s o.at 0 ≡ 41
             split true e = eqb-true (get_or s o.at 0) 41 e
-            split false e = absurd (let z = subst (λ (y : Why). Stops s y o.at) w g.stops (eqb-false (get_or s o.at 0) 41 e) in omega (arith, z))
+            split false e = absurd (let z = g.stops (eqb-false (get_or s o.at 0) 41 e) in omega (arith, z))
 
     ends-flat : (μ : Memory) → μ.st.depth ≡ 0 → length s ≤ o.at → rest s o.at (seq plain) μ ≡ good μ
     unfolding resting
     ends-flat μ e l = rest_end s o.at (seq plain) μ l ∙ ap (λ (k : ℕ). pick (resting (seq plain) k) (good μ) (bad 3 (length s))) e
 
-    pub text-read : length s ≤ o.at → TextRead s a b a' b' o
-    text-read l = record {
-      is = subst⁻¹ (λ (z : Why). TextGoes s a b a' b' z o.st) w
-          (reached.0, reached.1, past.bounded, reached.2 ∙ ends-flat (memory o.st a' b' nothing reached.0 reached.1) flat l);
-    }
+    pub text-read : length s ≤ o.at → TextRead s a b a' b' (Ok o)
+    text-read l = record { is = (reached.0, reached.1, past.bounded, reached.2 ∙ ends-flat (memory o.st a' b' nothing reached.0 reached.1) flat l) }
 
 -- ---- hydrogens
 hydrogens-step : (outside : List ℕ) (bonds : List ℤ) (m len a : ℕ) (t : List ℤ) {sums : List ℕ} → sums ≡ up_to (bond_sum bonds m) 0 len → a < len
@@ -161,6 +157,10 @@ module _ (outside : List ℕ) (atoms bonds : List ℤ) (n m len : ℕ) {sums : L
 
   pub completed-tables : {ea eb el : List ℕ} → Wired bonds m ea eb el → Prepared atoms' bonds n m sums ea eb el
   completed-tables w = prepared (rw completed-atoms v) w e l
+
+-- a row got the first matching, whether one exists being told by another name
+pub told-as : {a b : List ℤ} {n m : ℕ} {row row' : List ℕ} {u w : Bool} → u ≡ w → FirstIn a b n m row u row' → FirstIn a b n m row w row'
+told-as {a} {b} {n} {m} {row} {row'} e h = subst (λ (x : Bool). FirstIn a b n m row x row') e h
 
 pub implied-cell : (e s sum : ℕ) → to_z w32 (implied e s sum) ≡ pos (implied e s sum)
 implied-cell e s sum = to_z_pos w32 {n = implied e s sum} (omega (arith, implied-small e s sum))
@@ -215,17 +215,21 @@ module _ (t : Steering) (a b : List ℤ) {p : ℕ} (e : p ≡ leftmost t.opener 
         let n : eqb (late_code stored b t.atoms t.bonds) 0 ≡ false = ne_eqb (late_code stored b t.atoms t.bonds) 0 (λ z. omega (arith, (code-range r).positive, c, z)) in
         rw (eo, ← e, le-ltb p max_text h, ← ev, ← stored-zeros, c, n)
 
-    pub ended-placed : {o : ReadResult} {x : Bool} {k : ℕ} → 0 ≡ late_code v b t.atoms t.bonds → k ≡ overfull_atoms t.outside b t.bonds t.atoms a → x ≡ matchable v b t.atoms t.bonds → o ≡ placed_by x stored b t.atoms t.bonds k → o ≡ ended_of t a b
+    pub ended-placed : {o : ReadResult} (x : Option ℕ) → 0 ≡ late_code v b t.atoms t.bonds → ((k : ℕ) → x ≡ Some k → k ≡ overfull_atoms t.outside b t.bonds t.atoms a) → is_some x ≡ matchable v b t.atoms t.bonds → o ≡ placed_by x stored b t.atoms t.bonds → o ≡ ended_of t a b
     unfolding ended
-    ended-placed l ek m eo = rw (eo, ← e, le-ltb p max_text h, ← ev, but-late same-but b t.bonds, ← l, but-matchable same-but b t.bonds, m, ek)
+    ended-placed x l ek m eo = eo ∙ go x ek m
+      where
+        go : (x : Option ℕ) → ((k : ℕ) → x ≡ Some k → k ≡ overfull_atoms t.outside b t.bonds t.atoms a) → is_some x ≡ matchable v b t.atoms t.bonds → placed_by x stored b t.atoms t.bonds ≡ ended_of t a b
+        go (Some k) ek m = rw (← e, le-ltb p max_text h, ← ev, but-late same-but b t.bonds, ← l, but-matchable same-but b t.bonds, ← m, ek k refl)
+        go None ek m = rw (← e, le-ltb p max_text h, ← ev, but-late same-but b t.bonds, ← l, but-matchable same-but b t.bonds, ← m)
 
 -- ---- the molecule with its marks as they are stored, and 11
-module _ (f : ℕ → ℕ → ℕ) (v b : List ℤ) (n m k : ℕ) {w : Bool} where
-  pub placed-marks : {x : List ℤ} → w ≡ true → x ≡ turn_marks f b m n v
-      → told (reply.ReadAnswer.Molecule n m k) x b ≡ placed_by w (turn_marks f b m n v) b n m k
+module _ (f : ℕ → ℕ → ℕ) (v b : List ℤ) (n m : ℕ) {w : Option ℕ} where
+  pub placed-marks : {k : ℕ} {x : List ℤ} → w ≡ Some k → x ≡ turn_marks f b m n v
+      → told (counted n m k) x b ≡ placed_by w (turn_marks f b m n v) b n m
   placed-marks h e = rw (e, h)
 
-  pub refused-marks : {o : ReadResult} → w ≡ false → o ≡ refused 11 0 v b → o ≡ placed_by w (turn_marks f b m n v) b n m k
+  pub refused-marks : {o : ReadResult} → w ≡ None → o ≡ refused 11 0 v b → o ≡ placed_by w (turn_marks f b m n v) b n m
   refused-marks h e = rw (e, h, turned-length f b m n v)
 
 -- ---- the public call
@@ -254,10 +258,8 @@ good-going n (going σ ν) μ h = split (accepting σ) h
 good-going n (halted c p) μ h = absurd (let z : ◌≡◌ {A = ℕ} 0 1 = cc in omega arith)
 
 -- where the text was read whole the state is within its bounds
-pub text-bounded : {s : List ℕ} {a b x y : List ℤ} {o : Outcome} → TextRead s a b x y o → o.why ≡ Why.Fine → Bounded o.st
-text-bounded {s} {a} {b} {x} {y} {o} g w =
-    let f : TextGoes s a b x y Why.Fine o.st = subst (λ (z : Why). TextGoes s a b x y z o.st) w g.is in
-    f.2
+pub text-bounded : {s : List ℕ} {a b x y : List ℤ} (o : Reached) → TextRead s a b x y (Ok o) → Bounded o.st
+text-bounded o g = g.is.2
 
 -- a zeroed table that is longer than another by so many cells
 abbrev longer : ℕ → List ℤ → List ℤ
@@ -274,7 +276,7 @@ longer-enough a b =
     λ i. la i && lb i
 
 module _ (s : List ℕ) (a b : List ℤ) where
-  pub told-short : enough a b ≡ false → told (reply.ReadAnswer.Refused Short 0) a b ≡ read_of s a b
+  pub told-short : enough a b ≡ false → told (refused_text Short 0) a b ≡ read_of s a b
   unfolding read_of
   told-short h = rw h
 
@@ -283,23 +285,23 @@ module _ (s : List ℕ) (a b : List ℤ) where
   unfolding read_of read_into
   into-of h = rw h
 
-  pub told-long : {x y : List ℤ} → max_text < length s → x ≡ zeros a → y ≡ zeros b → told (reply.ReadAnswer.Refused LongText max_text) x y ≡ read_into s a b
+  pub told-long : {x y : List ℤ} → max_text < length s → x ≡ zeros a → y ≡ zeros b → told (refused_text LongText max_text) x y ≡ read_into s a b
   unfolding read_into
   told-long l ex ey = rw (ex, ey, lt-leb (length s) max_text l)
 
-  module _ (l : length s ≤ max_text) {a₁ b₁ : List ℤ} (ea : a₁ ≡ zeros a) (eb : b₁ ≡ zeros b) {x y : List ℤ} {o : Outcome} (g : TextRead s a₁ b₁ x y o) where
+  module _ (l : length s ≤ max_text) {a₁ b₁ : List ℤ} (ea : a₁ ≡ zeros a) (eb : b₁ ≡ zeros b) where
     whole : read_into s a b ≡ by_answer a b (answer_of s a₁ b₁)
     unfolding read_into read_from answer
     whole = rw (le-leb (length s) max_text l, ea, eb) (finished-by (length s) a b (read act 0 (going start (beginning (zeros a) (zeros b))) s))
 
-    pub told-refused : {c : Refusal} {p : ℕ} {x' y' : List ℤ} → o.why ≡ Why.Refused c p → length x ≡ length a₁ → length y ≡ length b₁ → x' ≡ zeros x → y' ≡ zeros y
-        → told (reply.ReadAnswer.Refused c p) x' y' ≡ read_into s a b
-    told-refused w lx ly ex ey =
-        rw (zeros-as a x ea lx ex, zeros-as b y eb ly ey) (sym (whole ∙ ap (by_answer a b) (subst (λ (z : Why). TextGoes s a₁ b₁ x y z o.st) w g.is)))
+    pub told-refused : (e : TextRefusal) {x y x' y' : List ℤ} → TextRead s a₁ b₁ x y (Err e) → length x ≡ length a₁ → length y ≡ length b₁ → x' ≡ zeros x → y' ≡ zeros y
+        → told (Err e) x' y' ≡ read_into s a b
+    told-refused e {x} {y} g lx ly ex ey =
+        rw (zeros-as a x ea lx ex, zeros-as b y eb ly ey) (sym (whole ∙ ap (by_answer a b) g.is))
 
-    module _ (w : o.why ≡ Why.Fine) where
+    module _ {x y : List ℤ} (o : Reached) (g : TextRead s a₁ b₁ x y (Ok o)) where
       fine : (i : ℕ) × (f : Fields) × Bounded o.st × (answer_of s a₁ b₁ ≡ good (memory o.st x y nothing i f))
-      fine = subst (λ (z : Why). TextGoes s a₁ b₁ x y z o.st) w g.is
+      fine = g.is
 
       pub told-fine : {z : ReadResult} → z ≡ ended_of o.st x y → z ≡ read_into s a b
       unfolding ended

@@ -25,11 +25,11 @@ use Rattle.reading.specs.Act.{bridge_act}
 use Rattle.reading_fields.specs.Rest.{rest, memory}
 use Rattle.reader.specs.declared.piece.Joint.{Joint}
 use Rattle.reader.specs.declared.piece.Piece.{Piece}
-use Rattle.reader.specs.declared.atom.Added.{Added}
-use Rattle.reader.specs.declared.bridge.Why.{Why}
+use Rattle.std.specs.Prelude.{Result, Ok, Err}
+use Rattle.reader.specs.declared.answer.TextRefusal.{TextRefusal}
 use Rattle.reader.specs.Piece.{pending_of, kind_pending, start_mode, start_pending, after_bridge, Seen, SeenAtom, SeenBridge, SeenBranch, SeenEnd, SeenWrong}
-use Rattle.reader.specs.Added.{Reaches, bonds_after, Adds}
-use Rattle.reader.specs.Outcome.{Bounded, Outcome, refused_at, Goes, PastFine, Past, Stops, Sequenced, Branched, Closable}
+use Rattle.reader.specs.Added.{Reaches, bonds_after, AddsAtom, AddsNot}
+use Rattle.reader.specs.Outcome.{Bounded, Reached, Outcome, refused_at, Sequenced, Branched, Closable}
 use Rattle.reader.specs.Bridge.{BridgeJoins, Bridges}
 use Rattle.reader.proofs.Bridges.{bounded-joined, joined-deep}
 use Rattle.reader.proofs.Branches.{deep-refused}
@@ -41,9 +41,8 @@ bounded-beside g = record { atoms = g.atoms; bonds = g.bonds; depth = g.depth; h
 pub bounded-alone : {st : State} {p x y : List ℕ} → Bounded (steering st p x y) → Bounded (steering st [] [] [])
 bounded-alone g = record { atoms = g.atoms; bonds = g.bonds; depth = g.depth; hub = g.hub; stack = g.stack; opener = g.opener; offset = λ i. omega arith }
 
-pub closable-alone : (w : Why) (st : State) (p x y : List ℕ) → Closable w (steering st p x y) → Closable w (steering st [] [] [])
-closable-alone Why.Fine st p x y h = (h.0, bounded-alone h.1)
-closable-alone (Why.Refused c e) st p x y h = tt
+pub closable-alone : (st : State) (p x y : List ℕ) → Closable (steering st p x y) → Closable (steering st [] [] [])
+closable-alone st p x y h = (h.0, bounded-alone h.1)
 
 -- the machine rests only where it is not fresh
 resting-older : (f : Bool) → start_mode f ≡ seq plain → f ≡ false
@@ -83,8 +82,8 @@ module _ {s : List ℕ} {j : Joint} {p₀ : ℕ} {t : Steering} {a₀ b₀ : Lis
     long-b = refl;
   }
 
-  refused-sequence : {a b : List ℤ} {u : Steering} {o : Outcome} {c : Refusal} {p : ℕ} → o ≡ refused_at c p u → ((i : ℕ) (d : Fields) → begun s j p₀ t a₀ b₀ i d ≡ bad (code_of c) p) → Sequenced s p₀ j t a₀ b₀ a b o
-  refused-sequence e h = rw e (record { goes = h; past = tt; stops = tt })
+  refused-sequence : {a b : List ℤ} (e : TextRefusal) → ((i : ℕ) (d : Fields) → begun s j p₀ t a₀ b₀ i d ≡ bad (code_of e.refusal) e.at) → Sequenced s p₀ j t a₀ b₀ a b (Err e)
+  refused-sequence e h = record { goes = h; past = tt; stops = tt }
 
   module _ {p : ℕ} {f : Bool} {u : Steering} {a b : List ℤ} (v : Turn s j p₀ t a₀ b₀ p f u a b) (r : Piece) (h : Seen s p (start_mode f) (start_pending f j) r) where
     -- ---- after an atom
@@ -98,11 +97,8 @@ module _ {s : List ℕ} {j : Joint} {p₀ : ℕ} {t : Steering} {a₀ b₀ : Lis
       pub atom-lies : q ≤ length s
       atom-lies = atom-seen.within
 
-      module _ (a' b' : List ℤ) (y : Added) (g : Adds s q k u a b a' b' y) where
-        module _ {o m : ℕ} {w : Bool} (ey : y ≡ Added.Atom o w m) where
-          atom-added : Adds s q k u a b a' b' (Added.Atom o w m)
-          atom-added = subst (Adds s q k u a b a' b') ey g
-
+      module _ (a' b' : List ℤ) where
+        module _ {o m : ℕ} {w : Bool} (atom-added : AddsAtom s q k u a b a' b' o w m) where
           pub atom-in : m ≤ length s
           atom-in = atom-added.within
 
@@ -124,8 +120,8 @@ module _ {s : List ℕ} {j : Joint} {p₀ : ℕ} {t : Steering} {a₀ b₀ : Lis
             long-b = kb ∙ v.long-b;
           })
 
-        pub end-atom : {c : Refusal} {m : ℕ} {o : Outcome} → y ≡ Added.Refused c m → o ≡ refused_at c m u → Sequenced s p₀ j t a₀ b₀ a' b' o
-        end-atom ey eo = refused-sequence eo (λ i d. let w = subst (Adds s q k u a b a' b') ey g in let z = atom-stands i d in z.is ∙ w.is z.tens z.draft)
+        pub end-atom : (e : TextRefusal) → AddsNot s q k u a b e.refusal e.at → Sequenced s p₀ j t a₀ b₀ a' b' (Err e)
+        end-atom e w = refused-sequence e (λ i d. let z = atom-stands i d in z.is ∙ w.is z.tens z.draft)
 
     -- ---- after a bridge
     module _ {n k q m : ℕ} (e : r ≡ Piece.Bridge n k q m) where
@@ -141,12 +137,9 @@ module _ {s : List ℕ} {j : Joint} {p₀ : ℕ} {t : Steering} {a₀ b₀ : Lis
       pub bridge-later : p < m
       bridge-later = omega (arith, bridge-seen.later, bridge-seen.long)
 
-      module _ (b' : List ℤ) (o' y' : List ℕ) (w : Why) (g : Bridges u n k q b b' o' y' w) where
-        bridge-joins : w ≡ Why.Fine → BridgeJoins u n k q b b' o' y'
-        bridge-joins ew = subst (Bridges u n k q b b' o' y') ew g
-
-        pub turn-bridge : w ≡ Why.Fine → length s ≤ max_text → {st : State} {x : List ℕ} → steering st (set u.offset n (pick (eqb (get_or u.opener n 0) 0) q 0)) x (keys_then u n q) ≡ joined u n k q → length b' ≡ length b → Turn s j p₀ t a₀ b₀ m false (steering st o' x y') a b'
-        turn-bridge ew ls {st} {x} eu kb = let y = bridge-joins ew in
+      module _ (b' : List ℤ) (o' y' : List ℕ) where
+        pub turn-bridge : BridgeJoins u n k q b b' o' y' → length s ≤ max_text → {st : State} {x : List ℕ} → steering st (set u.offset n (pick (eqb (get_or u.opener n 0) 0) q 0)) x (keys_then u n q) ≡ joined u n k q → length b' ≡ length b → Turn s j p₀ t a₀ b₀ m false (steering st o' x y') a b'
+        turn-bridge y ls {st} {x} eu kb =
             let e : steering st o' x y' ≡ joined u n k q = ap (λ (z : List ℕ). steering st z x y') y.offsets ∙ ap (steering st (set u.offset n (pick (eqb (get_or u.opener n 0) 0) q 0)) x) y.keys ∙ eu in rw e (record {
               stands = λ i d. let z = bridge-stands i d in record { tens = z.0; draft = z.1; is = z.2 ∙ ap (after_bridge s m) (y.is a z.0 z.1) };
               within = bridge-lies.2;
@@ -158,12 +151,8 @@ module _ {s : List ℕ} {j : Joint} {p₀ : ℕ} {t : Steering} {a₀ b₀ : Lis
               long-b = kb ∙ v.long-b;
             })
 
-        pub end-bridge : {c : Refusal} {x y : ℕ} {z : Steering} → w ≡ Why.Refused c x → Sequenced s p₀ j t a₀ b₀ a b' (record { why = w; at = y; st = z })
-        end-bridge {c} {x} {y} {z} ew = rw ew (record {
-          goes = λ i d. let z = bridge-stands i d in z.2 ∙ ap (after_bridge s m) (subst (Bridges u n k q b b' o' y') ew g a z.0 z.1);
-          past = tt;
-          stops = tt;
-        })
+        pub end-bridge : (e : TextRefusal) → Bridges u n k q b b' o' y' (Err e) → Sequenced s p₀ j t a₀ b₀ a b' (Err e)
+        end-bridge e w = refused-sequence e (λ i d. let z = bridge-stands i d in z.2 ∙ ap (after_bridge s m) (w a z.0 z.1))
 
     -- ---- after a branch
     module _ {q : ℕ} (e : r ≡ Piece.Branch q) where
@@ -185,16 +174,13 @@ module _ {s : List ℕ} {j : Joint} {p₀ : ℕ} {t : Steering} {a₀ b₀ : Lis
       pub branch-byte : get_or s q 0 ≡ 40
       branch-byte = ap (λ (z : ℕ). get_or s z 0) branch-seen.here ∙ branch-seen.byte
 
-      pub end-deep : {o : Outcome} → max_depth ≤ u.depth → o ≡ refused_at DeepBranch q u → Sequenced s p₀ j t a₀ b₀ a b o
-      end-deep l eo = refused-sequence eo (λ i d. let y = branch-stands i d in y.is ∙ deep-refused s q u a b branch_in branch-byte l y.tens y.draft)
+      pub end-deep : max_depth ≤ u.depth → Sequenced s p₀ j t a₀ b₀ a b (refused_at DeepBranch q)
+      end-deep l = refused-sequence (record { refusal = DeepBranch; at = q }) (λ i d. let y = branch-stands i d in y.is ∙ deep-refused s q u a b branch_in branch-byte l y.tens y.draft)
 
-      module _ {a' b' : List ℤ} {o : Outcome} (g : Branched s q u a b a' b' o) where
-        pub branch-past : o.why ≡ Why.Fine → PastFine s q u o.at o.st
-        branch-past w = subst (λ (z : Why). Past s q u z o.at o.st) w g.past
-
-        pub turn-branch : o.why ≡ Why.Fine → length a' ≡ length a → length b' ≡ length b → Turn s j p₀ t a₀ b₀ o.at false o.st a' b'
-        turn-branch w ka kb = let y = branch-past w in record {
-          stands = λ i d. let z = branch-stands i d in let c = subst (λ (z : Why). Goes s q (seq plain) nothing u a b z o.at o.st a' b') w g.goes z.tens z.draft in
+      module _ {a' b' : List ℤ} (o : Reached) (g : Branched s q u a b a' b' (Ok o)) where
+        pub turn-branch : length a' ≡ length a → length b' ≡ length b → Turn s j p₀ t a₀ b₀ o.at false o.st a' b'
+        turn-branch ka kb = let y = g.past in record {
+          stands = λ i d. let z = branch-stands i d in let c = g.goes z.tens z.draft in
               record { tens = c.tens; draft = c.draft; is = z.is ∙ c.is };
           within = y.within;
           later = omega (arith, branch-moved, y.later);
@@ -205,20 +191,15 @@ module _ {s : List ℕ} {j : Joint} {p₀ : ℕ} {t : Steering} {a₀ b₀ : Lis
           long-b = kb ∙ v.long-b;
         }
 
-        pub end_branch : {c : Refusal} {x : ℕ} → o.why ≡ Why.Refused c x → Sequenced s p₀ j t a₀ b₀ a' b' o
-        end_branch {c} {x} w = record {
-          goes = subst⁻¹ (λ (z : Why). Goes s p₀ atomNext (pending_of j) t a₀ b₀ z o.at o.st a' b') w
-              (λ i d. let y = branch-stands i d in y.is ∙ subst (λ (z : Why). Goes s q (seq plain) nothing u a b z o.at o.st a' b') w g.goes y.tens y.draft);
-          past = subst⁻¹ (λ (z : Why). Past s p₀ t z o.at o.st) w tt;
-          stops = subst⁻¹ (λ (z : Why). Stops s z o.at) w tt;
-        }
+      pub end_branch : {a' b' : List ℤ} (e : TextRefusal) → Branched s q u a b a' b' (Err e) → Sequenced s p₀ j t a₀ b₀ a' b' (Err e)
+      end_branch e g = refused-sequence e (λ i d. let y = branch-stands i d in y.is ∙ g.goes y.tens y.draft)
 
     -- ---- at the end of the sequence
-    pub end-wrong : {q : ℕ} {o : Outcome} → r ≡ Piece.Wrong q → o ≡ refused_at Grammar q u → Sequenced s p₀ j t a₀ b₀ a b o
-    end-wrong {q} e eo = let w : SeenWrong s p (start_mode f) (start_pending f j) q = subst (Seen s p (start_mode f) (start_pending f j)) e h in
-        refused-sequence eo (λ i d. let y = v.stands i d in y.is ∙ w.is u a b y.tens y.draft)
+    pub end-wrong : {q : ℕ} → r ≡ Piece.Wrong q → Sequenced s p₀ j t a₀ b₀ a b (refused_at Grammar q)
+    end-wrong {q} e = let w : SeenWrong s p (start_mode f) (start_pending f j) q = subst (Seen s p (start_mode f) (start_pending f j)) e h in
+        refused-sequence (record { refusal = Grammar; at = q }) (λ i d. let y = v.stands i d in y.is ∙ w.is u a b y.tens y.draft)
 
-    pub end-fine : {q : ℕ} → r ≡ Piece.End q → Sequenced s p₀ j t a₀ b₀ a b (record { why = Why.Fine; at = q; st = u })
+    pub end-fine : {q : ℕ} → r ≡ Piece.End q → Sequenced s p₀ j t a₀ b₀ a b (Ok (record { at = q; st = u }))
     end-fine {q} e = let w : SeenEnd s p (start_mode f) (start_pending f j) q = subst (Seen s p (start_mode f) (start_pending f j)) e h in
         record {
           goes = λ i d. at_rest w.here w.mode w.joint (v.stands i d);

@@ -1,5 +1,5 @@
 -- auxiliary: what adding an atom promises
-use Rattle.std.specs.Prelude.{ℕ, ◌+◌, ◌≤◌, ◌<◌, ◌≡◌, List, Bool, true, ◌&&◌, not, length, ℤ, eqb}
+use Rattle.std.specs.Prelude.{Result, Ok, Err, ℕ, ◌+◌, ◌≤◌, ◌<◌, ◌≡◌, List, Bool, true, ◌&&◌, not, length, ℤ, eqb}
 use Rattle.loops.specs.Loop.{pick}
 use Rattle.element.specs.Lookup.{letter_of}
 use Rattle.refusal.specs.declared.Refusal.{Refusal}
@@ -15,8 +15,8 @@ use Rattle.reading.specs.Memory.{Memory, Pending, nothing, after_dot, bonded}
 use Rattle.reading.specs.Act.{atom_act, first_byte_of}
 use Rattle.reading_fields.specs.Rest.{rest, memory}
 use Rattle.reader.specs.declared.piece.Joint.{Joint}
-use Rattle.reader.specs.declared.atom.Added.{Added}
-use Rattle.reader.specs.declared.atom.Room.{Room}
+use Rattle.reader.specs.declared.answer.TextRefusal.{TextRefusal}
+use Rattle.reader.specs.declared.atom.AddedAtom.{AddedAtom}
 use Rattle.reader.specs.Piece.{pending_of}
 
 -- the atom n after a joint is bonded to the hub
@@ -34,10 +34,10 @@ pub record HasRoom (n m : ℕ) (w : Bool) : Type 0 where
   pub bond : w ≡ true → m < max_bonds
   pub is : (μ : Memory) → Next μ n m w → (x i : ℕ) → atom_act x i μ ≡ keeps (first_byte_of (letter_of x) μ)
 
--- an atom begins, or is refused as 01 refuses it
-abbrev pub Admits : ℕ → ℕ → Bool → Room → Type 0
-Admits n m w Room.Enough = HasRoom n m w
-Admits n m w (Room.Refused r) = (μ : Memory) → Next μ n m w → (x i : ℕ) → atom_act x i μ ≡ refuses (code_of r) i
+-- an atom begins, or is refused as 01 refuses it, at the offset p
+abbrev pub Admits : ℕ → ℕ → Bool → ℕ → Result (Unit {0}) TextRefusal → Type 0
+Admits n m w p (Ok u) = HasRoom n m w
+Admits n m w p (Err e) = (e.at ≡ p) × ((μ : Memory) → Next μ n m w → (x i : ℕ) → atom_act x i μ ≡ refuses (code_of e.refusal) i)
 
 -- a reading x goes on at an offset, in a mode, with a joint, a state and tables; what it remembers of a `%` or a bracket may be anything
 pub record Reaches (s : List ℕ) (x : Verdict Memory) (p : ℕ) (m : Mode) (k : Pending) (t : Steering) (a b : List ℤ) : Type 0 where
@@ -59,6 +59,6 @@ pub record AddsAtom (s : List ℕ) (at : ℕ) (j : Joint) (t : Steering) (a b a'
 pub record AddsNot (s : List ℕ) (at : ℕ) (j : Joint) (t : Steering) (a b : List ℤ) (r : Refusal) (p : ℕ) : Type 0 where
   pub is : (i : ℕ) (f : Fields) → rest s at atomNext (memory t a b (pending_of j) i f) ≡ bad (code_of r) p
 
-abbrev pub Adds : List ℕ → ℕ → Joint → Steering → List ℤ → List ℤ → List ℤ → List ℤ → Added → Type 0
-Adds s at j t a b a' b' (Added.Atom o w p) = AddsAtom s at j t a b a' b' o w p
-Adds s at j t a b a' b' (Added.Refused r p) = AddsNot s at j t a b r p
+abbrev pub Adds : List ℕ → ℕ → Joint → Steering → List ℤ → List ℤ → List ℤ → List ℤ → Result AddedAtom TextRefusal → Type 0
+Adds s at j t a b a' b' (Ok d) = AddsAtom s at j t a b a' b' d.outside d.bonded d.at
+Adds s at j t a b a' b' (Err e) = AddsNot s at j t a b e.refusal e.at

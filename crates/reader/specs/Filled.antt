@@ -1,12 +1,12 @@
 -- auxiliary: what filling in the hydrogens and counting the over-full atoms promise, from bond sums at hand
-use Rattle.std.specs.Prelude.{ℕ, ◌+◌, ◌≡◌, Bool, List, get_or, set, ℤ, pos, eqb}
+use Rattle.std.specs.Prelude.{Option, Some, None, ℕ, ◌+◌, ◌≡◌, List, get_or, set, ℤ, pos, eqb}
+use Rattle.std.specs.Option.{is_some}
 use Rattle.loops.specs.Loop.{pick, run}
 use Rattle.valence.specs.Valence.{implied, overfull}
 use Rattle.table.specs.Limits.{HYDROGENS}
 use Rattle.table.specs.Cells.{atom_place, element, selected}
 use Rattle.kekule.specs.First.{FirstIn}
 use Rattle.reading.specs.Read.{ReadResult, refused, hydrogenated, overfull_atoms}
-use Rattle.reader.specs.declared.ending.Whole.{Whole}
 
 -- the hydrogens of one atom, by whether it stood outside brackets and by its bond sum
 abbrev pub hydrogens_by : ℕ → ℕ → ℕ → List ℤ → List ℤ
@@ -33,12 +33,13 @@ pub record AtomsFilled (outside sums : List ℕ) (n : ℕ) (t t' : List ℤ) (r 
   pub hydrogens : t' ≡ hydrogenated_by outside sums n t
   pub overfull : r ≡ overfulls_by outside sums n t
 
--- the atoms have their hydrogens; how many are over-full and whether there is a matching is told, and the row has the first one
-pub record Completed (outside : List ℕ) (atoms bonds : List ℤ) (n m : ℕ) (row : List ℕ) (r : Whole) (atoms' : List ℤ) (row' : List ℕ) : Type 0 where
+-- the atoms have their hydrogens; how many are over-full is told where there is a matching, and none where there is none, and the row has the first one
+pub record Completed (outside : List ℕ) (atoms bonds : List ℤ) (n m : ℕ) (row : List ℕ) (r : Option ℕ) (atoms' : List ℤ) (row' : List ℕ) : Type 0 where
   pub hydrogens : atoms' ≡ hydrogenated outside bonds m n atoms
-  pub overfull : r.overfull ≡ overfull_atoms outside bonds m n atoms
-  pub matched : FirstIn atoms' bonds n m row r.matchable row'
+  pub overfull : (k : ℕ) → r ≡ Some k → k ≡ overfull_atoms outside bonds m n atoms
+  pub matched : FirstIn atoms' bonds n m row (is_some r) row'
 
--- the molecule, or 11, by whether it has a matching
-abbrev pub placed_by : Bool → List ℤ → List ℤ → ℕ → ℕ → ℕ → ReadResult
-placed_by x atoms bonds n m k = pick x (record { code = 0; offset = 0; atom_count = n; bond_count = m; overfull = k; atoms = atoms; bonds = bonds }) (refused 11 0 atoms bonds)
+-- the molecule with its count of over-full atoms, or 11 where it has no matching
+abbrev pub placed_by : Option ℕ → List ℤ → List ℤ → ℕ → ℕ → ReadResult
+placed_by (Some k) atoms bonds n m = record { code = 0; offset = 0; atom_count = n; bond_count = m; overfull = k; atoms = atoms; bonds = bonds }
+placed_by None atoms bonds n m = refused 11 0 atoms bonds

@@ -1,5 +1,5 @@
 -- auxiliary: what reading a sequence and a branch promises: the work that remained at the start is the work that remains at the end
-use Rattle.std.specs.Prelude.{ℕ, ◌+◌, ◌≤◌, ◌<◌, ◌≡◌, List, length, get_or, ℤ, eqb}
+use Rattle.std.specs.Prelude.{Result, Ok, Err, ℕ, ◌+◌, ◌≤◌, ◌<◌, ◌≡◌, List, length, get_or, ℤ, eqb}
 use Rattle.loops.specs.Loop.{pick}
 use Rattle.refusal.specs.declared.Refusal.{Refusal}
 use Rattle.refusal.specs.declared.Refusal.TheVariants.{Grammar}
@@ -15,8 +15,8 @@ use Rattle.ids.specs.Limits.{max_depth, max_text}
 use Rattle.reading.specs.Memory.{Memory, Pending, nothing}
 use Rattle.reading_fields.specs.Rest.{rest, memory}
 use Rattle.reader.specs.declared.piece.Joint.{Joint}
-use Rattle.reader.specs.declared.bridge.Why.{Why}
-use Rattle.reader.specs.declared.bridge.PartRead.{PartRead}
+use Rattle.reader.specs.declared.answer.TextRefusal.{TextRefusal}
+use Rattle.reader.specs.declared.sequence.PartRead.{PartRead}
 use Rattle.reader.specs.Piece.{pending_of}
 use Rattle.reader.specs.Added.{Reaches}
 
@@ -30,28 +30,35 @@ pub record Bounded (t : Steering) : Type 0 where
   pub opener : (i : ℕ) → get_or t.opener i 0 ≤ max_atoms + 1
   pub offset : (i : ℕ) → get_or t.offset i 0 ≤ max_text
 
--- how a part of a text went, the next offset, and what steers the reading from there
-pub record Outcome : Type 0 where
-  pub why : Why
+-- where a part of a text ends: the next offset, and what steers the reading from there
+pub record Reached : Type 0 where
   pub at : ℕ
   pub st : Steering
 
+-- that, or the refusal
+abbrev pub Outcome : Type 0
+Outcome = Result Reached TextRefusal
+
 -- what the code hands back, and the three arrays that are lent beside its state
-abbrev pub outcome : PartRead → List ℕ → List ℕ → List ℕ → Outcome
-outcome o p x y = record { why = o.why; at = o.at; st = steering o.st p x y }
+abbrev pub reached : PartRead → List ℕ → List ℕ → List ℕ → Reached
+reached o p x y = record { at = o.at; st = steering o.st p x y }
+
+abbrev pub outcome : Result PartRead TextRefusal → List ℕ → List ℕ → List ℕ → Outcome
+outcome (Ok o) p x y = Ok (reached o p x y)
+outcome (Err e) p x y = Err e
 
 -- a refusal, at its offset
-abbrev pub refused_at : Refusal → ℕ → Steering → Outcome
-refused_at r p t = record { why = Why.Refused r p; at = p; st = t }
+abbrev pub refused_at : Refusal → ℕ → Outcome
+refused_at r p = Err (record { refusal = r; at = p })
 
 -- a reading x goes on as it went
-abbrev pub GoesOn : List ℕ → Verdict Memory → Why → ℕ → Steering → List ℤ → List ℤ → Type 0
-GoesOn s x Why.Fine q u a b = Reaches s x q (seq plain) nothing u a b
-GoesOn s x (Why.Refused r e) q u a b = x ≡ bad (code_of r) e
+abbrev pub GoesOn : List ℕ → Verdict Memory → Outcome → List ℤ → List ℤ → Type 0
+GoesOn s x (Ok o) a b = Reaches s x o.at (seq plain) nothing o.st a b
+GoesOn s x (Err e) a b = x ≡ bad (code_of e.refusal) e.at
 
 -- from p in the mode m with the joint k, the state t and the tables a, b, the reading goes on as it went
-abbrev pub Goes : List ℕ → ℕ → Mode → Pending → Steering → List ℤ → List ℤ → Why → ℕ → Steering → List ℤ → List ℤ → Type 0
-Goes s p m k t a b w q u a' b' = (i : ℕ) (f : Fields) → GoesOn s (rest s p m (memory t a b k i f)) w q u a' b'
+abbrev pub Goes : List ℕ → ℕ → Mode → Pending → Steering → List ℤ → List ℤ → Outcome → List ℤ → List ℤ → Type 0
+Goes s p m k t a b o a' b' = (i : ℕ) (f : Fields) → GoesOn s (rest s p m (memory t a b k i f)) o a' b'
 
 -- after a part that was read from p in t: it lies after p and within the text, and the state is bounded and as deep
 pub record PastFine (s : List ℕ) (p : ℕ) (t : Steering) (q : ℕ) (u : Steering) : Type 0 where
@@ -60,33 +67,28 @@ pub record PastFine (s : List ℕ) (p : ℕ) (t : Steering) (q : ℕ) (u : Steer
   pub bounded : Bounded u
   pub deep : u.depth ≡ t.depth
 
-abbrev pub Past : List ℕ → ℕ → Steering → Why → ℕ → Steering → Type 0
-Past s p t Why.Fine q u = PastFine s p t q u
-Past s p t (Why.Refused r e) q u = Unit {0}
+abbrev pub Past : List ℕ → ℕ → Steering → Outcome → Type 0
+Past s p t (Ok o) = PastFine s p t o.at o.st
+Past s p t (Err e) = Unit {0}
 
 -- the sequence ends at a `)` or at the end of the text
-abbrev pub Stops : List ℕ → Why → ℕ → Type 0
-Stops s Why.Fine q = (get_or s q 0 ≡ 41 → ⊥) → q ≡ length s
-Stops s (Why.Refused r e) q = Unit {0}
+abbrev pub Stops : List ℕ → Outcome → Type 0
+Stops s (Ok o) = (get_or s o.at 0 ≡ 41 → ⊥) → o.at ≡ length s
+Stops s (Err e) = Unit {0}
 
 pub record Sequenced (s : List ℕ) (p : ℕ) (j : Joint) (t : Steering) (a b a' b' : List ℤ) (o : Outcome) : Type 0 where
-  pub goes : Goes s p atomNext (pending_of j) t a b o.why o.at o.st a' b'
-  pub past : Past s p t o.why o.at o.st
-  pub stops : Stops s o.why o.at
+  pub goes : Goes s p atomNext (pending_of j) t a b o a' b'
+  pub past : Past s p t o
+  pub stops : Stops s o
 
 pub record Branched (s : List ℕ) (p : ℕ) (t : Steering) (a b a' b' : List ℤ) (o : Outcome) : Type 0 where
-  pub goes : Goes s p (seq plain) nothing t a b o.why o.at o.st a' b'
-  pub past : Past s p t o.why o.at o.st
+  pub goes : Goes s p (seq plain) nothing t a b o a' b'
+  pub past : Past s p t o
 
 -- where the sequence of a branch was read, the branch is open
-abbrev pub Closable : Why → Steering → Type 0
-Closable Why.Fine t = (0 < t.depth) × Bounded t
-Closable (Why.Refused r e) t = Unit {0}
+abbrev pub Closable : Steering → Type 0
+Closable t = (0 < t.depth) × Bounded t
 
 -- a branch after its sequence: it closes at a `)`, and is refused elsewhere
-abbrev pub ended_as : List ℕ → Why → ℕ → Steering → Outcome
-ended_as s Why.Fine q t = pick (eqb (get_or s q 0) 41) (record { why = Why.Fine; at = q + 1; st = closed t }) (refused_at Grammar q t)
-ended_as s (Why.Refused r e) q t = record { why = Why.Refused r e; at = q; st = t }
-
-abbrev pub branch_ended : List ℕ → Outcome → Outcome
-branch_ended s o = ended_as s o.why o.at o.st
+abbrev pub branch_ended : List ℕ → Reached → Outcome
+branch_ended s o = pick (eqb (get_or s o.at 0) 41) (Ok (record { at = o.at + 1; st = closed o.st })) (refused_at Grammar o.at)

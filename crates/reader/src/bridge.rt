@@ -5,46 +5,17 @@ ghost use Rattle.ids.specs.Limits.{bridges, max_text};
 ghost use Rattle.loops.specs.Loop.{pick};
 ghost use Rattle.reading_state.specs.State.{steering, keyed};
 ghost use Rattle.reading.specs.Memory.{joins, joined_already, between};
-ghost use Rattle.reader.specs.Outcome.{Bounded, outcome, refused_at};
+ghost use Rattle.reader.specs.Outcome.{Bounded};
 ghost use Rattle.reader.specs.Bridge.{Away, Closes, Bridges};
 
+use crate::answer::TextRefusal;
 use crate::atom::bond_of;
 use ids::{AtomId, BRIDGES, BondId, SMALL};
-use reading_state::{KEYS, Opening, State};
+use reading_state::{KEYS, State};
 use refusal::Refusal;
 use table::cell::{bond_number, number};
 use table::{BOND_CELLS, Bond, FIRST, MAX_BONDS, SECOND};
 use table_edits::put_bond;
-
-// How a part of a text went.
-#[derive(Clone, Copy)]
-pub enum Why {
-    Fine,
-    Refused(Refusal, usize),
-}
-
-// How it went, the next offset, and the state.
-#[derive(Clone, Copy)]
-pub struct PartRead {
-    pub why: Why,
-    pub at: usize,
-    pub st: State,
-}
-
-// The bond that a bridge closes with, or the refusal.
-#[derive(Clone, Copy)]
-pub enum Closing {
-    Bond(Bond),
-    Refused(Refusal),
-}
-
-// internal: a refusal at an offset.
-pub fn refuse(r: Refusal, at: usize, st: State) -> PartRead
-    ensures { (p x y : List ℕ) → outcome result p x y ≡ refused_at r at (steering st p x y) }
-{
-    let why = Why::Refused(r, at);
-    PartRead { why, at, st }
-}
 
 // Whether a bond joins two atoms.
 fn joins(bonds: &[i32], a: AtomId, b: AtomId, i: BondId) -> bool
@@ -67,11 +38,9 @@ fn near(bonds: &[i32], m: usize, a: u16, b: u16) -> bool
     ensures { Away bonds.now a b m result }
 {
     let mut found = false;
-    let mut i = 0;
-    while i < m {
+    for i in 0..m {
         let y = number(bonds[BOND_CELLS * i + SECOND]);
         found = found | (y == a as usize) | (y == b as usize);
-        i += 1;
     }
     found
 }
@@ -81,12 +50,10 @@ fn joined_among(bonds: &[i32], m: BondId, a: AtomId, b: AtomId) -> bool
     requires { m.0 ≤ max_bonds }
     ensures { result ≡ joined_already bonds.now m.0 a.0 b.0 }
 {
-    let mut i = 0;
-    while i < m.0 {
+    for i in 0..m.0 {
         if joins(bonds, a, b, BondId(i)) {
             return true;
         }
-        i += 1;
     }
     false
 }
@@ -120,24 +87,44 @@ fn between(a: AtomId, b: AtomId, k: u8) -> Bond
     bond_of(b, a, back)
 }
 
-// internal: the bridge that was opened at the atom u with the symbol j, and closes at the hub with k; m is the number that its bond gets.
-pub fn close_at(bonds: &[i32], m: BondId, u: AtomId, hub: AtomId, j: u8, k: u8) -> Closing
+// internal: the bond of the bridge that was opened at the atom u with the symbol j, and closes at the hub with k, at an offset; m is the number that it gets.
+pub fn close_at(
+    bonds: &[i32],
+    m: BondId,
+    u: AtomId,
+    hub: AtomId,
+    j: u8,
+    k: u8,
+    at: usize,
+) -> Result<Bond, TextRefusal>
     requires { (u.0 < 65536) × (hub.0 < 65536) }
-    ensures { Closes bonds.now m.0 u.0 hub.0 j k result }
+    ensures { Closes bonds.now m.0 u.0 hub.0 j k at result }
 {
     if MAX_BONDS <= m.0 {
-        return Closing::Refused(Refusal::ManyBonds);
+        return Err(TextRefusal {
+            refusal: Refusal::ManyBonds,
+            at,
+        });
     }
     if u.0 == hub.0 {
-        return Closing::Refused(Refusal::SelfBridge);
+        return Err(TextRefusal {
+            refusal: Refusal::SelfBridge,
+            at,
+        });
     }
     if joined_already(bonds, m, u, hub) {
-        return Closing::Refused(Refusal::RepeatedBond);
+        return Err(TextRefusal {
+            refusal: Refusal::RepeatedBond,
+            at,
+        });
     }
     if kinds::clash(j, k) {
-        return Closing::Refused(Refusal::SymbolClash);
+        return Err(TextRefusal {
+            refusal: Refusal::SymbolClash,
+            at,
+        });
     }
-    Closing::Bond(between(u, hub, kinds::meet(j, k)))
+    Ok(between(u, hub, kinds::meet(j, k)))
 }
 
 // internal: writes the keys of a bridge's bond, whose digits stand at p at the atom u and at q at the hub: the lower number first.
@@ -164,26 +151,21 @@ pub fn bridge(
     bonds: &mut [i32],
     offsets: &mut [u16; BRIDGES],
     keys: &mut [u16; KEYS],
-) -> Why
+) -> Result<(), TextRefusal>
     requires bounded { Bounded (steering st offsets.old [] []) }
     requires number_lt_bridges { number < bridges }
     requires at_le_max_text { at ≤ max_text }
     ensures { (x : List ℕ) → Bridges (steering st offsets.old x keys.old) number kind at bonds.old bonds.new offsets.new keys.new result }
 {
-    let opening = st.opening(number);
-    let Opening::At(u, j) = opening else {
+    let Some(opening) = st.opening(number) else {
         offsets[number] = at as u16;
-        return Why::Fine;
+        return Ok(());
     };
     let from = offsets[number];
     offsets[number] = 0;
     let m = BondId(st.bonds);
-    match close_at(bonds, m, u, st.hub, j, kind) {
-        Closing::Bond(x) => {
-            put_bond(bonds, m, x);
-            put_keys(keys, m, u, st.hub, from, at as u16);
-            Why::Fine
-        }
-        Closing::Refused(r) => Why::Refused(r, at),
-    }
+    let bond = close_at(bonds, m, opening.atom, st.hub, opening.symbol, kind, at)?;
+    put_bond(bonds, m, bond);
+    put_keys(keys, m, opening.atom, st.hub, from, at as u16);
+    Ok(())
 }

@@ -2,7 +2,6 @@
 ghost use Rattle.std.specs.Prelude.{◌≡◌, true, not, eqb, length, get_or, replicate, ℕ, ◌≤◌, ◌<◌};
 ghost use Rattle.ids.specs.Limits.{bridges, max_text};
 ghost use Rattle.loops.specs.Loop.{each};
-ghost use Rattle.ids.specs.Small.{small};
 ghost use Rattle.table_graph.specs.Built.{Room};
 ghost use Rattle.table.specs.Limits.{max_atoms, max_bonds};
 ghost use Rattle.table.specs.Cells.{mark};
@@ -18,26 +17,13 @@ ghost use Rattle.reader.specs.Filled.{AtomFilled, AtomsFilled, Completed, placed
 ghost use Rattle.reader.specs.Ending.{told, ended_of};
 ghost use Rattle.reader.specs.Chosen.{Chosen};
 
+use crate::answer::{Counts, TextRefusal};
 use ids::{AtomId, BRIDGES, BondId, MAX_TEXT, SMALL};
 use reading_state::{KEYS, State};
 use refusal::Refusal;
-use table::{Check, ELEMENT, HYDROGENS, MARK, MAX_ATOMS, MAX_BONDS, SECOND, SELECTED, cell};
+use table::{ELEMENT, HYDROGENS, MARK, MAX_ATOMS, MAX_BONDS, SECOND, SELECTED, Tables, cell};
 use table_edits::clear;
 use valence::Reached;
-
-// A molecule with its counts of atoms, bonds and over-full atoms, or a refusal with its offset.
-#[derive(Clone, Copy)]
-pub enum ReadAnswer {
-    Molecule(usize, usize, usize),
-    Refused(Refusal, usize),
-}
-
-// Whether a molecule has a matching, and its number of over-full atoms.
-#[derive(Clone, Copy)]
-struct Whole {
-    matchable: bool,
-    overfull: usize,
-}
 
 // The lower of two offsets of openings; the second counts if its opener is not 0.
 fn earlier(p: usize, opener: u16, offset: u16) -> usize
@@ -58,10 +44,8 @@ fn all_closed(openers: &[u16; BRIDGES]) -> bool
     ensures { result ≡ true → (i : ℕ) → i < bridges → get_or openers.now i 0 ≡ 0 }
 {
     let mut closed = true;
-    let mut i = 0;
-    while i < BRIDGES {
+    for i in 0..BRIDGES {
         closed = closed & (openers[i] == 0);
-        i += 1;
     }
     closed
 }
@@ -74,10 +58,8 @@ fn leftmost(openers: &[u16; BRIDGES], offsets: &[u16; BRIDGES]) -> usize
         return MAX_TEXT;
     }
     let mut p = MAX_TEXT;
-    let mut i = 0;
-    while i < BRIDGES {
+    for i in 0..BRIDGES {
         p = earlier(p, openers[i], offsets[i]);
-        i += 1;
     }
     p
 }
@@ -116,15 +98,13 @@ fn hydrogenate(n: usize, outsides: &[u8; MAX_ATOMS], sums: &[u16], atoms: &mut [
     ensures { AtomsFilled outsides.now sums.now n atoms.old atoms.new result }
 {
     let mut overfull = 0;
-    let mut i = 0;
-    while i < n {
+    for i in 0..n {
         overfull += hydrogenate_atom(atoms, AtomId(i), outsides[i], sums[i]);
-        i += 1;
     }
     overfull
 }
 
-// Writes the hydrogens, counts the over-full atoms and tells whether a matching exists, in one pass over the bonds, in buffers.
+// Writes the hydrogens, and counts the over-full atoms where a matching exists, in one pass over the bonds, in buffers.
 fn complete_in(
     n: usize,
     m: usize,
@@ -137,7 +117,7 @@ fn complete_in(
     el: &mut [u8],
     sums: &mut [u16],
     row: &mut [u8],
-) -> Whole
+) -> Option<usize>
     requires valid { Valid (hydrogenated outsides.now bonds.now m n atoms.old) bonds.now n m }
     requires room { Room n m flags.old ea.old eb.old el.old sums.old }
     requires sums_value { (sums.old ≡ replicate (length sums.old) 0) × (m ≤ length row.old) }
@@ -146,60 +126,37 @@ fn complete_in(
     table_graph::wire(bonds, m, ea, eb, el, sums);
     let overfull = hydrogenate(n, outsides, sums, atoms);
     let matchable = kekule::first_wired(atoms, n, m, sums, ea, eb, el, flags, row);
-    Whole {
-        matchable,
-        overfull,
+    if matchable {
+        return Some(overfull);
     }
+    None
 }
 
-// The same for a small molecule.
-fn complete_small(
+// The same with buffers for N atoms and M bonds.
+fn complete_sized<const N: usize, const M: usize>(
     n: usize,
     m: usize,
     outsides: &[u8; MAX_ATOMS],
     atoms: &mut [i32],
     bonds: &[i32],
     row: &mut [u8],
-) -> Whole
+) -> Option<usize>
     requires valid { Valid (hydrogenated outsides.now bonds.now m n atoms.old) bonds.now n m }
-    requires n_le_small { (n ≤ small) × (m ≤ small) }
-    requires m_in_bounds { m ≤ length row.old }
+    requires room { (n ≤ N) × (m ≤ M) × (m ≤ length row.old) }
+    requires sizes { (N ≤ max_atoms) × (M ≤ max_bonds) }
     ensures { Completed outsides.now atoms.old bonds.now n m row.old result atoms.new row.new }
 {
-    let mut flags = [0u8; SMALL];
-    let mut ea = [0u16; SMALL];
-    let mut eb = [0u16; SMALL];
-    let mut el = [0u8; SMALL];
-    let mut sums = [0u16; SMALL];
+    let mut flags = [0u8; N];
+    let mut ea = [0u16; M];
+    let mut eb = [0u16; M];
+    let mut el = [0u8; M];
+    let mut sums = [0u16; N];
     complete_in(
         n, m, outsides, atoms, bonds, &mut flags, &mut ea, &mut eb, &mut el, &mut sums, row,
     )
 }
 
-// The same for any molecule.
-fn complete_large(
-    n: usize,
-    m: usize,
-    outsides: &[u8; MAX_ATOMS],
-    atoms: &mut [i32],
-    bonds: &[i32],
-    row: &mut [u8],
-) -> Whole
-    requires valid { Valid (hydrogenated outsides.now bonds.now m n atoms.old) bonds.now n m }
-    requires m_in_bounds { m ≤ length row.old }
-    ensures { Completed outsides.now atoms.old bonds.now n m row.old result atoms.new row.new }
-{
-    let mut flags = [0u8; MAX_ATOMS];
-    let mut ea = [0u16; MAX_BONDS];
-    let mut eb = [0u16; MAX_BONDS];
-    let mut el = [0u8; MAX_BONDS];
-    let mut sums = [0u16; MAX_ATOMS];
-    complete_in(
-        n, m, outsides, atoms, bonds, &mut flags, &mut ea, &mut eb, &mut el, &mut sums, row,
-    )
-}
-
-// Writes the hydrogens, counts the over-full atoms and tells whether a matching exists.
+// The same with buffers that are large enough.
 fn complete(
     n: usize,
     m: usize,
@@ -207,27 +164,30 @@ fn complete(
     atoms: &mut [i32],
     bonds: &[i32],
     row: &mut [u8],
-) -> Whole
+) -> Option<usize>
     requires valid { Valid (hydrogenated outsides.now bonds.now m n atoms.old) bonds.now n m }
     requires m_in_bounds { m ≤ length row.old }
     ensures { Completed outsides.now atoms.old bonds.now n m row.old result atoms.new row.new }
 {
-    if SMALL < n {
-        return complete_large(n, m, outsides, atoms, bonds, row);
+    if n <= SMALL && m <= SMALL {
+        complete_sized::<SMALL, SMALL>(n, m, outsides, atoms, bonds, row)
+    } else {
+        complete_sized::<MAX_ATOMS, MAX_BONDS>(n, m, outsides, atoms, bonds, row)
     }
-    if SMALL < m {
-        return complete_large(n, m, outsides, atoms, bonds, row);
-    }
-    complete_small(n, m, outsides, atoms, bonds, row)
 }
 
 // A refusal with its offset; both tables are zeroed.
-fn refuse_whole(r: Refusal, p: usize, atoms: &mut [i32], bonds: &mut [i32]) -> ReadAnswer
+fn refuse_whole(
+    r: Refusal,
+    p: usize,
+    atoms: &mut [i32],
+    bonds: &mut [i32],
+) -> Result<Counts, TextRefusal>
     ensures { told result atoms.new bonds.new ≡ refused (code_of r) p atoms.old bonds.old }
 {
     clear(atoms);
     clear(bonds);
-    ReadAnswer::Refused(r, p)
+    Err(TextRefusal { refusal: r, at: p })
 }
 
 // Whether one of n atoms is marked.
@@ -235,12 +195,10 @@ fn some_marked(atoms: &[i32], n: usize) -> bool
     requires { n ≤ max_atoms }
     ensures { result ≡ not (each (λ a. eqb (mark atoms.now a) 0) 0 n) }
 {
-    let mut i = 0;
-    while i < n {
+    for i in 0..n {
         if cell::atom_number(atoms, AtomId(i), MARK) != 0 {
             return true;
         }
-        i += 1;
     }
     false
 }
@@ -272,13 +230,11 @@ fn rank_bonds(bonds: &[i32], m: usize, keys: &mut [u16; KEYS])
     requires { Rankable bonds.now m keys.old }
     ensures { keys.new ≡ rank_bonds bonds.now m keys.old }
 {
-    let mut i = 0;
-    while i < m {
+    for i in 0..m {
         let p = 2 * i;
         let second = cell::bond_number(bonds, BondId(i), SECOND);
         keys[p] = first_rank(keys[p], second);
         keys[p + 1] = second_rank(keys[p + 1]);
-        i += 1;
     }
 }
 
@@ -297,22 +253,26 @@ fn store_marks(n: usize, m: usize, keys: &mut [u16; KEYS], atoms: &mut [i32], bo
 
 // The molecule with its marks as they are stored, or 11 where it has no matching.
 fn place(
-    w: Whole,
+    overfull: Option<usize>,
     n: usize,
     m: usize,
     keys: &mut [u16; KEYS],
     atoms: &mut [i32],
     bonds: &mut [i32],
-) -> ReadAnswer
+) -> Result<Counts, TextRefusal>
     requires valid { Valid atoms.old bonds.old n m }
     requires m_value { (none_unfit atoms.old bonds.old n m ≡ true) × Rankable bonds.old m keys.old }
-    ensures { told result atoms.new bonds.new ≡ placed_by w.matchable (turn_marks (text_rank keys.old bonds.old) bonds.old m n atoms.old) bonds.old n m w.overfull }
+    ensures { told result atoms.new bonds.new ≡ placed_by overfull (turn_marks (text_rank keys.old bonds.old) bonds.old m n atoms.old) bonds.old n m }
 {
-    if w.matchable {
-        store_marks(n, m, keys, atoms, bonds);
-        return ReadAnswer::Molecule(n, m, w.overfull);
-    }
-    refuse_whole(Refusal::Unmatchable, 0, atoms, bonds)
+    let Some(overfull) = overfull else {
+        return refuse_whole(Refusal::Unmatchable, 0, atoms, bonds);
+    };
+    store_marks(n, m, keys, atoms, bonds);
+    Ok(Counts {
+        atoms: n,
+        bonds: m,
+        overfull,
+    })
 }
 
 // internal: what a text that was read whole answers: 10, a late check's refusal, 11 or the molecule, whose first matching the row gets.
@@ -324,7 +284,7 @@ pub fn end_row(
     atoms: &mut [i32],
     bonds: &mut [i32],
     row: &mut [u8],
-) -> ReadAnswer
+) -> Result<Counts, TextRefusal>
     requires atoms_le_max_atoms { (st.atoms ≤ max_atoms) × (st.bonds ≤ max_bonds) }
     requires valid { Valid (hydrogenated outsides.now bonds.old st.bonds st.atoms atoms.old) bonds.old st.atoms st.bonds }
     requires rankable { Rankable bonds.old st.bonds keys.old }
@@ -339,10 +299,10 @@ pub fn end_row(
     }
     let n = st.atoms;
     let m = st.bonds;
-    let w = complete(n, m, outsides, atoms, bonds, row);
-    match table_validity::late::late_check(atoms, bonds, n, m) {
-        Check::Fine => place(w, n, m, keys, atoms, bonds),
-        Check::Refused(r) => refuse_whole(r, 0, atoms, bonds),
+    let overfull = complete(n, m, outsides, atoms, bonds, row);
+    match table_validity::late::late_check(Tables { atoms, bonds, n, m }) {
+        Ok(()) => place(overfull, n, m, keys, atoms, bonds),
+        Err(r) => refuse_whole(r, 0, atoms, bonds),
     }
 }
 
@@ -354,7 +314,7 @@ pub fn end(
     keys: &mut [u16; KEYS],
     atoms: &mut [i32],
     bonds: &mut [i32],
-) -> ReadAnswer
+) -> Result<Counts, TextRefusal>
     requires atoms_le_max_atoms { (st.atoms ≤ max_atoms) × (st.bonds ≤ max_bonds) }
     requires valid { Valid (hydrogenated outsides.now bonds.old st.bonds st.atoms atoms.old) bonds.old st.atoms st.bonds }
     requires rankable { Rankable bonds.old st.bonds keys.old }

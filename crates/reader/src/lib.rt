@@ -12,16 +12,16 @@ ghost use Rattle.reader.specs.Outcome.{outcome};
 ghost use Rattle.reader.specs.Ending.{told, Ready, Blank, TextRead};
 ghost use Rattle.reader.specs.Chosen.{Chosen};
 
-use crate::bridge::{PartRead, Why, refuse};
-use crate::ending::ReadAnswer;
+use crate::answer::{Counts, TextRefusal};
 use crate::piece::{Joint, Start};
-use crate::sequence::sequence;
+use crate::sequence::{PartRead, sequence};
 use ids::{BRIDGES, MAX_TEXT};
 use reading_state::{KEYS, State};
 use refusal::Refusal;
 use table::{MAX_ATOMS, MAX_BONDS};
 use table_edits::clear;
 
+pub mod answer;
 pub mod atom;
 pub mod bridge;
 pub mod ending;
@@ -36,65 +36,60 @@ fn read_text(
     outsides: &mut [u8; MAX_ATOMS],
     offsets: &mut [u16; BRIDGES],
     keys: &mut [u16; KEYS],
-) -> PartRead
+) -> Result<PartRead, TextRefusal>
     requires text_len_bound { length text.now ≤ max_text }
     requires offsets_value { (offsets.old ≡ replicate bridges 0) × (outsides.old ≡ replicate max_atoms 0) × (keys.old ≡ replicate key_count 0) }
     ensures { TextRead text.now atoms.old bonds.old atoms.new bonds.new (outcome result offsets.new outsides.new keys.new) }
 {
     let st = State::new();
     if text.len() == 0 {
-        let fine = Why::Fine;
-        return PartRead {
-            why: fine,
-            at: 0,
-            st,
-        };
+        return Ok(PartRead { at: 0, st });
     }
-    let none = Joint::Elided;
-    let start = Start { joint: none, at: 0 };
-    let o = sequence(text, start, st, atoms, bonds, outsides, offsets, keys);
-    let w = o.why;
-    let Why::Fine = w else {
-        return o;
-    };
-    let e = o.at;
-    if e < text.len() {
-        let t = o.st;
-        return refuse(Refusal::Grammar, e, t);
+    let joint = Joint::Elided;
+    let start = Start { joint, at: 0 };
+    let o = sequence(text, start, st, atoms, bonds, outsides, offsets, keys)?;
+    if o.at < text.len() {
+        return Err(TextRefusal {
+            refusal: Refusal::Grammar,
+            at: o.at,
+        });
     }
-    o
+    Ok(o)
 }
 
 // internal: reads a text into tables that are zeroed and long enough for it, for callers that know them so; the row gets the first matching of a molecule.
-pub fn read_row(text: &[u8], atoms: &mut [i32], bonds: &mut [i32], row: &mut [u8]) -> ReadAnswer
+pub fn read_row(
+    text: &[u8],
+    atoms: &mut [i32],
+    bonds: &mut [i32],
+    row: &mut [u8],
+) -> Result<Counts, TextRefusal>
     requires ready { Ready text.now atoms.old bonds.old }
     requires max_bonds_in_bounds { max_bonds ≤ length row.old }
     ensures bonds_after { (a b : List ℤ) → atoms.old ≡ zeros a → bonds.old ≡ zeros b → told result atoms.new bonds.new ≡ read_into text.now a b }
     ensures chosen { Chosen result atoms.new bonds.new row.old row.new }
 {
     if MAX_TEXT < text.len() {
-        return ReadAnswer::Refused(Refusal::LongText, MAX_TEXT);
+        return Err(TextRefusal {
+            refusal: Refusal::LongText,
+            at: MAX_TEXT,
+        });
     }
     let mut outsides = [0u8; MAX_ATOMS];
     let mut offsets = [0u16; BRIDGES];
     let mut keys = [0u16; KEYS];
-    let o = read_text(text, atoms, bonds, &mut outsides, &mut offsets, &mut keys);
-    let w = o.why;
-    match w {
-        Why::Fine => {
-            let st = o.st;
-            ending::end_row(st, &offsets, &outsides, &mut keys, atoms, bonds, row)
-        }
-        Why::Refused(r, p) => {
+    match read_text(text, atoms, bonds, &mut outsides, &mut offsets, &mut keys) {
+        Ok(o) => ending::end_row(o.st, &offsets, &outsides, &mut keys, atoms, bonds, row),
+        Err(e) => {
             clear(atoms);
             clear(bonds);
-            ReadAnswer::Refused(r, p)
+            Err(e)
         }
     }
 }
 
 // internal: reads a text into tables that are zeroed and as long as they have to be; the first matching is dropped.
-pub fn read_zeroed(text: &[u8], atoms: &mut [i32], bonds: &mut [i32]) -> ReadAnswer
+pub fn read_zeroed(text: &[u8], atoms: &mut [i32], bonds: &mut [i32]) -> Result<Counts, TextRefusal>
     requires { Blank atoms.old bonds.old }
     ensures { (a b : List ℤ) → atoms.old ≡ zeros a → bonds.old ≡ zeros b → enough a b ≡ true → told result atoms.new bonds.new ≡ read_of text.now a b }
 {
@@ -104,11 +99,14 @@ pub fn read_zeroed(text: &[u8], atoms: &mut [i32], bonds: &mut [i32]) -> ReadAns
 
 // Reads a text: the counts of atoms, of bonds and of over-full atoms outside brackets, the tables holding their rows and zeros after them; or the refusal with its offset,
 // 1 to 11 in 01's order, the late checks 20 to 23 before 11. A table that is too short (1) leaves both as they were; every other refusal leaves both zeroed.
-pub fn read(text: &[u8], atoms: &mut [i32], bonds: &mut [i32]) -> ReadAnswer
+pub fn read(text: &[u8], atoms: &mut [i32], bonds: &mut [i32]) -> Result<Counts, TextRefusal>
     ensures { told result atoms.new bonds.new ≡ read_of text.now atoms.old bonds.old }
 {
     if !table_validity::enough(atoms, bonds) {
-        return ReadAnswer::Refused(Refusal::Short, 0);
+        return Err(TextRefusal {
+            refusal: Refusal::Short,
+            at: 0,
+        });
     }
     clear(atoms);
     clear(bonds);

@@ -2,10 +2,11 @@
 ghost use Rattle.std.specs.Prelude.{◌≡◌, List, [], ℕ, ◌≤◌, ◌<◌, length, get_or};
 ghost use Rattle.ids.specs.Limits.{max_text, max_depth};
 ghost use Rattle.reading_state.specs.State.{steering};
-ghost use Rattle.reader.specs.Outcome.{Bounded, outcome, Sequenced, Branched, Closable, branch_ended};
+ghost use Rattle.reader.specs.Outcome.{Bounded, outcome, reached, Sequenced, Branched, Closable, branch_ended};
 
-use crate::atom::{Added, atom_at};
-use crate::bridge::{PartRead, Why, bridge, refuse};
+use crate::answer::TextRefusal;
+use crate::atom::atom_at;
+use crate::bridge::bridge;
 use crate::piece::{Piece, Start, joint_at, piece_at};
 use ids::{BRIDGES, MAX_DEPTH};
 use reading_fields::byte::peek;
@@ -13,7 +14,15 @@ use reading_state::{KEYS, State};
 use refusal::Refusal;
 use table::MAX_ATOMS;
 
+// The next offset after a part of a text, and the state there.
+#[derive(Clone, Copy)]
+pub struct PartRead {
+    pub at: usize,
+    pub st: State,
+}
+
 // internal: an atom after a joint, and any number of pieces.
+// Stays: the tables and arrays are lent one by one, since each callee takes others of them, and a struct would be taken apart at every call.
 #[cycle(branch_sequence)]
 pub fn sequence(
     s: &[u8],
@@ -24,7 +33,7 @@ pub fn sequence(
     outsides: &mut [u8; MAX_ATOMS],
     offsets: &mut [u16; BRIDGES],
     keys: &mut [u16; KEYS],
-) -> PartRead
+) -> Result<PartRead, TextRefusal>
     requires bounded { Bounded (steering from offsets.old [] []) }
     requires at_in_bounds { start.at ≤ length s.now }
     requires s_len_bound { length s.now ≤ max_text }
@@ -38,43 +47,35 @@ pub fn sequence(
         let piece = piece_at(s, at, joint, fresh);
         fresh = false;
         match piece {
-            Piece::Atom(j, q) => match atom_at(s, q, j, st, atoms, bonds) {
-                Added::Atom(outside, bonded, p) => {
-                    let n = st.atoms;
-                    outsides[n] = outside;
-                    let t = st.extend(bonded);
-                    st = t;
-                    at = p;
-                }
-                Added::Refused(r, e) => return refuse(r, e, st),
-            },
+            Piece::Atom(j, q) => {
+                let added = atom_at(s, q, j, st, atoms, bonds)?;
+                outsides[st.atoms] = added.outside;
+                st = st.extend(added.bonded);
+                at = added.at;
+            }
             Piece::Bridge(number, kind, q, p) => {
-                let why = bridge(st, number, kind, q, bonds, offsets, keys);
-                let Why::Fine = why else {
-                    return PartRead { why, at: q, st };
-                };
-                let t = st.join(number, kind);
-                st = t;
+                bridge(st, number, kind, q, bonds, offsets, keys)?;
+                st = st.join(number, kind);
                 at = p;
             }
             Piece::Branch(q) => {
                 if MAX_DEPTH <= st.depth {
-                    return refuse(Refusal::DeepBranch, q, st);
+                    return Err(TextRefusal {
+                        refusal: Refusal::DeepBranch,
+                        at: q,
+                    });
                 }
-                let o = branch(s, q, st, atoms, bonds, outsides, offsets, keys);
-                let t = o.st;
-                st = t;
-                at = o.at;
-                let why = o.why;
-                let Why::Fine = why else {
-                    return PartRead { why, at, st };
-                };
+                let inner = branch(s, q, st, atoms, bonds, outsides, offsets, keys)?;
+                st = inner.st;
+                at = inner.at;
             }
-            Piece::End(at) => {
-                let fine = Why::Fine;
-                return PartRead { why: fine, at, st };
+            Piece::End(at) => return Ok(PartRead { at, st }),
+            Piece::Wrong(q) => {
+                return Err(TextRefusal {
+                    refusal: Refusal::Grammar,
+                    at: q,
+                });
             }
-            Piece::Wrong(q) => return refuse(Refusal::Grammar, q, st),
         }
     }
 }
@@ -90,7 +91,7 @@ pub fn branch(
     outsides: &mut [u8; MAX_ATOMS],
     offsets: &mut [u16; BRIDGES],
     keys: &mut [u16; KEYS],
-) -> PartRead
+) -> Result<PartRead, TextRefusal>
     requires bounded { Bounded (steering st offsets.old [] []) }
     requires depth_lt_max_depth { st.depth < max_depth }
     requires at_in_bounds { at < length s.now }
@@ -100,30 +101,24 @@ pub fn branch(
 {
     let inner = st.open();
     let start = joint_at(s, at + 1);
-    let o = sequence(s, start, inner, atoms, bonds, outsides, offsets, keys);
+    let o = sequence(s, start, inner, atoms, bonds, outsides, offsets, keys)?;
     end_branch(s, o)
 }
 
 // The end of a branch: it closes at its `)`, and the hub is again what it was.
-fn end_branch(s: &[u8], o: PartRead) -> PartRead
+fn end_branch(s: &[u8], o: PartRead) -> Result<PartRead, TextRefusal>
     requires s_len_bound { length s.now ≤ max_text }
-    requires closable { Closable o.why (steering o.st [] [] []) }
-    ensures { (p x y : List ℕ) → outcome result p x y ≡ branch_ended s.now (outcome o p x y) }
+    requires closable { Closable (steering o.st [] [] []) }
+    ensures { (p x y : List ℕ) → outcome result p x y ≡ branch_ended s.now (reached o p x y) }
 {
-    let w = o.why;
-    let Why::Fine = w else {
-        return o;
-    };
-    let e = o.at;
-    let t = o.st;
-    if peek(s, e) != b')' {
-        return refuse(Refusal::Grammar, e, t);
+    if peek(s, o.at) != b')' {
+        return Err(TextRefusal {
+            refusal: Refusal::Grammar,
+            at: o.at,
+        });
     }
-    let back = t.close();
-    let fine = Why::Fine;
-    PartRead {
-        why: fine,
-        at: e + 1,
-        st: back,
-    }
+    Ok(PartRead {
+        at: o.at + 1,
+        st: o.st.close(),
+    })
 }

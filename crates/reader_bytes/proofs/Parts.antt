@@ -29,12 +29,11 @@ use Rattle.reading_pieces.specs.State.{pending_of}
 use Rattle.reading_deeds.specs.declared.Deed.{Deed}
 use Rattle.reading_pieces.specs.Safe.{Bounded}
 use Rattle.reading_deeds.specs.Deed.{beginning, performed, Numbered}
-use Rattle.reader.specs.declared.atom.Room.{Room}
-use Rattle.reader.specs.declared.bridge.Closing.{Closing}
+use Rattle.std.specs.Prelude.{Result, Ok, Err}
+use Rattle.reader.specs.declared.answer.TextRefusal.{TextRefusal}
 use Rattle.reader.specs.Added.{Next, HasRoom, Admits}
 use Rattle.reader.specs.Bridge.{Closes}
 use Rattle.reader_bytes.specs.declared.Head.{Head}
-use Rattle.reader_bytes.specs.declared.Byte.{Byte}
 use Rattle.reader_bytes.specs.Step.{Lent, lent, steering_in, memory_in}
 use Rattle.reader_bytes.specs.Parts.{bonded_in, closing, Leaves, Went, Performs}
 
@@ -126,9 +125,9 @@ pub first-nothing : (h : Head) (m : Lent) {l : Letter} → l ≡ Nothing → Lea
 first-nothing h m el = rw el (record { is = refl; mode = refl })
 
 -- there is room, or not
-module _ (h : Head) {w : Bool} (ew : w ≡ bonded_in h) (r : Room) (er : Admits h.atoms h.bonds w r) where
-  pub room-enough : r ≡ Room.Enough → HasRoom h.atoms h.bonds (bonded_in h)
-  room-enough e = rw ew at (subst (Admits h.atoms h.bonds w) e er)
+module _ (h : Head) {w : Bool} (ew : w ≡ bonded_in h) where
+  pub room-enough : HasRoom h.atoms h.bonds w → HasRoom h.atoms h.bonds (bonded_in h)
+  room-enough r = rw ew at r
 
   module _ (l : Letter) (p : ℕ) (m : Lent) where
     next : Next (memory_in h m) h.atoms h.bonds w
@@ -144,17 +143,17 @@ module _ (h : Head) {w : Bool} (ew : w ≡ bonded_in h) (r : Room) (er : Admits 
         split false true ν ξ e = e
         split false false ν ξ e = absurd (let z : ◌≡◌ {A = ℕ} 0 1 = cc in omega arith)
 
-    pub begin-refused : {z : Refusal} (m' : Lent) → r ≡ Room.Refused z → Performs h (beginning l p (memory_in h m)) p m' (Byte.Refused z p)
-    begin-refused {z} m' e = record { went = (as-atom (subst (Admits h.atoms h.bonds w) e er (memory_in h m) next 0 p), omega arith) }
+    pub begin-refused : (z : TextRefusal) (m' : Lent) → Admits h.atoms h.bonds w p (Err z) → Performs h (beginning l p (memory_in h m)) p m' (Err z)
+    begin-refused z m' r = record { went = rw r.0 (as-atom (r.1 (memory_in h m) next 0 p), omega arith) }
 
-    pub begin-taken : {g : Head} {m' : Lent} → r ≡ Room.Enough → Leaves h (keeps (first_byte_of l (memory_in h m))) g m' → Performs h (beginning l p (memory_in h m)) p m' (Byte.Taken g)
+    pub begin-taken : {g : Head} {m' : Lent} → HasRoom h.atoms h.bonds w → Leaves h (keeps (first_byte_of l (memory_in h m))) g m' → Performs h (beginning l p (memory_in h m)) p m' (Ok g)
     unfolding beginning
-    begin-taken e v =
-        let k = room-enough e in
+    begin-taken r v =
+        let k = room-enough r in
         record { went = record { is = rw (lt-leb max_atoms h.atoms k.atom, crowded (bonded_in h) refl) v.is; mode = v.mode } }
       where
         crowded : (t : Bool) → bonded_in h ≡ t → (bonded_in h && leb max_bonds h.bonds) ≡ false
-        crowded true q = rw (q, lt-leb max_bonds h.bonds ((room-enough e).bond q))
+        crowded true q = rw (q, lt-leb max_bonds h.bonds ((room-enough r).bond q))
         crowded false q = rw q
 
 -- ---- a branch
@@ -174,12 +173,12 @@ settled h hub m d =
     }
 
 module _ (h : Head) (q : ℕ) (s o k p x y : List ℕ) (a b : List ℤ) where
-  pub open-deep : max_depth ≤ h.depth → Performs h (branch_act q (memory_in h (lent s o k p x y a b))) q (lent s o k p x y a b) (Byte.Refused DeepBranch q)
+  pub open-deep : max_depth ≤ h.depth → Performs h (branch_act q (memory_in h (lent s o k p x y a b))) q (lent s o k p x y a b) (Err (record { refusal = DeepBranch; at = q }))
   unfolding branch_act
   open-deep e = record { went = (rw (le-leb max_depth h.depth e), omega arith) }
 
   pub open-taken : h.depth < max_depth
-      → Performs h (branch_act q (memory_in h (lent s o k p x y a b))) q (lent (set s h.depth h.hub.0) o k p x y a b) (Byte.Taken (settled h h.hub.0 h.bonds (h.depth + 1)))
+      → Performs h (branch_act q (memory_in h (lent s o k p x y a b))) q (lent (set s h.depth h.hub.0) o k p x y a b) (Ok (settled h h.hub.0 h.bonds (h.depth + 1)))
   unfolding branch_act opened
   open-taken e = record { went = record { is = rw (lt-leb max_depth h.depth e); mode = refl } }
 
@@ -188,16 +187,13 @@ module _ (h : Head) (q : ℕ) (s o k p x y : List ℕ) (a b : List ℤ) where
   close-taken ed eu = record { is = rw (eu, ed); mode = refl }
 
 -- ---- a bridge
-pub closes-room : (b : List ℤ) (m u h j k : ℕ) (t : Closing) {z : Bond} → Closes b m u h j k t → t ≡ Closing.Bond z → m < max_bonds
-closes-room b m u h j k t w e = (subst (Closes b m u h j k) e w).1
-
 module _ (h : Head) (r q : ℕ) (s o k p x y : List ℕ) (a b : List ℤ) {c u : ℕ} (ec : c ≡ kind_of (pending_of h.pending)) (eu : u ≡ get_or o r 0) where
   pub bridge-opens : u ≡ 0
-      → Performs h (bridge_act r q (memory_in h (lent s o k p x y a b))) q (lent s (set o r (h.hub.0 + 1)) (set k r c) (set p r q) x y a b) (Byte.Taken (settled h h.hub.0 h.bonds h.depth))
+      → Performs h (bridge_act r q (memory_in h (lent s o k p x y a b))) q (lent s (set o r (h.hub.0 + 1)) (set k r c) (set p r q) x y a b) (Ok (settled h h.hub.0 h.bonds h.depth))
   unfolding bridge_act joined
   bridge-opens e = record { went = record { is = rw (eq-eqb (get_or o r 0) 0 (sym eu ∙ e), ec); mode = refl } }
 
-  module _ (n : u ≡ 0 → ⊥) (t : Closing) (w : Closes b h.bonds (u - 1) h.hub.0 (get_or k r 0) c t) where
+  module _ (n : u ≡ 0 → ⊥) where
     free? : eqb (get_or o r 0) 0 ≡ false
     free? = ne_eqb (get_or o r 0) 0 (λ e. n (eu ∙ e))
 
@@ -208,36 +204,35 @@ module _ (h : Head) (r q : ℕ) (s o k p x y : List ℕ) (a b : List ℤ) {c u :
     unfolding bridge_act
     act-closes e = rw (free?, ← ec, ← eu, e)
 
-    pub bridge-refused : {z : Refusal} (l : Lent) → t ≡ Closing.Refused z → Performs h (bridge_act r q (memory_in h (lent s o k p x y a b))) q l (Byte.Refused z q)
-    bridge-refused l e = record { went = (act-closes refl ∙ subst (Closes b h.bonds (u - 1) h.hub.0 (get_or k r 0) c) e w q joins-now, omega arith) }
+    pub bridge-refused : (z : TextRefusal) (l : Lent) → Closes b h.bonds (u - 1) h.hub.0 (get_or k r 0) c q (Err z) → Performs h (bridge_act r q (memory_in h (lent s o k p x y a b))) q l (Err z)
+    bridge-refused z l w = record { went = rw w.0 (act-closes refl ∙ w.1 q joins-now, omega arith) }
 
-    pub bridge-closes : {z : Bond} {b' : List ℤ} {y' : List ℕ} → t ≡ Closing.Bond z → b' ≡ put_bond b h.bonds z
+    pub bridge-closes : {z : Bond} {b' : List ℤ} {y' : List ℕ} → Closes b h.bonds (u - 1) h.hub.0 (get_or k r 0) c q (Ok z) → b' ≡ put_bond b h.bonds z
         → y' ≡ pick (ltb (u - 1) h.hub.0) (keyed y h.bonds (get_or p r 0) q) (keyed y h.bonds q (get_or p r 0))
-        → Performs h (bridge_act r q (memory_in h (lent s o k p x y a b))) q (lent s (set o r 0) (set k r 0) (set p r 0) x y' a b') (Byte.Taken (settled h h.hub.0 (h.bonds + 1) h.depth))
+        → Performs h (bridge_act r q (memory_in h (lent s o k p x y a b))) q (lent s (set o r 0) (set k r 0) (set p r 0) x y' a b') (Ok (settled h h.hub.0 (h.bonds + 1) h.depth))
     unfolding joined put_bond
-    bridge-closes {z} {b'} e eb ey =
-        let v = subst (Closes b h.bonds (u - 1) h.hub.0 (get_or k r 0) c) e w in
+    bridge-closes {z} {b'} v eb ey =
         let eb' : b' ≡ with_bond b h.bonds (between (u - 1) h.hub.0 (meet (get_or k r 0) c)) = eb ∙ rw (lt-ltb h.bonds max_bonds v.1, v.2) in
         record { went = record { is = act-closes v.0 ∙ rw (free?, ← ec, ← eu, eb', ey); mode = refl } }
 
 -- ---- what a deed leaves
 module _ (h : Head) (q : ℕ) (l : Lent) {d : Deed} where
-  pub does-keep : d ≡ Deed.Keep → Performs h (performed d q (memory_in h l)) q l (Byte.Taken h)
+  pub does-keep : d ≡ Deed.Keep → Performs h (performed d q (memory_in h l)) q l (Ok h)
   does-keep e = rw e (record { went = record { is = refl; mode = refl } })
 
   pub does-joint : {k : ℕ} → d ≡ Deed.Joint k
-      → Performs h (performed d q (memory_in h l)) q l (Byte.Taken (record { mode = h.mode; pending = k; tens = h.tens; draft = h.draft; hub = h.hub; atoms = h.atoms; bonds = h.bonds; depth = h.depth }))
+      → Performs h (performed d q (memory_in h l)) q l (Ok (record { mode = h.mode; pending = k; tens = h.tens; draft = h.draft; hub = h.hub; atoms = h.atoms; bonds = h.bonds; depth = h.depth }))
   does-joint e = rw e (record { went = record { is = refl; mode = refl } })
 
   pub does-tens : {t : ℕ} → d ≡ Deed.Tens t
-      → Performs h (performed d q (memory_in h l)) q l (Byte.Taken (record { mode = h.mode; pending = h.pending; tens = t; draft = h.draft; hub = h.hub; atoms = h.atoms; bonds = h.bonds; depth = h.depth }))
+      → Performs h (performed d q (memory_in h l)) q l (Ok (record { mode = h.mode; pending = h.pending; tens = t; draft = h.draft; hub = h.hub; atoms = h.atoms; bonds = h.bonds; depth = h.depth }))
   does-tens e = rw e (record { went = record { is = refl; mode = refl } })
 
   pub does-draft : {f : Fields} → d ≡ Deed.Draft f
-      → Performs h (performed d q (memory_in h l)) q l (Byte.Taken (record { mode = h.mode; pending = h.pending; tens = h.tens; draft = f; hub = h.hub; atoms = h.atoms; bonds = h.bonds; depth = h.depth }))
+      → Performs h (performed d q (memory_in h l)) q l (Ok (record { mode = h.mode; pending = h.pending; tens = h.tens; draft = f; hub = h.hub; atoms = h.atoms; bonds = h.bonds; depth = h.depth }))
   does-draft e = rw e (record { went = record { is = refl; mode = refl } })
 
-  module _ {m : Lent} {x : Byte} where
+  module _ {m : Lent} {x : Result Head TextRefusal} where
     pub does-atom : {z : Letter} → d ≡ Deed.Atom z → Performs h (beginning z q (memory_in h l)) q m x → Performs h (performed d q (memory_in h l)) q m x
     does-atom e w = rw e w
 
@@ -247,11 +242,11 @@ module _ (h : Head) (q : ℕ) (l : Lent) {d : Deed} where
     pub does-bridge : {r k t : ℕ} → d ≡ Deed.Bridge r k → t ≡ q - k → Performs h (bridge_act r t (memory_in h l)) t m x → Performs h (performed d q (memory_in h l)) q m x
     does-bridge {r} {k} {t} e et w = rw (e, ← et) (record { went = later x w.went })
       where
-        later : (z : Byte) → Went h (bridge_act r t (memory_in h l)) t m z → Went h (bridge_act r t (memory_in h l)) q m z
-        later (Byte.Taken g) v = v
-        later (Byte.Refused c i) v = (v.0, omega (arith, v.1))
+        later : (z : Result Head TextRefusal) → Went h (bridge_act r t (memory_in h l)) t m z → Went h (bridge_act r t (memory_in h l)) q m z
+        later (Ok g) v = v
+        later (Err e) v = (v.0, omega (arith, v.1))
 
-  pub does-close : {g : Head} {m : Lent} → d ≡ Deed.Close → Leaves h (closing (memory_in h l)) g m → Performs h (performed d q (memory_in h l)) q m (Byte.Taken g)
+  pub does-close : {g : Head} {m : Lent} → d ≡ Deed.Close → Leaves h (closing (memory_in h l)) g m → Performs h (performed d q (memory_in h l)) q m (Ok g)
   does-close e w = rw e (record { went = w })
 
 module _ (h : Head) (q : ℕ) (s o k p x y : List ℕ) (a b : List ℤ) (n : h.hub.0 < max_atoms) (z : Atom) {a' : List ℤ} (ea : a' ≡ put_atom a h.hub.0 z) where
@@ -259,10 +254,10 @@ module _ (h : Head) (q : ℕ) (s o k p x y : List ℕ) (a b : List ℤ) (n : h.h
   unfolding put_atom
   row_put = ea ∙ rw (lt-ltb h.hub.0 max_atoms n)
 
-  pub does-second : {d : Deed} {e : ℕ} → d ≡ Deed.Second e → z ≡ bare_row e 0 → Performs h (performed d q (memory_in h (lent s o k p x y a b))) q (lent s o k p x y a' b) (Byte.Taken h)
+  pub does-second : {d : Deed} {e : ℕ} → d ≡ Deed.Second e → z ≡ bare_row e 0 → Performs h (performed d q (memory_in h (lent s o k p x y a b))) q (lent s o k p x y a' b) (Ok h)
   does-second e ez = rw (e, ← ez) (record { went = record { is = rw row_put; mode = refl } })
 
-  pub does-row : {d : Deed} → d ≡ Deed.Row → z ≡ row_of h.draft → Performs h (performed d q (memory_in h (lent s o k p x y a b))) q (lent s o k p x y a' b) (Byte.Taken h)
+  pub does-row : {d : Deed} → d ≡ Deed.Row → z ≡ row_of h.draft → Performs h (performed d q (memory_in h (lent s o k p x y a b))) q (lent s o k p x y a' b) (Ok h)
   does-row e ez = rw (e, ← ez) (record { went = record { is = rw row_put; mode = refl } })
 
 -- the number of a deed's bridge

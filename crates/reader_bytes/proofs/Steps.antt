@@ -31,19 +31,19 @@ use Rattle.reading_pieces.proofs.Safe.{SafeAct, byte-safe, ext-small}
 use Rattle.reading_deeds.specs.declared.Deed.{Deed}
 use Rattle.reading_deeds.specs.Deed.{beginning, performed, Fitting, Does}
 use Rattle.reader_bytes.specs.declared.Head.{Head}
-use Rattle.reader_bytes.specs.declared.Byte.{Byte}
-use Rattle.reader_bytes.specs.declared.Way.{Way}
+use Rattle.std.specs.Prelude.{Option, Some, None, Result, Ok, Err}
+use Rattle.reader.specs.declared.answer.TextRefusal.{TextRefusal}
 use Rattle.reader_bytes.specs.Step.{Lent, steering_in, memory_in, machine_in, reading_in, Ready, RefusesAt, Steps}
 use Rattle.reader_bytes.specs.Parts.{in_mode, Went, Performs, Leads}
 
 -- ---- where a move leads
-pub leads-to : {o : Move} (d : ℕ) {m : Mode} → o ≡ to m → Leads o d (Way.To m)
+pub leads-to : {o : Move} (d : ℕ) {m : Mode} → o ≡ to m → Leads o d (Some m)
 leads-to d e = (d, rw e)
 
-pub leads-up : {o : Move} (d : ℕ) → o ≡ up → Leads o d (Way.To inside)
+pub leads-up : {o : Move} (d : ℕ) → o ≡ up → Leads o d (Some inside)
 leads-up d e = (suc d, rw e)
 
-pub leads-down : {o : Move} (d : ℕ) → o ≡ down → (d ≡ 0 → ⊥) → Leads o d (Way.To (seq plain))
+pub leads-down : {o : Move} (d : ℕ) → o ≡ down → (d ≡ 0 → ⊥) → Leads o d (Some (seq plain))
 leads-down zero e n = absurd (n refl)
 leads-down (suc d) e n = (d, rw e)
 
@@ -162,11 +162,11 @@ module _ (h : Head) (l : Lent) (w : Ready h l) (b p : ℕ) where
   unfolding feed
   fed = rw (machine-steps, machine-acts)
 
-  module _ {o : Move} (eo : o ≡ next h.mode b) {y : Way} (ey : Leads o h.depth y) where
-    pub grammar-refused : y ≡ Way.Nowhere → RefusesAt p b (reading_in h l) 3 p
+  module _ {o : Move} (eo : o ≡ next h.mode b) {y : Option Mode} (ey : Leads o h.depth y) where
+    pub grammar-refused : y ≡ None → RefusesAt p b (reading_in h l) 3 p
     grammar-refused e = let q : turn (next h.mode b) h.depth ≡ dead = rw eo at (subst (Leads o h.depth) e ey) in record { is = fed ∙ rw q; early = omega arith }
 
-    module _ {m : Mode} (e : y ≡ Way.To m) where
+    module _ {m : Mode} (e : y ≡ Some m) where
       led : (k : ℕ) × (turn (next h.mode b) h.depth ≡ at m k)
       led = rw eo at (subst (Leads o h.depth) e ey)
 
@@ -192,8 +192,8 @@ module _ (h : Head) (l : Lent) (w : Ready h l) (b p : ℕ) where
             split false q = some h.atoms (performed r p (memory_in h l)) (eqb-false h.atoms 0 q) (more r p (memory_in h l))
 
         module _ {h' : Head} (eh : h' ≡ in_mode h m) (l' : Lent) where
-          gone : (x : Byte) → Went h' (performed r p (memory_in h' l)) p l' x → Steps p b (reading_in h l) l' x
-          gone (Byte.Taken g) v =
+          gone : (x : Result Head TextRefusal) → Went h' (performed r p (memory_in h' l)) p l' x → Steps p b (reading_in h l) l' x
+          gone (Ok g) v =
               let is : performed r p (memory_in h l) ≡ keeps (memory_in g l') = rw eh at v.is in
               let same : g.mode ≡ m = rw eh at v.mode in
               let k : ℕ = led.0 in
@@ -208,7 +208,7 @@ module _ (h : Head) (l : Lent) (w : Ready h l) (b p : ℕ) where
                   shallow = λ z. absurd (omega arith);
                 };
               }
-          gone (Byte.Refused c q) v = record { is = fed ∙ rw (led.1, acted, rw eh at v.0); early = v.1 }
+          gone (Err e) v = record { is = fed ∙ rw (led.1, acted, rw eh at v.0); early = v.1 }
 
-          pub stepped : {x : Byte} → Performs h' (performed r p (memory_in h' l)) p l' x → Steps p b (reading_in h l) l' x
+          pub stepped : {x : Result Head TextRefusal} → Performs h' (performed r p (memory_in h' l)) p l' x → Steps p b (reading_in h l) l' x
           stepped {x} v = gone x v.went

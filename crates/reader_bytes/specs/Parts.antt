@@ -1,5 +1,5 @@
 -- auxiliary: what the parts of a byte's step promise
-use Rattle.std.specs.Prelude.{ℕ, ◌≤◌, ◌≡◌, Bool, ◌&&◌, not, eqb}
+use Rattle.std.specs.Prelude.{Option, Some, None, Result, Ok, Err, ℕ, ◌≤◌, ◌≡◌, Bool, ◌&&◌, not, eqb}
 use Rattle.refusal.specs.Code.{code_of}
 use Rattle.reading_grammar.specs.declared.Mode.{Mode}
 use Rattle.reading_grammar.specs.declared.Move.{Move}
@@ -11,8 +11,7 @@ use Rattle.reading.specs.Memory.{Memory, after_dot, moved}
 use Rattle.reading.specs.Act.{Acts}
 use Rattle.reading_pieces.specs.State.{pending_of}
 use Rattle.reader_bytes.specs.declared.Head.{Head}
-use Rattle.reader_bytes.specs.declared.Byte.{Byte}
-use Rattle.reader_bytes.specs.declared.Way.{Way}
+use Rattle.reader.specs.declared.answer.TextRefusal.{TextRefusal}
 use Rattle.reader_bytes.specs.Step.{Lent, memory_in}
 
 -- the numbers in another mode
@@ -33,14 +32,14 @@ pub record Leaves (h : Head) (a : Acts) (g : Head) (l : Lent) : Type 0 where
   pub mode : g.mode ≡ h.mode
 
 -- the same, or it refuses, at the offset p or before
-abbrev pub Went : Head → Acts → ℕ → Lent → Byte → Type 0
-Went h a p l (Byte.Taken g) = Leaves h a g l
-Went h a p l (Byte.Refused r q) = (a ≡ refuses (code_of r) q) × (q ≤ p)
+abbrev pub Went : Head → Acts → ℕ → Lent → Result Head TextRefusal → Type 0
+Went h a p l (Ok g) = Leaves h a g l
+Went h a p l (Err e) = (a ≡ refuses (code_of e.refusal) e.at) × (e.at ≤ p)
 
-pub record Performs (h : Head) (a : Acts) (p : ℕ) (l : Lent) (x : Byte) : Type 0 where
+pub record Performs (h : Head) (a : Acts) (p : ℕ) (l : Lent) (x : Result Head TextRefusal) : Type 0 where
   pub went : Went h a p l x
 
 -- where a move leads with d branches open
-abbrev pub Leads : Move → ℕ → Way → Type 0
-Leads o d Way.Nowhere = turn o d ≡ dead
-Leads o d (Way.To m) = (e : ℕ) × (turn o d ≡ at m e)
+abbrev pub Leads : Move → ℕ → Option Mode → Type 0
+Leads o d None = turn o d ≡ dead
+Leads o d (Some m) = (e : ℕ) × (turn o d ≡ at m e)

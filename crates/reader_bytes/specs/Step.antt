@@ -1,5 +1,5 @@
 -- auxiliary: what one byte of a piece promises: reading's fold makes the same step
-use Rattle.std.specs.Prelude.{ℕ, ◌≤◌, ◌≡◌, List, ℤ, eqb}
+use Rattle.std.specs.Prelude.{Result, Ok, Err, ℕ, ◌≤◌, ◌≡◌, List, ℤ, eqb}
 use Rattle.loops.specs.Loop.{pick}
 use Rattle.refusal.specs.Code.{code_of}
 use Rattle.reading_grammar.specs.declared.Mode.TheVariants.{AtomNext}
@@ -12,7 +12,7 @@ use Rattle.reading.specs.Act.{act}
 use Rattle.reading_pieces.specs.State.{pending_of}
 use Rattle.reading_pieces.specs.Safe.{Safe}
 use Rattle.reader_bytes.specs.declared.Head.{Head}
-use Rattle.reader_bytes.specs.declared.Byte.{Byte}
+use Rattle.reader.specs.declared.answer.TextRefusal.{TextRefusal}
 
 -- the arrays that are lent beside the numbers
 pub record Lent : Type 0 where
@@ -79,6 +79,6 @@ pub record RefusesAt (p b : ℕ) (x : Reading Memory) (c q : ℕ) : Type 0 where
   pub early : q ≤ p
 
 -- l: the arrays then, of no meaning after a refusal
-abbrev pub Steps : ℕ → ℕ → Reading Memory → Lent → Byte → Type 0
-Steps p b x l (Byte.Taken g) = Takes p b x g l
-Steps p b x l (Byte.Refused r q) = RefusesAt p b x (code_of r) q
+abbrev pub Steps : ℕ → ℕ → Reading Memory → Lent → Result Head TextRefusal → Type 0
+Steps p b x l (Ok g) = Takes p b x g l
+Steps p b x l (Err e) = RefusesAt p b x (code_of e.refusal) e.at

@@ -16,8 +16,9 @@ ghost use Rattle.reader_bytes.specs.Step.{lent, steering_in, memory_in, reading_
 
 use element::Letter;
 use ids::{AtomId, BRIDGES, BondId, MAX_ATOMS, MAX_DEPTH};
-use reader::atom::{Room, bond_of, room_for};
-use reader::bridge::{Closing, close_at, put_keys};
+use reader::answer::TextRefusal;
+use reader::atom::{bond_of, room_for};
+use reader::bridge::{close_at, put_keys};
 use reading_deeds::{DOT, Deed, deed_of};
 use reading_fields::spelled::{bare, row_of};
 use reading_grammar::{Last, Mode, Move};
@@ -44,20 +45,6 @@ pub struct Head {
     pub depth: usize,
 }
 
-// The reading goes on, or is refused with an offset.
-#[derive(Clone, Copy)]
-pub enum Byte {
-    Taken(Head),
-    Refused(Refusal, usize),
-}
-
-// Where the machine goes.
-#[derive(Clone, Copy)]
-pub enum Way {
-    Nowhere,
-    To(Mode),
-}
-
 // No field is read.
 fn no_fields() -> Fields
     ensures { result ≡ blank }
@@ -71,23 +58,6 @@ fn no_fields() -> Fields
         extension: 0,
         mark: 0,
     }
-}
-
-// A difference, 0 where it would be below.
-fn minus(a: usize, b: usize) -> usize
-    ensures { result ≡ a - b }
-{
-    if a < b {
-        return 0;
-    }
-    a - b
-}
-
-// The same number.
-fn wide(x: u16) -> usize
-    ensures { result ≡ x }
-{
-    x as usize
 }
 
 // The kind of a bond that is made now.
@@ -178,15 +148,13 @@ fn begin(
     outsides: &mut [u8; MAX_ATOMS],
     atoms: &mut [i32],
     bonds: &mut [i32],
-) -> Byte
+) -> Result<Head, TextRefusal>
     requires { h.hub.0 < max_atoms }
     ensures { (s o k p y : List ℕ) → Performs h (beginning l at (memory_in h (lent s o k p outsides.old y atoms.old bonds.old))) at (lent s o k p outsides.new y atoms.new bonds.new) result }
 {
     let bonded = is_bonded(h.atoms, h.pending);
-    match room_for(AtomId(h.atoms), BondId(h.bonds), bonded) {
-        Room::Refused(r) => Byte::Refused(r, at),
-        Room::Enough => Byte::Taken(first(h, l, outsides, atoms, bonds)),
-    }
+    room_for(AtomId(h.atoms), BondId(h.bonds), bonded, at)?;
+    Ok(first(h, l, outsides, atoms, bonds))
 }
 
 // ---- a bridge
@@ -201,7 +169,7 @@ fn bridge(
     offsets: &mut [u16; BRIDGES],
     keys: &mut [u16; KEYS],
     bonds: &mut [i32],
-) -> Byte
+) -> Result<Head, TextRefusal>
     requires bounded { Bounded (steering_in h (lent [] openers.old [] offsets.old [] [] [] [])) }
     requires number_lt_bridges { number < bridges }
     requires at_le_max_text { at ≤ max_text }
@@ -210,45 +178,44 @@ fn bridge(
     let k = kind_of(h.pending);
     let mut g = h;
     g.pending = 0;
-    let u = wide(openers[number]);
+    let u = openers[number] as usize;
     if u == 0 {
         openers[number] = (h.hub.0 + 1) as u16;
         symbols[number] = k;
         offsets[number] = at as u16;
-        return Byte::Taken(g);
+        return Ok(g);
     }
     let m = h.bonds;
     let other = AtomId(u - 1);
-    match close_at(bonds, BondId(m), other, h.hub, symbols[number], k) {
-        Closing::Refused(r) => Byte::Refused(r, at),
-        Closing::Bond(x) => {
-            put_bond(bonds, BondId(m), x);
-            put_keys(keys, BondId(m), other, h.hub, offsets[number], at as u16);
-            openers[number] = 0;
-            symbols[number] = 0;
-            offsets[number] = 0;
-            g.bonds = m + 1;
-            Byte::Taken(g)
-        }
-    }
+    let bond = close_at(bonds, BondId(m), other, h.hub, symbols[number], k, at)?;
+    put_bond(bonds, BondId(m), bond);
+    put_keys(keys, BondId(m), other, h.hub, offsets[number], at as u16);
+    openers[number] = 0;
+    symbols[number] = 0;
+    offsets[number] = 0;
+    g.bonds = m + 1;
+    Ok(g)
 }
 
 // ---- a branch
 
 // `(`.
-fn open(h: Head, at: usize, hubs: &mut [u16; MAX_DEPTH]) -> Byte
+fn open(h: Head, at: usize, hubs: &mut [u16; MAX_DEPTH]) -> Result<Head, TextRefusal>
     requires { h.hub.0 < max_atoms }
     ensures { (o k p x y : List ℕ) (a b : List ℤ) → Performs h (branch_act at (memory_in h (lent hubs.old o k p x y a b))) at (lent hubs.new o k p x y a b) result }
 {
     let d = h.depth;
     if MAX_DEPTH <= d {
-        return Byte::Refused(Refusal::DeepBranch, at);
+        return Err(TextRefusal {
+            refusal: Refusal::DeepBranch,
+            at,
+        });
     }
     hubs[d] = h.hub.0 as u16;
     let mut g = h;
     g.pending = 0;
     g.depth = d + 1;
-    Byte::Taken(g)
+    Ok(g)
 }
 
 // `)`.
@@ -256,8 +223,8 @@ fn close(h: Head, hubs: &mut [u16; MAX_DEPTH]) -> Head
     requires { h.depth ≤ max_depth }
     ensures { (o k p x y : List ℕ) (a b : List ℤ) → Leaves h (closing (memory_in h (lent hubs.old o k p x y a b))) result (lent hubs.new o k p x y a b) }
 {
-    let d = minus(h.depth, 1);
-    let hub = AtomId(wide(hubs[d]));
+    let d = h.depth.saturating_sub(1);
+    let hub = AtomId(hubs[d] as usize);
     hubs[d] = 0;
     let mut g = h;
     g.pending = 0;
@@ -269,6 +236,7 @@ fn close(h: Head, hubs: &mut [u16; MAX_DEPTH]) -> Head
 // ---- a byte
 
 // What a byte does to the numbers and the arrays.
+// Stays: the arrays are lent one by one, since each callee takes others of them, and a struct would be taken apart at every call.
 fn perform(
     h: Head,
     deed: Deed,
@@ -281,7 +249,7 @@ fn perform(
     keys: &mut [u16; KEYS],
     atoms: &mut [i32],
     bonds: &mut [i32],
-) -> Byte
+) -> Result<Head, TextRefusal>
     requires bounded { Bounded (steering_in h (lent hubs.old openers.old symbols.old offsets.old outsides.old keys.old atoms.old bonds.old)) }
     requires numbered { Numbered deed }
     requires at_lt_max_text { at < max_text }
@@ -289,74 +257,60 @@ fn perform(
 {
     let mut g = h;
     match deed {
-        Deed::Keep => Byte::Taken(g),
+        Deed::Keep => Ok(g),
         Deed::Atom(l) => begin(h, l, at, outsides, atoms, bonds),
         Deed::Second(e) => {
             put_atom(atoms, h.hub, bare(e, 0));
-            Byte::Taken(g)
+            Ok(g)
         }
         Deed::Bridge(r, by) => {
-            bridge(h, r, minus(at, by), openers, symbols, offsets, keys, bonds)
+            bridge(
+                h,
+                r,
+                at.saturating_sub(by),
+                openers,
+                symbols,
+                offsets,
+                keys,
+                bonds,
+            )
         }
         Deed::Joint(k) => {
             g.pending = k;
-            Byte::Taken(g)
+            Ok(g)
         }
         Deed::Open => open(h, at, hubs),
-        Deed::Close => Byte::Taken(close(h, hubs)),
+        Deed::Close => Ok(close(h, hubs)),
         Deed::Tens(d) => {
             g.tens = d;
-            Byte::Taken(g)
+            Ok(g)
         }
         Deed::Draft(f) => {
             g.draft = f;
-            Byte::Taken(g)
+            Ok(g)
         }
         Deed::Row => {
             let f = h.draft;
             put_atom(atoms, h.hub, row_of(f));
-            Byte::Taken(g)
+            Ok(g)
         }
     }
 }
 
-// Where the machine goes, asked with the number of open branches.
-fn onward(o: Move, depth: usize) -> Way
+// Where the machine goes, asked with the number of open branches; nowhere where no text goes on.
+fn onward(o: Move, depth: usize) -> Option<Mode>
     ensures { Leads o depth result }
 {
     match o {
-        Move::Stop => Way::Nowhere,
-        Move::To(m) => Way::To(m),
-        Move::Up => {
-            let m = Mode::Inside;
-            Way::To(m)
-        }
+        Move::Stop => None,
+        Move::To(m) => Some(m),
+        Move::Up => Some(Mode::Inside),
         Move::Down => {
             if depth == 0 {
-                return Way::Nowhere;
+                return None;
             }
-            let x = Last::Plain;
-            let m = Mode::Seq(x);
-            Way::To(m)
+            Some(Mode::Seq(Last::Plain))
         }
-    }
-}
-
-// The same numbers in another mode.
-fn moved(h: Head, mode: Mode) -> Head
-    ensures { result ≡ in_mode h mode }
-{
-    let draft = h.draft;
-    let hub = h.hub;
-    Head {
-        mode,
-        pending: h.pending,
-        tens: h.tens,
-        draft,
-        hub,
-        atoms: h.atoms,
-        bonds: h.bonds,
-        depth: h.depth,
     }
 }
 
@@ -373,20 +327,22 @@ pub fn step(
     keys: &mut [u16; KEYS],
     atoms: &mut [i32],
     bonds: &mut [i32],
-) -> Byte
+) -> Result<Head, TextRefusal>
     requires ready { Ready h (lent hubs.old openers.old symbols.old offsets.old outsides.old keys.old atoms.old bonds.old) }
     requires at_lt_max_text { at < max_text }
     ensures { Steps at b (reading_in h (lent hubs.old openers.old symbols.old offsets.old outsides.old keys.old atoms.old bonds.old)) (lent hubs.new openers.new symbols.new offsets.new outsides.new keys.new atoms.new bonds.new) result }
 {
     let m = h.mode;
-    let way = onward(next(m, b), h.depth);
-    let Way::To(mode) = way else {
-        return Byte::Refused(Refusal::Grammar, at);
+    let Some(mode) = onward(next(m, b), h.depth) else {
+        return Err(TextRefusal {
+            refusal: Refusal::Grammar,
+            at,
+        });
     };
     let draft = h.draft;
     let deed = deed_of(m, b, h.tens, draft);
     perform(
-        moved(h, mode),
+        Head { mode, ..h },
         deed,
         at,
         hubs,

@@ -7,7 +7,7 @@ ghost use Rattle.reader_checks.specs.Broken.{hub_is_astray, branch_is_astray, br
 use ids::{BRIDGES, MAX_DEPTH, MAX_TEXT};
 use reading_pieces::Paused;
 use reading_state::Fields;
-use table::cell;
+use table::{Tables, cell};
 
 // The hub is not an atom.
 fn hub_astray(n: u16, hub: u16) -> bool
@@ -24,12 +24,10 @@ fn branch_astray(n: u16, depth: usize, hubs: &[u16; MAX_DEPTH]) -> bool
     requires { depth ≤ max_depth }
     ensures { result ≡ branch_is_astray n depth hubs.now }
 {
-    let mut i = 0;
-    while i < depth {
+    for i in 0..depth {
         if n <= hubs[i] {
             return true;
         }
-        i += 1;
     }
     false
 }
@@ -39,10 +37,8 @@ fn bridge_astray(n: u16, openers: &[u16; BRIDGES]) -> bool
     ensures { result ≡ bridge_is_astray n openers.now }
 {
     let mut bad = false;
-    let mut r = 0;
-    while r < BRIDGES {
+    for r in 0..BRIDGES {
         bad = bad | (n < openers[r]);
-        r += 1;
     }
     bad
 }
@@ -91,7 +87,12 @@ fn half_read_above(mode: u8, tens: u8, f: Fields) -> bool
 pub fn broken(p: Paused, atoms: &[i32], bonds: &[i32]) -> bool
     ensures { result ≡ broken_of p atoms.now bonds.now }
 {
-    if !table_validity::valid(atoms, bonds, p.atoms as usize, p.bonds as usize) {
+    if !table_validity::valid(Tables {
+        atoms,
+        bonds,
+        n: p.atoms as usize,
+        m: p.bonds as usize,
+    }) {
         return true;
     }
     if MAX_TEXT < p.read as usize {

@@ -1,11 +1,8 @@
 // Offsets within the limit of a text.
 ghost use Rattle.std.specs.Prelude.{◌≡◌};
-ghost use Rattle.ids.specs.Limits.{bridges};
-ghost use Rattle.reading_state.specs.State.{key_count};
 ghost use Rattle.reading_pieces.specs.State.{cap, capped};
 
-use ids::{BRIDGES, MAX_TEXT};
-use reading_state::KEYS;
+use ids::MAX_TEXT;
 
 // An offset past the limit counts as the limit.
 fn cap(q: u16) -> u16
@@ -18,23 +15,10 @@ fn cap(q: u16) -> u16
 }
 
 // internal: every offset within the limit.
-pub fn cap_offsets(l: &mut [u16; BRIDGES])
-    ensures { l.new ≡ capped bridges l.old }
+pub fn cap_all<const N: usize>(l: &mut [u16; N])
+    ensures { l.new ≡ capped N l.old }
 {
-    let mut i = 0;
-    while i < BRIDGES {
+    for i in 0..N {
         l[i] = cap(l[i]);
-        i += 1;
-    }
-}
-
-// internal: every key within the limit.
-pub fn cap_keys(l: &mut [u16; KEYS])
-    ensures { l.new ≡ capped key_count l.old }
-{
-    let mut i = 0;
-    while i < KEYS {
-        l[i] = cap(l[i]);
-        i += 1;
     }
 }

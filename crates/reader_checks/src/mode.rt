@@ -41,6 +41,7 @@ fn extension_mode(e: u16) -> Mode
 }
 
 // internal: the mode of a number, with the first letter of a symbol, the isotope and the extension so far.
+// Stays: a number alone does not tell the mode, and `Mode` is of another crate, so that `From` has no place here.
 pub fn mode_of(m: u8, letter: u8, isotope: u16, extension: u16) -> Mode
     ensures { result ≡ mode_of m letter isotope extension }
 {

@@ -28,8 +28,8 @@ none_left zero (x ∷ t) h = absurd (omega arith)
 none_left (suc i) (x ∷ t) h = ap (λ (l : List ℤ). x ∷ l) (none_left i t (omega arith))
 
 module _ {t₀ t : List ℤ} {from i : ℕ} (w : Clearing t₀ from i t) where
-  pub clearing-step : i < length t → Clearing t₀ from (i + 1) (set t i (pos 0))
-  clearing-step h = record { room = length-set t i (pos 0) ∙ w.room; same = rw (add-one i) (w.same ∙ one_more i t h) }
+  pub clearing-step : i < length t₀ → Clearing t₀ from (i + 1) (set t i (pos 0))
+  clearing-step h = record { room = length-set t i (pos 0) ∙ w.room; same = rw (add-one i) (w.same ∙ one_more i t (omega (arith, w.room))) }
 
-  pub clearing-end : length t ≤ i → t ≡ cleared_from from t₀
-  clearing-end h = rw w.same (none_left i t h)
+  pub clearing-end : length t₀ ≤ i → t ≡ cleared_from from t₀
+  clearing-end h = rw w.same (none_left i t (omega (arith, w.room)))

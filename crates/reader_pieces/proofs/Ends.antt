@@ -27,9 +27,11 @@ use Rattle.reading_pieces.specs.State.{capped, memory_of, blank_state, ended_cod
 use Rattle.reading_pieces.specs.Broken.{broken_of}
 use Rattle.reading_pieces.specs.Calls.{cleared_from, rest_cleared}
 use Rattle.reading_pieces.proofs.Cleared.{refused-cleared}
-use Rattle.reader.specs.declared.ending.ReadAnswer as reply
+use Rattle.std.proofs.Common.{Result}
+use Rattle.reader.specs.declared.answer.Counts.{Counts}
+use Rattle.reader.specs.declared.answer.TextRefusal.{TextRefusal}
 use Rattle.reader.specs.Ranks.{Rankable}
-use Rattle.reader.specs.Ending.{told, ended_of}
+use Rattle.reader.specs.Ending.{told, counted, refused_text, ended_of}
 use Rattle.reader_pieces.specs.Answer.{fed_is, replied, concluded}
 use Rattle.reader_pieces.proofs.Capped.{capped-length, capped-most}
 use Rattle.reader_pieces.proofs.Sound.{sound-tables}
@@ -99,7 +101,7 @@ module _ (p : Paused) (atoms bonds : List ℤ) (room : enough atoms bonds ≡ tr
     abbrev steers : Steering
     steers = record { hub = record { 0 = p.hub }; atoms = p.atoms; bonds = p.bonds; depth = p.depth; stack = p.hubs; opener = p.openers; symbol = p.symbols; offset = o; outside = p.outsides; keys = y }
 
-    module _ (r : reply.ReadAnswer) (a' b' : List ℤ) (is : told r a' b' ≡ ended_of steers atoms bonds) where
+    module _ (r : Result Counts TextRefusal) (a' b' : List ℤ) (is : told r a' b' ≡ ended_of steers atoms bonds) where
       as-ended : told r a' b' ≡ ended (memory_of p atoms bonds)
       unfolding ended
       as-ended = is ∙ rw (eo, ey)
@@ -107,16 +109,16 @@ module _ (p : Paused) (atoms bonds : List ℤ) (room : enough atoms bonds ≡ tr
       so : Ended p.atoms p.bonds (told r a' b')
       so = rw as-ended (ended_so (memory_of p atoms bonds))
 
-      module _ {n m k : ℕ} (e : r ≡ reply.ReadAnswer.Molecule n m k) where
+      module _ {n m k : ℕ} (e : r ≡ counted n m k) where
         pub molecule-few : (n ≤ max_atoms) × (m ≤ max_bonds)
-        molecule-few = let w : Ended p.atoms p.bonds (told (reply.ReadAnswer.Molecule n m k) a' b') = rw e at so in (omega (arith, w.atoms_few, tables.atoms_few), omega (arith, w.bonds_few, tables.bonds_few))
+        molecule-few = let w : Ended p.atoms p.bonds (told (counted n m k) a' b') = rw e at so in (omega (arith, w.atoms_few, tables.atoms_few), omega (arith, w.bonds_few, tables.bonds_few))
 
         pub end-molecule : {a'' b'' : List ℤ} {s : Paused} → a'' ≡ cleared_from (atom_cells * n) a' → b'' ≡ cleared_from (bond_cells * m) b' → s ≡ blank_state ended_code 0
             → fed_is (record { code = 0; place = 0; atoms = n; bonds = m; overfull = k; state = s }) a'' b'' ≡ concluded p atoms bonds
-        end-molecule ea eb es = rw (ea, eb, es) (ap (λ (t : ReadResult). record { result = rest_cleared t; state = blank_state ended_code 0 }) (ap (λ (x : reply.ReadAnswer). told x a' b') (sym e) ∙ as-ended))
+        end-molecule ea eb es = rw (ea, eb, es) (ap (λ (t : ReadResult). record { result = rest_cleared t; state = blank_state ended_code 0 }) (ap (λ (x : Result Counts TextRefusal). told x a' b') (sym e) ∙ as-ended))
 
-      pub end_refused : {x : Refusal} {q c : ℕ} {s : Paused} → r ≡ reply.ReadAnswer.Refused x q → c ≡ code_of x → s ≡ blank_state ended_code 0 → fed_is (replied c q s) a' b' ≡ concluded p atoms bonds
+      pub end_refused : {x : Refusal} {q c : ℕ} {s : Paused} → r ≡ refused_text x q → c ≡ code_of x → s ≡ blank_state ended_code 0 → fed_is (replied c q s) a' b' ≡ concluded p atoms bonds
       end_refused {x} {q} e ec es =
-          let w : Ended p.atoms p.bonds (told (reply.ReadAnswer.Refused x q) a' b') = rw e at so in
-          let h : told (reply.ReadAnswer.Refused x q) a' b' ≡ ended (memory_of p atoms bonds) = ap (λ (z : reply.ReadAnswer). told z a' b') (sym e) ∙ as-ended in
+          let w : Ended p.atoms p.bonds (told (refused_text x q) a' b') = rw e at so in
+          let h : told (refused_text x q) a' b' ≡ ended (memory_of p atoms bonds) = ap (λ (z : Result Counts TextRefusal). told z a' b') (sym e) ∙ as-ended in
           rw (ec, es) (ap (λ (t : ReadResult). record { result = t; state = blank_state ended_code 0 }) (sym (w.cleared (λ z. omega (arith, (code-range x).positive, z))) ∙ ap rest_cleared h))

@@ -18,10 +18,9 @@ use Rattle.reading_pieces.specs.Broken.{broken_of}
 use Rattle.reading_pieces.specs.Safe.{Bounded}
 use Rattle.reading_pieces.specs.Calls.{answers, refused_in, fed_to}
 use Rattle.reader_bytes.specs.declared.Head.{Head}
-use Rattle.reader_bytes.specs.declared.Byte.{Byte}
 use Rattle.reader_bytes.specs.Step.{Lent, lent, steering_in, memory_in, reading_in, Ready}
 use Rattle.reader_pieces.specs.Answer.{fed_is, replied}
-use Rattle.reader_pieces.specs.Run.{head_of, TakesAll, RefusesOne, Reads, fed_on}
+use Rattle.reader_pieces.specs.Run.{head_of, TakesAll, RefusesOne, fed_on}
 use Rattle.reader_pieces.proofs.TakenUp.{taken-ready, taken-same, paused-so}
 
 -- the state of a mode's number and letter, a joint's number and a charge, the rest being as it stands
@@ -64,11 +63,8 @@ module _ (p : Paused) (s : List ℕ) (atoms bonds : List ℤ) (h₀ : Head) (o y
   pub run-ready : p.told ≡ 0 → broken_of p atoms bonds ≡ false → length p.openers ≡ bridges → length p.offsets ≡ bridges → Ready h₀ begun
   run-ready g e n m = rw (eh, eo, ey) (taken-ready p atoms bonds g e n m)
 
-  module _ (r : Byte) (l : Lent) (w : Reads p.read s (reading_in h₀ begun) l r) where
-    module _ (g : Head) (e : r ≡ Byte.Taken g) where
-      taken : TakesAll p.read s (reading_in h₀ begun) g l
-      taken = subst (λ (z : Byte). Reads p.read s (reading_in h₀ begun) l z) e w
-
+  module _ (l : Lent) where
+    module _ (g : Head) (taken : TakesAll p.read s (reading_in h₀ begun) g l) where
       pub run_short : p.read + length s ≤ max_text
       run_short = taken.short
 
@@ -88,10 +84,7 @@ module _ (p : Paused) (s : List ℕ) (atoms bonds : List ℤ) (h₀ : Head) (o y
           ap (λ (x : Paused). record { result = answers 0 0 l.atoms l.bonds; state = x }) (same-state em ea ek ez ∙ sym (paused-so (p.read + length s) g l taken.ready))
           ∙ sym (ap (fed_to (p.read + length s) atoms bonds) reads)
 
-    module _ (x : Refusal) (q : ℕ) (e : r ≡ Byte.Refused x q) where
-      refused : RefusesOne p.read s (reading_in h₀ begun) (code_of x) q
-      refused = subst (λ (z : Byte). Reads p.read s (reading_in h₀ begun) l z) e w
-
+    module _ (x : Refusal) (q : ℕ) (refused : RefusesOne p.read s (reading_in h₀ begun) (code_of x) q) where
       pub run-early : q ≤ max_text
       run-early = refused.early
 

@@ -1,10 +1,11 @@
 -- 1, 25 and 24, and what comes after them. Assumes nothing.
 use Prim.Native.Nat.{ℕ}
 use native.Mathlib.Omega.{arith}
-use mathlib.Core.Path.{◌≡◌, refl, ap, ◌∙◌}
+use mathlib.Core.Path.{◌≡◌, refl, ap, ◌∙◌, subst}
 use mathlib.Core.Bool.{Bool, true, false}
 use mathlib.Core.List.{List}
 use lib.IntN.{ℤ}
+use Rattle.std.proofs.Common.{Option, Some, None}
 use borrow.Author.Tests.{eq-eqb, ne_eqb}
 use Rattle.loops.specs.Loop.{pick}
 use Rattle.table.specs.Valid.{enough}
@@ -28,30 +29,33 @@ module _ (p : Paused) (atoms bonds : List ℤ) where
   by_tests : (P : Bool → Bool → Bool → Type 0) → ((t u v : Bool) → enough atoms bonds ≡ t → broken_of p atoms bonds ≡ u → has_ended p ≡ v → P t u v) → P (enough atoms bonds) (broken_of p atoms bonds) (has_ended p)
   by_tests P f = f (enough atoms bonds) (broken_of p atoms bonds) (has_ended p) refl refl refl
 
-  pub guard_passed : guard_code p atoms bonds ≡ 0 → GoesOn p atoms bonds
+  pub guard_passed : guard_code p atoms bonds ≡ None → GoesOn p atoms bonds
   guard_passed h =
-      by_tests (λ t u v. pick t (pick u 25 (pick v ended_code 0)) 1 ≡ 0 → GoesOn p atoms bonds) split h
+      by_tests (λ t u v. pick t (pick u (Some 25) (pick v (Some ended_code) None)) (Some 1) ≡ None → GoesOn p atoms bonds) split h
     where
-      split : (t u v : Bool) → enough atoms bonds ≡ t → broken_of p atoms bonds ≡ u → has_ended p ≡ v → pick t (pick u 25 (pick v ended_code 0)) 1 ≡ 0 → GoesOn p atoms bonds
-      split true true v e f g h = absurd (omega arith)
-      split true false true e f g h = absurd (omega arith)
+      split : (t u v : Bool) → enough atoms bonds ≡ t → broken_of p atoms bonds ≡ u → has_ended p ≡ v → pick {A = Option ℕ} t (pick u (Some 25) (pick v (Some ended_code) None)) (Some 1) ≡ None → GoesOn p atoms bonds
+      split true true v e f g h = absurd (let z : ◌≡◌ {A = ℕ} 0 1 = cc in omega arith)
+      split true false true e f g h = absurd (let z : ◌≡◌ {A = ℕ} 0 1 = cc in omega arith)
       split true false false e f g h = record { room = e; sound = f; unended = g }
-      split false u v e f g h = absurd (omega arith)
+      split false u v e f g h = absurd (let z : ◌≡◌ {A = ℕ} 0 1 = cc in omega arith)
 
-  pub guard-stopped : (k : Fed) → (guard_code p atoms bonds ≡ 0 → ⊥) → fed_is (replied (guard_code p atoms bonds) 0 p) atoms bonds ≡ guarded p atoms bonds k
-  guard-stopped k h = split (enough atoms bonds) (broken_of p atoms bonds) (has_ended p) h
+  pub guard-stopped : (k : Fed) {g : ℕ} → guard_code p atoms bonds ≡ Some g → fed_is (replied g 0 p) atoms bonds ≡ guarded p atoms bonds k
+  guard-stopped k {g} h = split (enough atoms bonds) (broken_of p atoms bonds) (has_ended p) h
     where
-      split : (t u v : Bool) → (pick t (pick u 25 (pick v ended_code 0)) 1 ≡ 0 → ⊥)
-          → fed_is (replied (pick t (pick u 25 (pick v ended_code 0)) 1) 0 p) atoms bonds ≡ pick t (pick u (unchanged 25 p atoms bonds) (pick v (unchanged ended_code p atoms bonds) k)) (unchanged 1 p atoms bonds)
-      split true true v h = refl
-      split true false true h = refl
-      split true false false h = absurd (h refl)
-      split false u v h = refl
+      as_code : {c : ℕ} {y : Fed} → fed_is (replied c 0 p) atoms bonds ≡ y → Some c ≡ Some g → fed_is (replied g 0 p) atoms bonds ≡ y
+      as_code {c} {y} e h = let q : c ≡ g = cc in subst (λ (x : ℕ). fed_is (replied x 0 p) atoms bonds ≡ y) q e
+
+      split : (t u v : Bool) → pick {A = Option ℕ} t (pick u (Some 25) (pick v (Some ended_code) None)) (Some 1) ≡ Some g
+          → fed_is (replied g 0 p) atoms bonds ≡ pick t (pick u (unchanged 25 p atoms bonds) (pick v (unchanged ended_code p atoms bonds) k)) (unchanged 1 p atoms bonds)
+      split true true v h = as_code refl h
+      split true false true h = as_code refl h
+      split true false false h = absurd (let z : ◌≡◌ {A = ℕ} 0 1 = cc in omega arith)
+      split false u v h = as_code refl h
 
   -- ---- a piece
-  pub feed-stopped : (s : List ℕ) {g : ℕ} → g ≡ guard_code p atoms bonds → (g ≡ 0 → ⊥) → fed_is (replied g 0 p) atoms bonds ≡ fed_of p s atoms bonds
+  pub feed-stopped : (s : List ℕ) {g : ℕ} → guard_code p atoms bonds ≡ Some g → fed_is (replied g 0 p) atoms bonds ≡ fed_of p s atoms bonds
   unfolding fed_of
-  feed-stopped s e n = ap (λ (c : ℕ). fed_is (replied c 0 p) atoms bonds) e ∙ guard-stopped _ (λ z. n (e ∙ z))
+  feed-stopped s e = guard-stopped _ e
 
   module _ (s : List ℕ) (w : GoesOn p atoms bonds) where
     pub feed-told : (p.told ≡ 0 → ⊥) → refused_in p.told p.place p atoms bonds ≡ fed_of p s atoms bonds
@@ -63,9 +67,9 @@ module _ (p : Paused) (atoms bonds : List ℤ) where
     feed-on e = rw (w.room, w.sound, w.unended, eq-eqb p.told 0 e)
 
   -- ---- the end
-  pub end-stopped : {g : ℕ} → g ≡ guard_code p atoms bonds → (g ≡ 0 → ⊥) → fed_is (replied g 0 p) atoms bonds ≡ end_of p atoms bonds
+  pub end-stopped : {g : ℕ} → guard_code p atoms bonds ≡ Some g → fed_is (replied g 0 p) atoms bonds ≡ end_of p atoms bonds
   unfolding end_of
-  end-stopped e n = ap (λ (c : ℕ). fed_is (replied c 0 p) atoms bonds) e ∙ guard-stopped _ (λ z. n (e ∙ z))
+  end-stopped e = guard-stopped _ e
 
   module _ (w : GoesOn p atoms bonds) where
     pub end-told : (p.told ≡ 0 → ⊥) → refused_in p.told p.place (blank_state ended_code 0) atoms bonds ≡ end_of p atoms bonds

@@ -20,7 +20,8 @@ use Rattle.reading.specs.Act.{act}
 use Rattle.reading_pieces.specs.Bounded.{bounded, read_on}
 use Rattle.reading_pieces.proofs.Bounded.{read_on-halted}
 use Rattle.reader_bytes.specs.declared.Head.{Head}
-use Rattle.reader_bytes.specs.declared.Byte.{Byte}
+use Rattle.std.proofs.Common.{Result, Ok, Err}
+use Rattle.reader.specs.declared.answer.TextRefusal.{TextRefusal}
 use Rattle.reader_bytes.specs.Step.{Lent, memory_in, machine_in, reading_in, Ready, Takes, RefusesAt, Steps}
 use Rattle.reader_pieces.specs.Run.{Reads}
 
@@ -49,7 +50,7 @@ running-start {s} {from} {h} {l} u w =
 
 module _ {s : List ℕ} {from : ℕ} {h₀ : Head} {l₀ : Lent} {i : ℕ} {h : Head} {l : Lent} (w : Running s from h₀ l₀ i h l) where
   -- no byte is left
-  pub running-end : length s ≤ i → Reads from s (reading_in h₀ l₀) l (Byte.Taken h)
+  pub running-end : length s ≤ i → Reads from s (reading_in h₀ l₀) l (Ok h)
   unfolding read_on
   running-end u = record { is = w.same ∙ rw (drop_of_length-le s u); ready = w.ready; short = omega (arith, w.short, w.within) }
 
@@ -58,7 +59,7 @@ module _ {s : List ℕ} {from : ℕ} {h₀ : Head} {l₀ : Lent} {i : ℕ} {h : 
     here = ap (read_on (from + i) (reading_in h l)) (drop-cons s i 0 u)
 
     -- the first byte too many
-    pub running-long : max_text - from ≤ i → Reads from s (reading_in h₀ l₀) l (Byte.Refused LongText max_text)
+    pub running-long : max_text - from ≤ i → Reads from s (reading_in h₀ l₀) l (Err (record { refusal = LongText; at = max_text }))
     running-long v = record { is = w.same ∙ here ∙ byte_past (from + i) (machine_in h) (memory_in h l) (get_or s i 0) (drop (suc i) s) (omega (arith, v)); early = omega arith }
 
     module _ (v : i < max_text - from) where
@@ -69,10 +70,9 @@ module _ {s : List ℕ} {from : ℕ} {h₀ : Head} {l₀ : Lent} {i : ℕ} {h : 
           ∙ ap (λ (j : ℕ). read_on j (feed act (from + i) (reading_in h l) (get_or s i 0)) (drop (suc i) s)) q
           ∙ ap (λ (j : ℕ). read_on (from + (i + 1)) (feed act (from + i) (reading_in h l) (get_or s i 0)) (drop j s)) (sym (add-one i))
 
-      pub running-step : (r : Byte) (l' : Lent) {g : Head} → Steps (from + i) (get_or s i 0) (reading_in h l) l' r → r ≡ Byte.Taken g
+      pub running-step : (l' : Lent) {g : Head} → Steps (from + i) (get_or s i 0) (reading_in h l) l' (Ok g)
           → length l'.atoms ≡ length l.atoms → length l'.bonds ≡ length l.bonds → Running s from h₀ l₀ (i + 1) g l'
-      running-step r l' {g} t e a b =
-          let x : Takes (from + i) (get_or s i 0) (reading_in h l) g l' = subst (λ (z : Byte). Steps (from + i) (get_or s i 0) (reading_in h l) l' z) e t in
+      running-step l' {g} x a b =
           record {
             within = omega arith;
             short = omega (arith, v);
@@ -82,10 +82,9 @@ module _ {s : List ℕ} {from : ℕ} {h₀ : Head} {l₀ : Lent} {i : ℕ} {h : 
             same = next ∙ ap (λ (z : Reading Memory). read_on (from + (i + 1)) z (drop (i + 1) s)) x.is;
           }
 
-      pub running-refused : (r : Byte) (l' : Lent) {c : Refusal} {q : ℕ} → Steps (from + i) (get_or s i 0) (reading_in h l) l' r → r ≡ Byte.Refused c q → Reads from s (reading_in h₀ l₀) l' (Byte.Refused c q)
-      running-refused r l' {c} {q} t e =
-          let x : RefusesAt (from + i) (get_or s i 0) (reading_in h l) (code_of c) q = subst (λ (z : Byte). Steps (from + i) (get_or s i 0) (reading_in h l) l' z) e t in
+      pub running-refused : (l' : Lent) (e : TextRefusal) → Steps (from + i) (get_or s i 0) (reading_in h l) l' (Err e) → Reads from s (reading_in h₀ l₀) l' (Err e)
+      running-refused l' e x =
           record {
-            is = next ∙ ap (λ (z : Reading Memory). read_on (from + (i + 1)) z (drop (i + 1) s)) x.is ∙ read_on-halted (drop (i + 1) s) (from + (i + 1)) (code_of c) q;
+            is = next ∙ ap (λ (z : Reading Memory). read_on (from + (i + 1)) z (drop (i + 1) s)) x.is ∙ read_on-halted (drop (i + 1) s) (from + (i + 1)) (code_of e.refusal) e.at;
             early = omega (arith, x.early, v);
           }

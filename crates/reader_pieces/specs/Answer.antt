@@ -1,5 +1,5 @@
 -- What the calls hand back, as their definitions say it
-use Rattle.std.specs.Prelude.{ℕ, List, ℤ}
+use Rattle.std.specs.Prelude.{ℕ, List, ℤ, Option, Some, None}
 use Rattle.loops.specs.Loop.{pick}
 use Rattle.table.specs.Valid.{enough}
 use Rattle.reading.specs.Read.{ended}
@@ -21,9 +21,9 @@ fed_is r atoms bonds =
 abbrev pub replied : ℕ → ℕ → Paused → call.Fed
 replied c q p = record { code = c; place = q; atoms = 0; bonds = 0; overfull = 0; state = p }
 
--- 1, 25 or 24, in this order, or 0 where a call goes on
-abbrev pub guard_code : Paused → List ℤ → List ℤ → ℕ
-guard_code p atoms bonds = pick (enough atoms bonds) (pick (broken_of p atoms bonds) 25 (pick (has_ended p) ended_code 0)) 1
+-- 1, 25 or 24, in this order, or none where a call goes on
+abbrev pub guard_code : Paused → List ℤ → List ℤ → Option ℕ
+guard_code p atoms bonds = pick (enough atoms bonds) (pick (broken_of p atoms bonds) (Some 25) (pick (has_ended p) (Some ended_code) None)) (Some 1)
 
 -- the answer to the end of a complete text
 abbrev pub concluded : Paused → List ℤ → List ℤ → Fed

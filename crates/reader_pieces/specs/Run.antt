@@ -1,5 +1,5 @@
 -- auxiliary: what reading the bytes of a piece promises
-use Rattle.std.specs.Prelude.{ℕ, ◌+◌, ◌≤◌, ◌≡◌, List, length, eqb, ℤ}
+use Rattle.std.specs.Prelude.{Result, Ok, Err, ℕ, ◌+◌, ◌≤◌, ◌≡◌, List, length, eqb, ℤ}
 use Rattle.loops.specs.Loop.{pick}
 use Rattle.refusal.specs.Code.{code_of}
 use Rattle.ids.specs.Limits.{max_text, bridges}
@@ -13,7 +13,7 @@ use Rattle.reading_pieces.specs.Bounded.{read_on}
 use Rattle.reading_pieces.specs.State.{mode_of, machine_of, memory_of, fields_of, capped}
 use Rattle.reading_pieces.specs.Calls.{Fed, fed_to}
 use Rattle.reader_bytes.specs.declared.Head.{Head}
-use Rattle.reader_bytes.specs.declared.Byte.{Byte}
+use Rattle.reader.specs.declared.answer.TextRefusal.{TextRefusal}
 use Rattle.reader_bytes.specs.Step.{Lent, lent, reading_in, Ready}
 
 -- the numbers of a state that goes on; before the first atom it waits for one
@@ -48,9 +48,9 @@ pub record RefusesOne (i : ℕ) (s : List ℕ) (x : Reading Memory) (c q : ℕ) 
   pub early : q ≤ max_text
 
 -- l: the arrays then, of no meaning after a refusal
-abbrev pub Reads : ℕ → List ℕ → Reading Memory → Lent → Byte → Type 0
-Reads i s x l (Byte.Taken g) = TakesAll i s x g l
-Reads i s x l (Byte.Refused r q) = RefusesOne i s x (code_of r) q
+abbrev pub Reads : ℕ → List ℕ → Reading Memory → Lent → Result Head TextRefusal → Type 0
+Reads i s x l (Ok g) = TakesAll i s x g l
+Reads i s x l (Err e) = RefusesOne i s x (code_of e.refusal) e.at
 
 -- a piece of a reading that goes on
 abbrev pub fed_on : Paused → List ℕ → List ℤ → List ℤ → Fed

@@ -59,10 +59,8 @@ pub fn reply(code: u8, place: usize, state: Paused) -> Fed
 pub fn clear_from(t: &mut [i32], from: usize)
     ensures { t.new ≡ cleared_from from t.old }
 {
-    let mut i = from;
-    while i < t.len() {
+    for i in from..t.len() {
         t[i] = 0;
-        i += 1;
     }
 }
 

@@ -9,8 +9,7 @@ ghost use Rattle.reader_pieces.specs.Answer.{fed_is, concluded};
 use crate::answer::{blank, clear_from, reply};
 use crate::{ENDED, Fed};
 use ids::AtomId;
-use reader::ending::ReadAnswer;
-use reader_checks::limit::{cap_keys, cap_offsets};
+use reader_checks::limit::cap_all;
 use reading_pieces::Paused;
 use reading_state::State;
 use table::{ATOM_CELLS, BOND_CELLS};
@@ -43,24 +42,24 @@ pub fn conclude(p: Paused, atoms: &mut [i32], bonds: &mut [i32]) -> Fed
         atoms: p.atoms as usize,
     };
     let mut offsets = p.offsets;
-    cap_offsets(&mut offsets);
+    cap_all(&mut offsets);
     let outsides = p.outsides;
     let mut keys = p.keys;
-    cap_keys(&mut keys);
+    cap_all(&mut keys);
     let over = blank(ENDED, 0);
     match reader::ending::end(st, &offsets, &outsides, &mut keys, atoms, bonds) {
-        ReadAnswer::Molecule(n, m, k) => {
-            clear_from(atoms, ATOM_CELLS * n);
-            clear_from(bonds, BOND_CELLS * m);
+        Ok(t) => {
+            clear_from(atoms, ATOM_CELLS * t.atoms);
+            clear_from(bonds, BOND_CELLS * t.bonds);
             Fed {
                 code: 0,
                 place: 0,
-                atoms: n,
-                bonds: m,
-                overfull: k,
+                atoms: t.atoms,
+                bonds: t.bonds,
+                overfull: t.overfull,
                 state: over,
             }
         }
-        ReadAnswer::Refused(r, q) => reply(refusal::code(r), q, over),
+        Err(e) => reply(refusal::code(e.refusal), e.at, over),
     }
 }

@@ -2,7 +2,6 @@
 #![tactic(auto)]
 
 ghost use Rattle.std.specs.Prelude.{◌≡◌};
-ghost use Rattle.loops.specs.Loop.{pick};
 ghost use Rattle.reading_pieces.specs.Calls.{start_of, fed_of, end_of};
 ghost use Rattle.reader_pieces.specs.Answer.{fed_is, guard_code};
 
@@ -17,6 +16,7 @@ pub mod ending;
 pub mod run;
 
 // A call's answer: a code with its offset, the counts of atoms, bonds and over-full atoms, and the state.
+// Stays: start, feed and end share it, C gets its cells one by one, and a state may hand back any code, so that the code is a number.
 #[derive(Clone, Copy)]
 pub struct Fed {
     pub code: u8,
@@ -43,35 +43,28 @@ pub fn start(atoms: &mut [i32], bonds: &mut [i32]) -> Fed
     refuse(0, 0, blank(0, 0), atoms, bonds)
 }
 
-// A code where a test holds, else another.
-fn code_if(test: bool, code: u8, other: u8) -> u8
-    ensures { result ≡ pick test code other }
-{
-    if test {
-        return code;
-    }
-    other
-}
-
-// 1, 25 or 24, or 0 where a call goes on.
-fn guard(p: Paused, atoms: &[i32], bonds: &[i32]) -> u8
+// The code that stops a call, 1, 25 or 24; none where it goes on.
+fn guard(p: Paused, atoms: &[i32], bonds: &[i32]) -> Option<u8>
     ensures { result ≡ guard_code p atoms.now bonds.now }
 {
     if !table_validity::enough(atoms, bonds) {
-        return 1;
+        return Some(1);
     }
-    let astray = broken(p, atoms, bonds);
-    let over = p.told == ENDED;
-    code_if(astray, BROKEN, code_if(over, ENDED, 0))
+    if broken(p, atoms, bonds) {
+        return Some(BROKEN);
+    }
+    if p.told == ENDED {
+        return Some(ENDED);
+    }
+    None
 }
 
 // Reads a piece: 0, or the refusal of a byte with its offset, which every later piece repeats. 1, 25 and 24 change nothing; every other refusal zeroes both tables.
 pub fn feed(p: Paused, piece: &[u8], atoms: &mut [i32], bonds: &mut [i32]) -> Fed
     ensures { fed_is result atoms.new bonds.new ≡ fed_of p piece.now atoms.old bonds.old }
 {
-    let g = guard(p, atoms, bonds);
-    if g != 0 {
-        return reply(g, 0, p);
+    if let Some(code) = guard(p, atoms, bonds) {
+        return reply(code, 0, p);
     }
     if p.told != 0 {
         return refuse(p.told, p.place as usize, p, atoms, bonds);
@@ -83,9 +76,8 @@ pub fn feed(p: Paused, piece: &[u8], atoms: &mut [i32], bonds: &mut [i32]) -> Fe
 pub fn end(p: Paused, atoms: &mut [i32], bonds: &mut [i32]) -> Fed
     ensures { fed_is result atoms.new bonds.new ≡ end_of p atoms.old bonds.old }
 {
-    let g = guard(p, atoms, bonds);
-    if g != 0 {
-        return reply(g, 0, p);
+    if let Some(code) = guard(p, atoms, bonds) {
+        return reply(code, 0, p);
     }
     if p.told != 0 {
         return refuse(p.told, p.place as usize, blank(ENDED, 0), atoms, bonds);

@@ -10,8 +10,9 @@ ghost use Rattle.reader_pieces.specs.Run.{mode_in, head_of, Reads, fed_on};
 use crate::Fed;
 use crate::answer::{blank, refuse, reply};
 use ids::{AtomId, BRIDGES, MAX_ATOMS, MAX_DEPTH, MAX_TEXT};
-use reader_bytes::{Byte, Head, step};
-use reader_checks::limit::{cap_keys, cap_offsets};
+use reader::answer::TextRefusal;
+use reader_bytes::{Head, step};
+use reader_checks::limit::cap_all;
 use reader_checks::mode::{mode_letter, mode_number, mode_of};
 use reading_deeds::DOT;
 use reading_grammar::Mode;
@@ -88,18 +89,20 @@ fn read_piece(
     keys: &mut [u16; KEYS],
     atoms: &mut [i32],
     bonds: &mut [i32],
-) -> Byte
+) -> Result<Head, TextRefusal>
     requires ready { Ready begun (lent hubs.old openers.old symbols.old offsets.old outsides.old keys.old atoms.old bonds.old) }
     requires from_le_max_text { from ≤ max_text }
     ensures { Reads from piece.now (reading_in begun (lent hubs.old openers.old symbols.old offsets.old outsides.old keys.old atoms.old bonds.old)) (lent hubs.new openers.new symbols.new offsets.new outsides.new keys.new atoms.new bonds.new) result }
 {
     let mut h = begun;
-    let mut i = 0;
-    while i < piece.len() {
+    for i in 0..piece.len() {
         if MAX_TEXT - from <= i {
-            return Byte::Refused(Refusal::LongText, MAX_TEXT);
+            return Err(TextRefusal {
+                refusal: Refusal::LongText,
+                at: MAX_TEXT,
+            });
         }
-        match step(
+        h = step(
             h,
             piece[i],
             from + i,
@@ -111,13 +114,9 @@ fn read_piece(
             keys,
             atoms,
             bonds,
-        ) {
-            Byte::Taken(g) => h = g,
-            Byte::Refused(r, q) => return Byte::Refused(r, q),
-        }
-        i += 1;
+        )?;
     }
-    Byte::Taken(h)
+    Ok(h)
 }
 
 // internal: a piece, from a state that goes on.
@@ -129,10 +128,10 @@ pub fn run(p: Paused, piece: &[u8], atoms: &mut [i32], bonds: &mut [i32]) -> Fed
     let mut openers = p.openers;
     let mut symbols = p.symbols;
     let mut offsets = p.offsets;
-    cap_offsets(&mut offsets);
+    cap_all(&mut offsets);
     let mut outsides = p.outsides;
     let mut keys = p.keys;
-    cap_keys(&mut keys);
+    cap_all(&mut keys);
     let from = p.read as usize;
     match read_piece(
         from,
@@ -147,7 +146,7 @@ pub fn run(p: Paused, piece: &[u8], atoms: &mut [i32], bonds: &mut [i32]) -> Fed
         atoms,
         bonds,
     ) {
-        Byte::Taken(h) => {
+        Ok(h) => {
             let m = h.mode;
             let f = h.draft;
             let read = from + piece.len();
@@ -179,9 +178,9 @@ pub fn run(p: Paused, piece: &[u8], atoms: &mut [i32], bonds: &mut [i32]) -> Fed
             };
             reply(0, 0, state)
         }
-        Byte::Refused(r, q) => {
-            let c = refusal::code(r);
-            refuse(c, q, blank(c, q as u16), atoms, bonds)
+        Err(e) => {
+            let c = refusal::code(e.refusal);
+            refuse(c, e.at, blank(c, e.at as u16), atoms, bonds)
         }
     }
 }

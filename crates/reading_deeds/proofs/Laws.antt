@@ -17,19 +17,17 @@ use Rattle.element.specs.declared.Letter.{Letter}
 use Rattle.element.specs.Symbols.{among, listed, starts, same_bytes, symbols}
 use Rattle.element.specs.Lookup.{letter_of, symbol_of, selected_of, number_of, index_from}
 use Rattle.element.proofs.Laws.{Tells, symbol-tells, listed-starts}
-use Rattle.reading_grammar.specs.Grammar.{nonzero, digits, several, signs}
-use Rattle.reading_grammar.specs.declared.Last.{Last}
-use Rattle.reading_grammar.specs.declared.Last.TheVariants.{Plain, AfterC, AfterB}
+use Rattle.reading_grammar.specs.Grammar.{nonzero, digits, several}
 use Rattle.reading_grammar.specs.declared.Mode.TheVariants.{Symbol1, Hydrogen, Sign, Extension}
 use Rattle.reading_grammar.specs.Fold.{keeps}
 use Rattle.reading_grammar.proofs.Ends.{never, all, all_listed}
 use Rattle.reading_state.specs.declared.Fields.{Fields}
 use Rattle.reading.specs.Memory.{Memory, drafted}
-use Rattle.reading.specs.Bracket.{digit, isotoped, elemented, symbolled, marked, hydrogened, charged, signed, positive, extended}
-use Rattle.reading.specs.Act.{Acts, or_atom, atom_act, bridge_act, joint_act, letter_act, close_act, charge_act, hydrogen_act, mark_act, isotope_act, mode_act}
+use Rattle.reading.specs.Bracket.{digit, elemented, symbolled, hydrogened, charged, signed, positive, extended}
+use Rattle.reading.specs.Act.{Acts, or_atom, atom_act, bridge_act, joint_act, close_act, charge_act, mark_act, mode_act}
 use Rattle.reading.proofs.Draft.{nonzero-digit}
 use Rattle.reading_deeds.specs.declared.Deed.{Deed}
-use Rattle.reading_deeds.specs.Deed.{beginning, Acted, Drafts, with_isotope, with_extension}
+use Rattle.reading_deeds.specs.Deed.{beginning, Acted, Drafts, with_extension}
 
 -- ---- an act that is another
 pub acted-as : {a g : ℕ → Memory → Acts} {r : Deed} → ((i : ℕ) (μ : Memory) → a i μ ≡ g i μ) → Acted g r → Acted a r
@@ -47,11 +45,6 @@ pub drafts : {f : Fields} (g : Fields → Fields) {r : Deed} → r ≡ Deed.Draf
 drafts {f} g e = subst (λ r. Drafts f (λ μ. keeps (drafted (g μ.draft) μ)) r) (sym e) (record { is = λ i μ d. ap (λ h. keeps (drafted (g h) μ)) d; number = tt })
 
 -- ---- in a bracket
-pub row-closed : (b : ℕ) → b ≡ 93 → Acted (λ i. close_act b) Deed.Row
-row-closed b e = record { is = λ i μ. rw (eq-eqb b 93 e); number = tt }
-
-pub not-closed : (b : ℕ) → (b ≡ 93 → ⊥) → Acted (λ i. close_act b) Deed.Keep
-not-closed b e = record { is = λ i μ. rw (ne_eqb b 93 e); number = tt }
 
 negative : (z : ℤ) → lt_z z (pos 0) ≡ true → positive z ≡ false
 negative (pos n) h = let l = ltb-true n 0 h in absurd (omega arith)
@@ -62,30 +55,6 @@ not_negative (pos n) h = refl
 not_negative (negsuc n) h = never (sym h)
 
 module _ (b : ℕ) {f : Fields} {r : Deed} where
-  pub sign-here : {z : ℤ} → among b signs ≡ true → z ≡ signed (eqb b 43) 1 → r ≡ Deed.Draft (charged z f) → Drafts f (charge_act b) r
-  sign-here h z e = drafts-as (λ μ. rw h) (drafts (charged (signed (eqb b 43) 1)) (e ∙ ap (λ c. Deed.Draft (charged c f)) z))
-
-  pub sign-on : among b signs ≡ false → Acted (λ i. close_act b) r → Drafts f (charge_act b) r
-  sign-on h w = drafts-as (λ μ. rw h) (any-draft w)
-
-  pub hydrogen-here : b ≡ 72 → r ≡ Deed.Draft (hydrogened 1 f) → Drafts f (hydrogen_act b) r
-  hydrogen-here h e = drafts-as (λ μ. rw (eq-eqb b 72 h)) (drafts (hydrogened 1) e)
-
-  pub hydrogen-on : (b ≡ 72 → ⊥) → Drafts f (charge_act b) r → Drafts f (hydrogen_act b) r
-  hydrogen-on h w = drafts-as (λ μ. rw (ne_eqb b 72 h)) w
-
-  pub mark-here : (k : ℕ) → b ≡ 64 → r ≡ Deed.Draft (marked k f) → Drafts f (mark_act k b) r
-  mark-here k h e = drafts-as (λ μ. rw (eq-eqb b 64 h)) (drafts (marked k) e)
-
-  pub mark_on : (k : ℕ) → (b ≡ 64 → ⊥) → Drafts f (hydrogen_act b) r → Drafts f (mark_act k b) r
-  mark_on k h w = drafts-as (λ μ. rw (ne_eqb b 64 h)) w
-
-  pub isotope-here : {n : ℕ} → among b digits ≡ true → n ≡ digit b → r ≡ Deed.Draft (with_isotope f (10 * f.isotope + n)) → Drafts f (isotope_act b) r
-  isotope-here h n e = drafts-as (λ μ. rw h) (drafts (isotoped b) (e ∙ ap (λ d. Deed.Draft (with_isotope f (10 * f.isotope + d))) n))
-
-  pub isotope-on : among b digits ≡ false → r ≡ Deed.Draft (symbolled b f) → Drafts f (isotope_act b) r
-  isotope-on h e = drafts-as (λ μ. rw h) (drafts (symbolled b) e)
-
   pub count-here : {n : ℕ} → among b several ≡ true → n ≡ digit b → r ≡ Deed.Draft (hydrogened n f) → Drafts f (mode_act Hydrogen b 0) r
   unfolding mode_act
   count-here h n e = drafts-as (λ μ. rw h) (drafts (hydrogened (digit b)) (e ∙ ap (λ d. Deed.Draft (hydrogened d f)) n))
@@ -232,16 +201,6 @@ symbol-joint b {k} h e = record { is = λ i μ. rw (ne_eqb b 46 h, one, le-leb k
   where
     one : k + 1 ≡ suc k
     one = omega arith
-
-module _ {x : Last} where
-  pub no-letter : x ≡ Plain → Acted (λ i. letter_act x) Deed.Keep
-  no-letter e = record { is = λ i μ. rw e; number = tt }
-
-  pub chlorine : x ≡ AfterC → Acted (λ i. letter_act x) (Deed.Second 17)
-  chlorine e = record { is = λ i μ. rw e; number = tt }
-
-  pub bromine : x ≡ AfterB → Acted (λ i. letter_act x) (Deed.Second 35)
-  bromine e = record { is = λ i μ. rw e; number = tt }
 
 -- what begins an atom
 abbrev pub Starts : Letter → Type 0

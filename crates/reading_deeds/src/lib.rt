@@ -31,6 +31,7 @@ pub enum Deed {
     Atom(Letter),
     Second(u8),
     Bridge(usize, usize),
+    // Stays: a number, as a paused reading keeps it in a cell for C; an enum would be told apart only to be that number again.
     Joint(u8),
     Open,
     Close,
@@ -48,15 +49,7 @@ pub const DOT: u8 = 7;
 fn with_isotope(f: Fields, isotope: u16) -> Deed
     ensures { result ≡ Draft (with_isotope f isotope) }
 {
-    Deed::Draft(Fields {
-        element: f.element,
-        selected: f.selected,
-        isotope,
-        hydrogens: f.hydrogens,
-        charge: f.charge,
-        extension: f.extension,
-        mark: f.mark,
-    })
+    Deed::Draft(Fields { isotope, ..f })
 }
 
 // Another element, and 1 for a selected letter.
@@ -66,11 +59,7 @@ fn with_element(f: Fields, element: u16, selected: u16) -> Deed
     Deed::Draft(Fields {
         element,
         selected,
-        isotope: f.isotope,
-        hydrogens: f.hydrogens,
-        charge: f.charge,
-        extension: f.extension,
-        mark: f.mark,
+        ..f
     })
 }
 
@@ -78,60 +67,28 @@ fn with_element(f: Fields, element: u16, selected: u16) -> Deed
 fn with_mark(f: Fields, mark: u16) -> Deed
     ensures { result ≡ Draft (marked mark f) }
 {
-    Deed::Draft(Fields {
-        element: f.element,
-        selected: f.selected,
-        isotope: f.isotope,
-        hydrogens: f.hydrogens,
-        charge: f.charge,
-        extension: f.extension,
-        mark,
-    })
+    Deed::Draft(Fields { mark, ..f })
 }
 
 // Other hydrogens.
 fn with_hydrogens(f: Fields, hydrogens: u16) -> Deed
     ensures { result ≡ Draft (hydrogened hydrogens f) }
 {
-    Deed::Draft(Fields {
-        element: f.element,
-        selected: f.selected,
-        isotope: f.isotope,
-        hydrogens,
-        charge: f.charge,
-        extension: f.extension,
-        mark: f.mark,
-    })
+    Deed::Draft(Fields { hydrogens, ..f })
 }
 
 // Another charge.
 fn with_charge(f: Fields, charge: i32) -> Deed
     ensures { result ≡ Draft (charged charge f) }
 {
-    Deed::Draft(Fields {
-        element: f.element,
-        selected: f.selected,
-        isotope: f.isotope,
-        hydrogens: f.hydrogens,
-        charge,
-        extension: f.extension,
-        mark: f.mark,
-    })
+    Deed::Draft(Fields { charge, ..f })
 }
 
 // Another extension.
 fn with_extension(f: Fields, extension: u16) -> Deed
     ensures { result ≡ Draft (with_extension f extension) }
 {
-    Deed::Draft(Fields {
-        element: f.element,
-        selected: f.selected,
-        isotope: f.isotope,
-        hydrogens: f.hydrogens,
-        charge: f.charge,
-        extension,
-        mark: f.mark,
-    })
+    Deed::Draft(Fields { extension, ..f })
 }
 
 // ---- in a bracket
@@ -181,11 +138,9 @@ fn naming(b: u8, f: Fields) -> Deed
     ensures { result ≡ Draft (symbolled b f) }
 {
     match element::lookup(b, 0) {
-        Symbol::Long(_) => with_element(f, 0, 0),
         Symbol::Brief(e) => with_element(f, e as u16, 0),
         Symbol::Selected(e) => with_element(f, e as u16, 1),
-        Symbol::Half => with_element(f, 0, 0),
-        Symbol::Nothing => with_element(f, 0, 0),
+        Symbol::Long(_) | Symbol::Half | Symbol::Nothing => with_element(f, 0, 0),
     }
 }
 
@@ -206,10 +161,9 @@ fn second(a: u8, b: u8, f: Fields) -> Deed
 {
     match element::lookup(a, b) {
         Symbol::Long(e) => with_element(f, e as u16, 0),
-        Symbol::Brief(_) => marking(b, f, 1),
-        Symbol::Selected(_) => marking(b, f, 1),
-        Symbol::Half => marking(b, f, 1),
-        Symbol::Nothing => marking(b, f, 1),
+        Symbol::Brief(_) | Symbol::Selected(_) | Symbol::Half | Symbol::Nothing => {
+            marking(b, f, 1)
+        }
     }
 }
 
@@ -256,7 +210,7 @@ fn joint(b: u8) -> Deed
     if b == b'.' {
         return Deed::Joint(DOT);
     }
-    Deed::Joint(kinds::symbol_kind(b) + 1)
+    Deed::Joint(kinds::symbol_kind(b).unwrap_or(0) + 1)
 }
 
 // The second letter of `Cl` or `Br`.
@@ -276,11 +230,8 @@ fn or_atom(b: u8, k: Deed) -> Deed
 {
     let l = element::atom_start(b);
     match l {
-        Letter::Plain(_) => Deed::Atom(l),
-        Letter::Selected(_) => Deed::Atom(l),
-        Letter::Half => Deed::Atom(l),
-        Letter::Bracket => Deed::Atom(l),
         Letter::Nothing => k,
+        Letter::Plain(_) | Letter::Selected(_) | Letter::Half | Letter::Bracket => Deed::Atom(l),
     }
 }
 
@@ -331,8 +282,7 @@ pub fn deed_of(m: Mode, b: u8, tens: u8, f: Fields) -> Deed
         Mode::Percent1 => Deed::Bridge(10 * tens as usize + value(b) as usize, 2),
         Mode::LetterA => Deed::Second(85),
         Mode::LetterT => Deed::Second(117),
-        Mode::Bracket => numbering(b, f),
-        Mode::Isotope(_) => numbering(b, f),
+        Mode::Bracket | Mode::Isotope(_) => numbering(b, f),
         Mode::Symbol1(a) => second(a, b, f),
         Mode::Symbolled => marking(b, f, 1),
         Mode::At1 => marking(b, f, 2),
@@ -341,7 +291,6 @@ pub fn deed_of(m: Mode, b: u8, tens: u8, f: Fields) -> Deed
         Mode::Hydrogens => charging(b, f),
         Mode::Sign => after_sign(b, f),
         Mode::Charged => closing(b),
-        Mode::Colon => extending(b, f),
-        Mode::Extension(_) => extending(b, f),
+        Mode::Colon | Mode::Extension(_) => extending(b, f),
     }
 }

@@ -3,7 +3,7 @@ use Prim.Native.Nat.{ℕ, zero, suc, ◌+◌, ◌*◌, ◌≤◌, ◌<◌}
 use native.Mathlib.Omega.{arith}
 use native.Mathlib.Decide.{dec_le, dec_lt}
 use mathlib.Core.Path.{◌≡◌, refl, sym, ◌∙◌}
-use mathlib.Core.Bool.{Bool, true, false, ◌&&◌, ◌||◌}
+use mathlib.Core.Bool.{Bool, true, false, ◌&&◌}
 use mathlib.Core.List.{List, [], ◌∷◌}
 use lib.Dec.{eqb, leb}
 use borrow.Author.Tests.{ne_eqb, eqb-false, le-leb, lt-leb, leb-true}
@@ -16,7 +16,7 @@ use Rattle.reading_grammar.specs.declared.Move.{Move}
 use Rattle.reading_grammar.specs.declared.Move.TheVariants.{Stop as stop}
 use Rattle.reading_grammar.specs.Machine.{symbol_or, charging, extending, closing}
 use Rattle.reading.specs.Bracket.{digit}
-use Rattle.reading_fields.specs.declared.byte.Number.{Number}
+use Rattle.reading_fields.specs.declared.byte.Read.{Read}
 use Rattle.reading_fields.specs.Field.{Peeked, Grown}
 use lib.ListN.{length, get_or, get_or-eq_default}
 
@@ -56,14 +56,6 @@ range b k n = split (dec_le k b) (dec_le b (k + n))
     split (yes h) (yes l) = simp (le-leb k b h, le-leb b (k + n) l, inside b k (suc n) h (omega arith))
     split (yes h) (no l) = simp (le-leb k b h, lt-leb b (k + n) (omega arith), above b k (suc n) (omega arith))
     split (no h) l = simp (lt-leb k b (omega arith), below b k (suc n) (omega arith))
-
-pub either : (b x y : ℕ) → (eqb b x || eqb b y) ≡ pick (eqb b x) true (pick (eqb b y) true false)
-either b x y = split (eqb b x) (eqb b y)
-  where
-    split : (u v : Bool) → (u || v) ≡ pick u true (pick v true false)
-    split true v = refl
-    split false true = refl
-    split false false = refl
 
 pub digit_low : (b : ℕ) → among b digits ≡ true → 48 ≤ b
 unfolding digits among
@@ -125,7 +117,7 @@ there s p = record { is = refl; within = λ h. split (dec_lt p (length s)) h }
     split (no l) h = let e : get_or s p 0 ≡ 0 = get_or-eq_default s 0 (omega arith) in absurd (omega arith)
 
 -- a number that a digit makes longer, and one at which it ends
-pub grown : (s : List ℕ) (n : Number) {b v : ℕ} → Peeked s n.at b → among b digits ≡ true → (v ≡ digit b) × (v < 10) → Grown s n (record { value = 10 * n.value + v; at = n.at + 1 })
+pub grown : (s : List ℕ) (n : Read ℕ) {b v : ℕ} → Peeked s n.at b → among b digits ≡ true → (v ≡ digit b) × (v < 10) → Grown s n (record { value = 10 * n.value + v; at = n.at + 1 })
 grown s n {b} {v} k h e =
     record {
       is = simp (sym k.is, h, e.0);
@@ -134,7 +126,7 @@ grown s n {b} {v} k h e =
       small = omega (arith, e.1);
     }
 
-pub kept : (s : List ℕ) (n : Number) {b : ℕ} → Peeked s n.at b → among b digits ≡ false → n.at ≤ length s → Grown s n n
+pub kept : (s : List ℕ) (n : Read ℕ) {b : ℕ} → Peeked s n.at b → among b digits ≡ false → n.at ≤ length s → Grown s n n
 kept s n k h l = record { is = simp (sym k.is, h); within = l; later = omega arith; small = omega arith }
 
 pub several-low : (b : ℕ) → among b several ≡ true → 50 ≤ b

@@ -3,6 +3,7 @@ use Prim.Native.Nat.{ℕ, ◌+◌, ◌≤◌, ◌<◌}
 use native.Mathlib.Omega.{arith}
 use mathlib.Core.Path.{◌≡◌, refl, sym, ap, ◌∙◌}
 use mathlib.Core.Bool.{Bool, true, false}
+use Rattle.std.specs.Prelude.{Ok, Err}
 use mathlib.Core.List.{List, [], ◌∷◌}
 use lib.ListN.{length}
 use lib.IntN.{pos}
@@ -24,7 +25,6 @@ use Rattle.reading.specs.Memory.{Memory, drafted}
 use Rattle.reading.specs.Bracket as bytes
 use Rattle.reading.specs.Act.{mode_act}
 use Rattle.reading_fields.specs.Field.{Peeked, fields, rest_in, Symbolled}
-use Rattle.reading_fields.specs.declared.bracket.Named.{Named}
 use Rattle.reading_fields.proofs.Rest.{rest-stop, rest-to, alike}
 use Rattle.reading_fields.proofs.Bytes.{digit-no-symbol, some_in}
 
@@ -138,7 +138,7 @@ long-in {s} {p} a {b} {e} k h = split (eqb a 42) (eqb (selected_of a) 0) (listed
     split false true false false true g h = absurd (let z : ◌≡◌ {A = ℕ} 0 1 = cc in omega arith)
     split false true false false false g h = absurd (let z : ◌≡◌ {A = ℕ} 0 1 = cc in omega arith)
 
-pub symbol-zero : (s : List ℕ) (at : ℕ) {a : ℕ} → at ≤ length s → Peeked s at a → a ≡ 0 → Symbolled s at (Named.Refused at)
+pub symbol-zero : (s : List ℕ) (at : ℕ) {a : ℕ} → at ≤ length s → Peeked s at a → a ≡ 0 → Symbolled s at (Err (record { at = at }))
 unfolding next resting symbol_or symbols starts marks among
 symbol-zero s at l k e = record {
   within = l;
@@ -154,17 +154,17 @@ module _ (s : List ℕ) (at : ℕ) {a b : ℕ} (ka : Peeked s at a) (kb : Peeked
     said : (μ : Memory) (i : ℕ) → rest_in s μ at (isotope 0) (fields i 0 0 0 0 (pos 0) 0) ≡ after_symbol s at ka kb inside μ i r
     said μ i = symbol-rest s at ka kb inside μ i ∙ ap (after_symbol s at ka kb inside μ i) e
 
-  pub symbol-long : {e : ℕ} → symbol_of a b ≡ Long e → Symbolled s at (Named.Value e 0 (at + 2))
+  pub symbol-long : {e : ℕ} → symbol_of a b ≡ Long e → Symbolled s at (Ok (record { value = record { element = e; selected = false }; at = at + 2 }))
   symbol-long h = record { within = omega (arith, long-in a kb h); later = omega arith; is = said h }
 
-  pub symbol-brief : {e : ℕ} → symbol_of a b ≡ Brief e → Symbolled s at (Named.Value e 0 (at + 1))
+  pub symbol-brief : {e : ℕ} → symbol_of a b ≡ Brief e → Symbolled s at (Ok (record { value = record { element = e; selected = false }; at = at + 1 }))
   symbol-brief h = record { within = omega (arith, inside); later = omega arith; is = said h }
 
-  pub symbol-selected : {e : ℕ} → symbol_of a b ≡ Selected e → Symbolled s at (Named.Value e 1 (at + 1))
+  pub symbol-selected : {e : ℕ} → symbol_of a b ≡ Selected e → Symbolled s at (Ok (record { value = record { element = e; selected = true }; at = at + 1 }))
   symbol-selected h = record { within = omega (arith, inside); later = omega arith; is = said h }
 
-  pub symbol-half : symbol_of a b ≡ Half → Symbolled s at (Named.Refused (at + 1))
+  pub symbol-half : symbol_of a b ≡ Half → Symbolled s at (Err (record { at = at + 1 }))
   symbol-half h = record { within = omega (arith, inside); later = omega arith; is = said h }
 
-  pub symbol-nothing : symbol_of a b ≡ Nothing → Symbolled s at (Named.Refused at)
+  pub symbol-nothing : symbol_of a b ≡ Nothing → Symbolled s at (Err (record { at = at }))
   symbol-nothing h = record { within = omega (arith, inside); later = omega arith; is = said h }

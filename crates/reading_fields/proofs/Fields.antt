@@ -3,6 +3,7 @@ use Prim.Native.Nat.{ℕ, zero, suc, ◌+◌, ◌-◌, ◌*◌, ◌≤◌, ◌<�
 use native.Mathlib.Omega.{arith}
 use mathlib.Core.Path.{◌≡◌, refl, sym, ap, ◌∙◌}
 use mathlib.Core.Bool.{Bool, true, false}
+use Rattle.std.specs.Prelude.{Ok, Err}
 use mathlib.Core.List.{List}
 use lib.ListN.{length, get_or}
 use lib.IntN.{ℤ, pos, negsuc, ◌-ℤ◌}
@@ -25,9 +26,7 @@ use Rattle.reading.specs.Act.{mode_act}
 use Rattle.reading_fields.specs.Rest.{rest}
 use Rattle.reading_fields.specs.Field.{Peeked, Grown, more_of, fields, rest_in, Isotoped, Marked, Hydrogened, Charged, Extended}
 use Rattle.reading_state.specs.declared.Fields.{Fields}
-use Rattle.reading_fields.specs.declared.byte.Number.{Number}
-use Rattle.reading_fields.specs.declared.bracket.Field.{Field}
-use Rattle.reading_fields.specs.declared.bracket.Charge.{Charge}
+use Rattle.reading_fields.specs.declared.byte.Read.{Read}
 use Rattle.reading_fields.proofs.Rest.{rest-stop, rest-to, alike}
 use Rattle.reading_fields.proofs.Bytes.{nonzero-digit, several-digit, digit-zero, no-nonzero, digit-no-symbol, digit-no-charge, digit-no-extension, digit-no-close, digit-in, byte-in, there}
 
@@ -40,7 +39,7 @@ module _ (s : List ℕ) where
       let z : 10 * 0 + digit b ≡ digit b = omega arith in
       rest-to s at bracket (drafted blank μ) k (digit-in k d) (digit-no-symbol b d (pick (among b nonzero) (to (isotope 2)) stop) ∙ rw h) (rw (d, z)) refl
 
-  iso-more : (μ : Memory) (k : ℕ) (n : Number) → rest_in s μ n.at (isotope (suc k)) (fields n.value 0 0 0 0 (pos 0) 0) ≡ rest_in s μ (more_of s n).at (isotope k) (fields (more_of s n).value 0 0 0 0 (pos 0) 0)
+  iso-more : (μ : Memory) (k : ℕ) (n : Read ℕ) → rest_in s μ n.at (isotope (suc k)) (fields n.value 0 0 0 0 (pos 0) 0) ≡ rest_in s μ (more_of s n).at (isotope k) (fields (more_of s n).value 0 0 0 0 (pos 0) 0)
   unfolding next mode_act resting
   iso-more μ k n = split (among (get_or s n.at 0) digits) refl
     where
@@ -56,7 +55,7 @@ module _ (s : List ℕ) where
           (digit-no-symbol (get_or s n.at 0) h (pick (among (get_or s n.at 0) digits) (to (isotope k)) stop) ∙ rw h) (rw h) refl)
       split false h = rw h (alike s n.at (isotope (suc k)) (isotope k) m (there s n.at) (lower k h) refl refl)
 
-  pub iso-none : (at : ℕ) {b : ℕ} → at ≤ length s → Peeked s at b → among b digits ≡ false → Isotoped s at (Field.Value 0 at)
+  pub iso-none : (at : ℕ) {b : ℕ} → at ≤ length s → Peeked s at b → among b digits ≡ false → Isotoped s at (Ok (record { value = 0; at = at }))
   unfolding next mode_act resting
   iso-none at {b} l k h = record {
     within = l;
@@ -64,7 +63,7 @@ module _ (s : List ℕ) where
     is = λ μ. alike s at bracket (isotope 0) (drafted blank μ) k (rw (no-nonzero b h)) refl refl;
   }
 
-  pub iso-zero : (at : ℕ) {b : ℕ} → at ≤ length s → Peeked s at b → b ≡ 48 → Isotoped s at (Field.Refused at)
+  pub iso-zero : (at : ℕ) {b : ℕ} → at ≤ length s → Peeked s at b → b ≡ 48 → Isotoped s at (Err (record { at = at }))
   unfolding next resting symbol_or symbols starts marks among nonzero
   iso-zero at l k e = record {
     within = l;
@@ -72,7 +71,7 @@ module _ (s : List ℕ) where
     is = λ μ. rest-stop s at bracket (drafted blank μ) k l (ap (next bracket) e) refl;
   }
 
-  pub iso-all : (at : ℕ) {b v : ℕ} {m n : Number} → Peeked s at b → among b digits ≡ true → (b ≡ 48 → ⊥) → v ≡ digit b → Grown s (record { value = v; at = at + 1 }) m → Grown s m n → Isotoped s at (Field.Value n.value n.at)
+  pub iso-all : (at : ℕ) {b v : ℕ} {m n : Read ℕ} → Peeked s at b → among b digits ≡ true → (b ≡ 48 → ⊥) → v ≡ digit b → Grown s (record { value = v; at = at + 1 }) m → Grown s m n → Isotoped s at (Ok n)
   iso-all at {b} {v} {m} {n} k h z e g f = record {
     within = f.within;
     later = omega (arith, g.later, f.later);
@@ -110,7 +109,7 @@ module _ (s : List ℕ) where
     }
 
   -- ---- the hydrogens
-  pub hydrogens-none : (at : ℕ) {b : ℕ} → at ≤ length s → Peeked s at b → (b ≡ 72 → ⊥) → Hydrogened s at (Field.Value 0 at)
+  pub hydrogens-none : (at : ℕ) {b : ℕ} → at ≤ length s → Peeked s at b → (b ≡ 72 → ⊥) → Hydrogened s at (Ok (record { value = 0; at = at }))
   unfolding next mode_act resting hydrating
   hydrogens-none at {b} l k n = record {
     within = l;
@@ -123,7 +122,7 @@ module _ (s : List ℕ) where
     unfolding next mode_act hydrating
     hydrogens-first μ i x y mk = rest-to s at at2 (drafted (fields i x y mk 0 (pos 0) 0) μ) k (byte-in k e) (rw (eq-eqb b 72 e)) (rw (eq-eqb b 72 e)) refl
 
-    pub hydrogens-many : {d v : ℕ} → Peeked s (at + 1) d → among d several ≡ true → v ≡ digit d → Hydrogened s at (Field.Value v (at + 2))
+    pub hydrogens-many : {d v : ℕ} → Peeked s (at + 1) d → among d several ≡ true → v ≡ digit d → Hydrogened s at (Ok (record { value = v; at = at + 2 }))
     unfolding next mode_act
     hydrogens-many {d} {v} p h q = let w : at + 1 + 1 ≡ at + 2 = omega arith in record {
       within = omega (arith, digit-in p (several-digit d h));
@@ -131,7 +130,7 @@ module _ (s : List ℕ) where
       is = λ μ i x y mk. hydrogens-first μ i x y mk ∙ rest-to s (at + 1) hydrogen (drafted (fields i x y mk 1 (pos 0) 0) μ) p (digit-in p (several-digit d h)) {m' = hydrogens} (rw h) {ν = drafted (fields i x y mk (digit d) (pos 0) 0) μ} (rw h) refl ∙ rw (w, q);
     }
 
-    pub hydrogens-wrong : {d : ℕ} → Peeked s (at + 1) d → among d several ≡ false → among d digits ≡ true → Hydrogened s at (Field.Refused (at + 1))
+    pub hydrogens-wrong : {d : ℕ} → Peeked s (at + 1) d → among d several ≡ false → among d digits ≡ true → Hydrogened s at (Err (record { at = at + 1 }))
     unfolding next resting
     hydrogens-wrong {d} p n h = record {
       within = omega (arith, byte-in k e);
@@ -139,7 +138,7 @@ module _ (s : List ℕ) where
       is = λ μ i x y mk. hydrogens-first μ i x y mk ∙ rest-stop s (at + 1) hydrogen (drafted (fields i x y mk 1 (pos 0) 0) μ) p (omega (arith, byte-in k e)) (rw n (digit-no-charge d h)) refl;
     }
 
-    pub hydrogens-one : {d : ℕ} → Peeked s (at + 1) d → among d several ≡ false → Hydrogened s at (Field.Value 1 (at + 1))
+    pub hydrogens-one : {d : ℕ} → Peeked s (at + 1) d → among d several ≡ false → Hydrogened s at (Ok (record { value = 1; at = at + 1 }))
     unfolding next mode_act resting
     hydrogens-one {d} p n = record {
       within = omega (arith, byte-in k e);
@@ -148,7 +147,7 @@ module _ (s : List ℕ) where
     }
 
   -- ---- the charge
-  pub charge-none : (at : ℕ) {b : ℕ} → at ≤ length s → Peeked s at b → among b signs ≡ false → Charged s at (Charge.Value (pos 0) at)
+  pub charge-none : (at : ℕ) {b : ℕ} → at ≤ length s → Peeked s at b → among b signs ≡ false → Charged s at (Ok (record { value = (pos 0); at = at }))
   unfolding next mode_act resting charging
   charge-none at {b} l k n = record {
     within = l;
@@ -165,7 +164,7 @@ module _ (s : List ℕ) where
     unfolding next mode_act charging
     charge-first μ i x y mk h = rest-to s at hydrogens (drafted (fields i x y mk h (pos 0) 0) μ) k l (rw e) (rw e) refl
 
-    pub charge-many : {d n : ℕ} {v : ℤ} → Peeked s (at + 1) d → among d several ≡ true → n ≡ digit d → v ≡ signed (eqb b 43) n → Charged s at (Charge.Value v (at + 2))
+    pub charge-many : {d n : ℕ} {v : ℤ} → Peeked s (at + 1) d → among d several ≡ true → n ≡ digit d → v ≡ signed (eqb b 43) n → Charged s at (Ok (record { value = v; at = at + 2 }))
     unfolding next mode_act
     charge-many {d} {n} {v} p h u q = let w : at + 1 + 1 ≡ at + 2 = omega arith in record {
       within = omega (arith, digit-in p (several-digit d h));
@@ -173,7 +172,7 @@ module _ (s : List ℕ) where
       is = λ μ i x y mk z. charge-first μ i x y mk z ∙ rest-to s (at + 1) sign (drafted (fields i x y mk z (signed (eqb b 43) 1) 0) μ) p (digit-in p (several-digit d h)) {m' = charged} (rw h) {ν = drafted (fields i x y mk z (signed (eqb b 43) (digit d)) 0) μ} (rw (h, same_sign (eqb b 43))) refl ∙ rw (w, q, u);
     }
 
-    pub charge-wrong : {d : ℕ} → Peeked s (at + 1) d → among d several ≡ false → among d digits ≡ true → Charged s at (Charge.Refused (at + 1))
+    pub charge-wrong : {d : ℕ} → Peeked s (at + 1) d → among d several ≡ false → among d digits ≡ true → Charged s at (Err (record { at = at + 1 }))
     unfolding next resting
     charge-wrong {d} p n h = record {
       within = omega arith;
@@ -181,7 +180,7 @@ module _ (s : List ℕ) where
       is = λ μ i x y mk z. charge-first μ i x y mk z ∙ rest-stop s (at + 1) sign (drafted (fields i x y mk z (signed (eqb b 43) 1) 0) μ) p (omega arith) (rw n (digit-no-extension d h)) refl;
     }
 
-    pub charge-one : {d : ℕ} {v : ℤ} → Peeked s (at + 1) d → among d several ≡ false → v ≡ signed (eqb b 43) 1 → Charged s at (Charge.Value v (at + 1))
+    pub charge-one : {d : ℕ} {v : ℤ} → Peeked s (at + 1) d → among d several ≡ false → v ≡ signed (eqb b 43) 1 → Charged s at (Ok (record { value = v; at = at + 1 }))
     unfolding next mode_act resting
     charge-one {d} p n q = record {
       within = omega arith;
@@ -190,7 +189,7 @@ module _ (s : List ℕ) where
     }
 
   -- ---- the extension
-  pub extension-none : (at : ℕ) {b : ℕ} → at ≤ length s → Peeked s at b → (b ≡ 58 → ⊥) → Extended s at (Field.Value 0 at)
+  pub extension-none : (at : ℕ) {b : ℕ} → at ≤ length s → Peeked s at b → (b ≡ 58 → ⊥) → Extended s at (Ok (record { value = 0; at = at }))
   unfolding next mode_act resting extending
   extension-none at {b} l k n = record {
     within = l;
@@ -204,7 +203,7 @@ module _ (s : List ℕ) where
           ∙ sym (rest-stop s at (extension 0) (drafted (fields i e y mk h c 0) μ) k l (digit-no-close b d) refl)
       split μ i e y mk h c false d = alike s at charged (extension 0) (drafted (fields i e y mk h c 0) μ) k (rw (ne_eqb b 58 n)) (rw d) refl
 
-  extension-more : (μ : Memory) (i e y mk h : ℕ) (c : ℤ) (k : ℕ) (n : Number) → rest_in s μ n.at (extension (suc k)) (fields i e y mk h c n.value) ≡ rest_in s μ (more_of s n).at (extension k) (fields i e y mk h c (more_of s n).value)
+  extension-more : (μ : Memory) (i e y mk h : ℕ) (c : ℤ) (k : ℕ) (n : Read ℕ) → rest_in s μ n.at (extension (suc k)) (fields i e y mk h c n.value) ≡ rest_in s μ (more_of s n).at (extension k) (fields i e y mk h c (more_of s n).value)
   unfolding next mode_act resting
   extension-more μ i e y mk h c k n = split (among (get_or s n.at 0) digits) refl
     where
@@ -224,7 +223,7 @@ module _ (s : List ℕ) where
     unfolding next mode_act extending
     extension-colon μ i x y mk h c = rest-to s at charged (drafted (fields i x y mk h c 0) μ) k (byte-in k e) (rw (eq-eqb b 58 e)) (rw e) refl
 
-    pub extension-wrong : {d : ℕ} → Peeked s (at + 1) d → among d nonzero ≡ false → Extended s at (Field.Refused (at + 1))
+    pub extension-wrong : {d : ℕ} → Peeked s (at + 1) d → among d nonzero ≡ false → Extended s at (Err (record { at = at + 1 }))
     unfolding next resting
     extension-wrong {d} p n = record {
       within = omega (arith, byte-in k e);
@@ -239,7 +238,7 @@ module _ (s : List ℕ) where
         let z : 10 * 0 + digit d ≡ digit d = omega arith in
         rest-to s (at + 1) colon (drafted (fields i x y mk h c 0) μ) p (digit-in p (nonzero-digit d q)) {m' = extension 3} (rw q) refl refl ∙ rw (w, z)
 
-    pub extension-all : {d v : ℕ} {m n o : Number} → Peeked s (at + 1) d → among d nonzero ≡ true → v ≡ digit d → Grown s (record { value = v; at = at + 2 }) m → Grown s m n → Grown s n o → Extended s at (Field.Value o.value o.at)
+    pub extension-all : {d v : ℕ} {m n o : Read ℕ} → Peeked s (at + 1) d → among d nonzero ≡ true → v ≡ digit d → Grown s (record { value = v; at = at + 2 }) m → Grown s m n → Grown s n o → Extended s at (Ok o)
     extension-all {d} {v} {m} {n} {o} p q u g f w = record {
       within = w.within;
       later = omega (arith, g.later, f.later, w.later);

@@ -1,8 +1,9 @@
 -- The letters outside brackets: what the machine does at an atom's bytes is what looking them up says. Assumes nothing.
 use Prim.Native.Nat.{ℕ, zero, suc, ◌+◌, ◌≤◌, ◌<◌}
 use native.Mathlib.Omega.{arith}
-use mathlib.Core.Path.{◌≡◌, refl, sym, ap, ◌∙◌, subst}
+use mathlib.Core.Path.{◌≡◌, refl, sym, ap, ◌∙◌}
 use mathlib.Core.Bool.{Bool, true, false, ◌||◌, ◌&&◌}
+use Rattle.std.specs.Prelude.{Ok, Err}
 use mathlib.Core.List.{List, [], ◌∷◌}
 use lib.ListN.{length}
 use lib.IntN.{ℤ, pos}
@@ -34,8 +35,10 @@ use Rattle.reading.specs.Act.{mode_act, atom_act, first_byte_of}
 use Rattle.reading_fields.specs.Rest.{rest}
 use Rattle.reading_fields.specs.Field.{Peeked, Bracketed}
 use Rattle.reading_fields.specs.Spelled.{Begins, Admitted, SpellsRow, Spells}
+use Rattle.reading_fields.specs.declared.byte.Read.{Read}
+use Rattle.reading_fields.specs.declared.bracket.Broken.{Broken}
 use Rattle.reading_fields.specs.declared.spelled.Spelled.{Spelled}
-use Rattle.reading_fields.specs.declared.bracket.Bracket.{Bracket}
+use Rattle.reading_fields.specs.declared.spelled.Unspelled.{Unspelled}
 use Rattle.reading_fields.proofs.Rest.{rest-stop, rest-to, alike, alike-dead}
 use Rattle.reading_fields.proofs.Element.{selected-letter, selected_letters}
 use Rattle.table.proofs.Rows.{with-atom-twice}
@@ -136,7 +139,7 @@ module _ (s : List ℕ) (at : ℕ) {b : ℕ} (k : Peeked s at b) (l : at < lengt
     first_step μ a d =
         rest-to s at atomNext μ k l goes_first (ap (λ (n : ℕ). atom_act n at μ) k.is ∙ a ∙ ap (λ (n : ℕ). keeps (first_byte_of (letter_of n) μ)) (sym k.is) ∙ ap (λ (y : Letter). keeps (first_byte_of y μ)) e) d
 
-  pub spells-selected : {e : ℕ} {y : Atom} → letter_of b ≡ Selected e → y ≡ bare_row e 1 → Spells s at (Spelled.Row y 1 (at + 1))
+  pub spells-selected : {e : ℕ} {r : Spelled} → letter_of b ≡ Selected e → r ≡ record { row = bare_row e 1; outside = true; at = at + 1 } → Spells s at (Ok r)
   unfolding begun
   spells-selected e q = rw q (record {
     begins = begins e refl;
@@ -145,7 +148,7 @@ module _ (s : List ℕ) (at : ℕ) {b : ℕ} (k : Peeked s at b) (l : at < lengt
     is = λ μ a. (blank, first_step e refl μ a refl);
   })
 
-  pub spells-letter : {e c : ℕ} {y : Atom} → letter_of b ≡ Alone e → Peeked s (at + 1) c → (eqb b 67 && eqb c 108) ≡ false → (eqb b 66 && eqb c 114) ≡ false → y ≡ bare_row e 0 → Spells s at (Spelled.Row y 1 (at + 1))
+  pub spells-letter : {e c : ℕ} {r : Spelled} → letter_of b ≡ Alone e → Peeked s (at + 1) c → (eqb b 67 && eqb c 108) ≡ false → (eqb b 66 && eqb c 114) ≡ false → r ≡ record { row = bare_row e 0; outside = true; at = at + 1 } → Spells s at (Ok r)
   unfolding begun
   spells-letter {e} {c} h j u v q = rw q (record {
     begins = begins h refl;
@@ -176,65 +179,65 @@ module _ (s : List ℕ) (at : ℕ) {b : ℕ} (k : Peeked s at b) (l : at < lengt
     second-in : {i : ℕ} → c ≡ suc i → at + 1 < length s
     second-in q = j.within (omega arith)
 
-    pub spells-Cl : {e : ℕ} {y : Atom} → letter_of b ≡ Alone e → (eqb b 67 && eqb c 108) ≡ true → y ≡ bare_row 17 0 → Spells s at (Spelled.Row y 1 (at + 2))
+    pub spells-Cl : {e : ℕ} {r : Spelled} → letter_of b ≡ Alone e → (eqb b 67 && eqb c 108) ≡ true → r ≡ record { row = bare_row 17 0; outside = true; at = at + 2 } → Spells s at (Ok r)
     unfolding next mode_act atom_or bridge_or letters among nonzero bond_symbols letter_of selected_of
     spells-Cl {e} h t q =
         let p = eqb-true b 67 (and_left (eqb b 67) (eqb c 108) t) in
         let r = eqb-true c 108 (and_right (eqb b 67) (eqb c 108) t) in
         rw q (two-letters e 17 {m = seq afterC} h (rw p) (λ μ. refl) j (second-in r) (rw r) (λ ν. rw r))
 
-    pub spells-Br : {e : ℕ} {y : Atom} → letter_of b ≡ Alone e → (eqb b 66 && eqb c 114) ≡ true → y ≡ bare_row 35 0 → Spells s at (Spelled.Row y 1 (at + 2))
+    pub spells-Br : {e : ℕ} {r : Spelled} → letter_of b ≡ Alone e → (eqb b 66 && eqb c 114) ≡ true → r ≡ record { row = bare_row 35 0; outside = true; at = at + 2 } → Spells s at (Ok r)
     unfolding next mode_act atom_or bridge_or letters among nonzero bond_symbols letter_of selected_of
     spells-Br {e} h t q =
         let p = eqb-true b 66 (and_left (eqb b 66) (eqb c 114) t) in
         let r = eqb-true c 114 (and_right (eqb b 66) (eqb c 114) t) in
         rw q (two-letters e 35 {m = seq afterB} h (rw p) (λ μ. refl) j (second-in r) (rw r) (λ ν. rw r))
 
-    pub spells-At : {y : Atom} → letter_of b ≡ Half → b ≡ 65 → c ≡ 116 → y ≡ bare_row 85 0 → Spells s at (Spelled.Row y 1 (at + 2))
+    pub spells-At : {r : Spelled} → letter_of b ≡ Half → b ≡ 65 → c ≡ 116 → r ≡ record { row = bare_row 85 0; outside = true; at = at + 2 } → Spells s at (Ok r)
     unfolding next mode_act
     spells-At h p r q = rw q (two-letters 0 85 {m = letterA} h (rw p) (λ μ. refl) j (second-in r) (rw r) (λ ν. refl))
 
-    pub spells-Ts : {y : Atom} → letter_of b ≡ Half → (b ≡ 65 → ⊥) → c ≡ 115 → y ≡ bare_row 117 0 → Spells s at (Spelled.Row y 1 (at + 2))
+    pub spells-Ts : {r : Spelled} → letter_of b ≡ Half → (b ≡ 65 → ⊥) → c ≡ 115 → r ≡ record { row = bare_row 117 0; outside = true; at = at + 2 } → Spells s at (Ok r)
     unfolding next mode_act
     spells-Ts h p r q = rw q (two-letters 0 117 {m = letterT} h (rw (ne_eqb b 65 p)) (λ μ. refl) j (second-in r) (rw r) (λ ν. refl))
 
-    half-wrong : {m : Mode} → letter_of b ≡ Half → first_out b Half stop ≡ to m → next m c ≡ stop → ((d : ℕ) → resting m d ≡ false) → Spells s at (Spelled.Refused (at + 1))
+    half-wrong : {m : Mode} → letter_of b ≡ Half → first_out b Half stop ≡ to m → next m c ≡ stop → ((d : ℕ) → resting m d ≡ false) → Spells s at (Err (Unspelled.Broken (at + 1)))
     unfolding begun
     half-wrong {m} h f g q = record {
       begins = begins h f;
       is = λ μ a. first_step h f μ a refl ∙ rest-stop s (at + 1) m (first_byte_of Half μ) j (omega arith) g (q μ.st.depth);
     }
 
-    pub spells-no-At : letter_of b ≡ Half → b ≡ 65 → (c ≡ 116 → ⊥) → Spells s at (Spelled.Refused (at + 1))
+    pub spells-no-At : letter_of b ≡ Half → b ≡ 65 → (c ≡ 116 → ⊥) → Spells s at (Err (Unspelled.Broken (at + 1)))
     unfolding next resting
     spells-no-At h p n = half-wrong {m = letterA} h (rw p) (rw (ne_eqb c 116 n)) (λ d. refl)
 
-    pub spells-no-Ts : letter_of b ≡ Half → (b ≡ 65 → ⊥) → (c ≡ 115 → ⊥) → Spells s at (Spelled.Refused (at + 1))
+    pub spells-no-Ts : letter_of b ≡ Half → (b ≡ 65 → ⊥) → (c ≡ 115 → ⊥) → Spells s at (Err (Unspelled.Broken (at + 1)))
     unfolding next resting
     spells-no-Ts h p n = half-wrong {m = letterT} h (rw (ne_eqb b 65 p)) (rw (ne_eqb c 115 n)) (λ d. refl)
 
-  module _ {r : Bracket} (g : Bracketed s (at + 1) r) (h : letter_of b ≡ Opening) where
-    pub spells-bracket : {f : Fields} {p : ℕ} {y : Atom} → r ≡ Bracket.Row f p → y ≡ row_of f → Spells s at (Spelled.Row y 0 p)
+  module _ (h : letter_of b ≡ Opening) where
+    pub spells-bracket : {o : Read Fields} {y : Atom} → Bracketed s (at + 1) (Ok o) → y ≡ row_of o.value → Spells s at (Ok (record { row = y; outside = false; at = o.at }))
     unfolding begun
-    spells-bracket {f} {p} e q = let w = subst (Bracketed s (at + 1)) e g in rw q (record {
+    spells-bracket {o} w q = rw q (record {
       begins = begins h refl;
       within = w.within;
       later = omega (arith, w.later);
-      is = λ μ a. (f, first_step h refl μ a refl ∙ w.is (begun 0 μ));
+      is = λ μ a. (o.value, first_step h refl μ a refl ∙ w.is (begun 0 μ));
     })
 
-    pub spells-broken : {p : ℕ} → r ≡ Bracket.Refused p → Spells s at (Spelled.Refused p)
+    pub spells-broken : {e : Broken} → Bracketed s (at + 1) (Err e) → Spells s at (Err (Unspelled.Broken e.at))
     unfolding begun
-    spells-broken e = let w = subst (Bracketed s (at + 1)) e g in record {
+    spells-broken w = record {
       begins = begins h refl;
       is = λ μ a. first_step h refl μ a refl ∙ w.is (begun 0 μ);
     }
 
-pub spells_nothing : (s : List ℕ) (at : ℕ) {b : ℕ} → at ≤ length s → Peeked s at b → letter_of b ≡ Nothing → Spells s at Spelled.Nothing
+pub spells_nothing : (s : List ℕ) (at : ℕ) {b : ℕ} → at ≤ length s → Peeked s at b → letter_of b ≡ Nothing → Spells s at (Err Unspelled.Nothing)
 unfolding next resting
 spells_nothing s at {b} l k e = record { is = λ μ. rest-stop s at atomNext μ k l (letter-first b stop ∙ ap (λ (y : Letter). first_out b y stop) e) refl }
 
-pub spells-zero : (s : List ℕ) (at : ℕ) {b : ℕ} → at ≤ length s → Peeked s at b → b ≡ 0 → Spells s at Spelled.Nothing
+pub spells-zero : (s : List ℕ) (at : ℕ) {b : ℕ} → at ≤ length s → Peeked s at b → b ≡ 0 → Spells s at (Err Unspelled.Nothing)
 unfolding letter_of selected_of letters among
 spells-zero s at l k e = spells_nothing s at l k (ap letter_of e)
 

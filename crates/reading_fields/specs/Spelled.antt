@@ -1,5 +1,6 @@
 -- auxiliary: what reading an atom's spelling promises: the reading goes on after it, with the atom begun and described
-use Rattle.std.specs.Prelude.{ℕ, ◌≤◌, ◌<◌, ◌≡◌, List, length, get_or}
+use Rattle.std.specs.Prelude.{ℕ, ◌≤◌, ◌<◌, ◌≡◌, List, length, get_or, Result, Ok, Err}
+use Rattle.loops.specs.Loop.{pick}
 use Rattle.element.specs.Lookup.{letter_of}
 use Rattle.reading_grammar.specs.declared.Last.TheVariants.{Plain as plain}
 use Rattle.reading_grammar.specs.declared.Mode.{Mode}
@@ -13,6 +14,7 @@ use Rattle.reading.specs.Memory.{Memory, begun, described, drafted}
 use Rattle.reading.specs.Act.{atom_act, first_byte_of}
 use Rattle.reading_fields.specs.Rest.{rest}
 use Rattle.reading_fields.specs.declared.spelled.Spelled.{Spelled}
+use Rattle.reading_fields.specs.declared.spelled.Unspelled.{Unspelled}
 
 -- the byte at an offset begins an atom
 pub record Begins (s : List ℕ) (at : ℕ) : Type 0 where
@@ -37,7 +39,8 @@ pub record SpellsNot (s : List ℕ) (at p : ℕ) : Type 0 where
   pub begins : Begins s at
   pub is : (μ : Memory) → Admitted s at μ → rest s at atomNext μ ≡ bad 3 p
 
-abbrev pub Spells : List ℕ → ℕ → Spelled → Type 0
-Spells s at (Spelled.Row y o p) = SpellsRow s at y o p
-Spells s at Spelled.Nothing = SpellsNothing s at
-Spells s at (Spelled.Refused p) = SpellsNot s at p
+-- an atom is read, none begins, or none goes on; of one that is read, 1 where it stands outside brackets
+abbrev pub Spells : List ℕ → ℕ → Result Spelled Unspelled → Type 0
+Spells s at (Ok r) = SpellsRow s at r.row (pick r.outside 1 0) r.at
+Spells s at (Err Unspelled.Nothing) = SpellsNothing s at
+Spells s at (Err (Unspelled.Broken p)) = SpellsNot s at p

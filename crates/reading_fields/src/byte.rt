@@ -1,14 +1,16 @@
 // Single bytes of a text, and what they can be.
 ghost use Rattle.std.specs.Prelude.{◌≡◌, true, ◌≤◌, ◌<◌, length};
 ghost use Rattle.element.specs.Symbols.{among};
-ghost use Rattle.reading_grammar.specs.Grammar.{nonzero, digits, several, signs};
+ghost use Rattle.reading_grammar.specs.Grammar.{digits};
 ghost use Rattle.reading.specs.Bracket.{digit};
 ghost use Rattle.reading_fields.specs.Field.{Peeked, Grown};
 
-// A number of digits that were read, and the offset after them.
+use reading_machine::byte::is_digit;
+
+// What was read of a text, and the offset after it.
 #[derive(Clone, Copy)]
-pub struct Number {
-    pub value: u16,
+pub struct Read<T> {
+    pub value: T,
     pub at: usize,
 }
 
@@ -17,34 +19,6 @@ pub fn peek(s: &[u8], at: usize) -> u8
     ensures { Peeked s.now at result }
 {
     if at < s.len() { s[at] } else { 0 }
-}
-
-// internal: `0` to `9`.
-pub fn is_digit(b: u8) -> bool
-    ensures { result ≡ among b digits }
-{
-    (b'0' <= b) & (b <= b'9')
-}
-
-// internal: `1` to `9`.
-pub fn is_nonzero(b: u8) -> bool
-    ensures { result ≡ among b nonzero }
-{
-    (b'1' <= b) & (b <= b'9')
-}
-
-// internal: `2` to `9`.
-pub fn is_several(b: u8) -> bool
-    ensures { result ≡ among b several }
-{
-    (b'2' <= b) & (b <= b'9')
-}
-
-// internal: `+` and `-`.
-pub fn is_sign(b: u8) -> bool
-    ensures { result ≡ among b signs }
-{
-    (b == b'+') | (b == b'-')
 }
 
 // internal: the number that a digit stands for.
@@ -56,7 +30,7 @@ pub fn value(b: u8) -> u16
 }
 
 // internal: one digit more of a number, where a digit stands.
-pub fn more(s: &[u8], n: Number) -> Number
+pub fn more(s: &[u8], n: Read<u16>) -> Read<u16>
     requires at_in_bounds { n.at ≤ length s.now }
     requires value_bound { n.value < 1000 }
     ensures { Grown s.now n result }
@@ -64,7 +38,7 @@ pub fn more(s: &[u8], n: Number) -> Number
     let at = n.at;
     let b = peek(s, at);
     if is_digit(b) {
-        return Number {
+        return Read {
             value: 10 * n.value + value(b),
             at: at + 1,
         };

@@ -1,4 +1,6 @@
 // Single bytes of a text, by the lists of the grammar.
+#![tactic(auto, unfolding(element::specs::Symbols::among, reading_grammar::specs::Grammar::nonzero, reading_grammar::specs::Grammar::digits, reading_grammar::specs::Grammar::several, reading_grammar::specs::Grammar::signs, reading_grammar::specs::Grammar::bond_symbols))]
+
 ghost use Rattle.std.specs.Prelude.{◌≡◌};
 ghost use Rattle.element.specs.Symbols.{among, starts, symbols};
 ghost use Rattle.reading_grammar.specs.Grammar.{nonzero, digits, several, signs, bond_symbols};
@@ -7,36 +9,33 @@ ghost use Rattle.reading_grammar.specs.Grammar.{nonzero, digits, several, signs,
 pub fn is_digit(b: u8) -> bool
     ensures { result ≡ among b digits }
 {
-    (b'0' <= b) & (b <= b'9')
+    matches!(b, b'0'..=b'9')
 }
 
 // internal: `1` to `9`.
 pub fn is_nonzero(b: u8) -> bool
     ensures { result ≡ among b nonzero }
 {
-    (b'1' <= b) & (b <= b'9')
+    matches!(b, b'1'..=b'9')
 }
 
 // internal: `2` to `9`.
 pub fn is_several(b: u8) -> bool
     ensures { result ≡ among b several }
 {
-    (b'2' <= b) & (b <= b'9')
+    matches!(b, b'2'..=b'9')
 }
 
 // internal: `+` and `-`.
 pub fn is_sign(b: u8) -> bool
     ensures { result ≡ among b signs }
 {
-    (b == b'+') | (b == b'-')
+    matches!(b, b'+' | b'-')
 }
 
 // internal: `-`, `=`, `#`, `/` and `\`.
 pub fn is_bond_symbol(b: u8) -> bool
     ensures { result ≡ among b bond_symbols }
 {
-    match b {
-        b'-' | b'=' | b'#' | b'/' | b'\\' => true,
-        _ => false,
-    }
+    matches!(b, b'-' | b'=' | b'#' | b'/' | b'\\')
 }

@@ -36,24 +36,14 @@ fn to_or(test: bool, m: Mode, k: Move) -> Move
     k
 }
 
-// A mode where the test holds, else no text goes on.
-fn to_if(test: bool, m: Mode) -> Move
-    ensures { result ≡ pick test (To m) Stop }
-{
-    if test {
-        return Move::To(m);
-    }
-    Move::Stop
-}
-
 // The second letter of `Cl` or `Br`.
 fn goes_on(x: Last, b: u8) -> Move
     ensures { result ≡ goes_on x b }
 {
     match x {
         Last::Plain => Move::Stop,
-        Last::AfterC => to_if(b == b'l', Mode::Seq(Last::Plain)),
-        Last::AfterB => to_if(b == b'r', Mode::Seq(Last::Plain)),
+        Last::AfterC => to_or(b == b'l', Mode::Seq(Last::Plain), Move::Stop),
+        Last::AfterB => to_or(b == b'r', Mode::Seq(Last::Plain), Move::Stop),
     }
 }
 
@@ -81,6 +71,7 @@ fn atom_or(b: u8, k: Move) -> Move
 }
 
 // A bridge's first byte, or else k.
+#[tactic(auto, unfolding(reading_grammar::specs::Machine::bridge_or))]
 fn bridge_or(b: u8, k: Move) -> Move
     ensures { result ≡ bridge_or b k }
 {
@@ -94,13 +85,15 @@ fn bridge_or(b: u8, k: Move) -> Move
 }
 
 // `]`.
+#[tactic(auto, unfolding(reading_grammar::specs::Machine::closing))]
 fn closing(b: u8) -> Move
     ensures { result ≡ closing b }
 {
-    to_if(b == b']', Mode::Seq(Last::Plain))
+    to_or(b == b']', Mode::Seq(Last::Plain), Move::Stop)
 }
 
 // The extension, or what follows it.
+#[tactic(auto, unfolding(reading_grammar::specs::Machine::extending))]
 fn extending(b: u8) -> Move
     ensures { result ≡ extending b }
 {
@@ -108,6 +101,7 @@ fn extending(b: u8) -> Move
 }
 
 // The charge, or what follows it.
+#[tactic(auto, unfolding(reading_grammar::specs::Machine::charging))]
 fn charging(b: u8) -> Move
     ensures { result ≡ charging b }
 {
@@ -115,6 +109,7 @@ fn charging(b: u8) -> Move
 }
 
 // The hydrogens, or what follows them.
+#[tactic(auto, unfolding(reading_grammar::specs::Machine::hydrating))]
 fn hydrating(b: u8) -> Move
     ensures { result ≡ hydrating b }
 {
@@ -122,6 +117,7 @@ fn hydrating(b: u8) -> Move
 }
 
 // The tetrahedral mark, or what follows it.
+#[tactic(auto, unfolding(reading_grammar::specs::Machine::marking))]
 fn marking(b: u8) -> Move
     ensures { result ≡ marking b }
 {
@@ -133,10 +129,9 @@ fn symbol_or(b: u8, k: Move) -> Move
     ensures { result ≡ symbol_or b k }
 {
     match element::lookup(b, 0) {
-        Symbol::Long(_) => Move::To(Mode::Symbol1(b)),
         Symbol::Brief(_) => to_or(b == b'*', Mode::Symbolled, Move::To(Mode::Symbol1(b))),
+        Symbol::Long(_) | Symbol::Half => Move::To(Mode::Symbol1(b)),
         Symbol::Selected(_) => Move::To(Mode::Symbolled),
-        Symbol::Half => Move::To(Mode::Symbol1(b)),
         Symbol::Nothing => k,
     }
 }
@@ -147,15 +142,9 @@ fn second(a: u8, b: u8) -> Move
 {
     match element::lookup(a, b) {
         Symbol::Long(_) => Move::To(Mode::Symbolled),
-        Symbol::Brief(_) => {
-            if a == b'*' {
-                return Move::Stop;
-            }
-            marking(b)
-        }
-        Symbol::Selected(_) => Move::Stop,
-        Symbol::Half => Move::Stop,
-        Symbol::Nothing => Move::Stop,
+        Symbol::Brief(_) if a == b'*' => Move::Stop,
+        Symbol::Brief(_) => marking(b),
+        Symbol::Selected(_) | Symbol::Half | Symbol::Nothing => Move::Stop,
     }
 }
 
@@ -179,16 +168,18 @@ fn between(x: Last, b: u8) -> Move
 }
 
 // After an isotope's digit, where k more may follow.
+#[tactic(auto, unfolding(reading_grammar::specs::Machine::next))]
 fn isotope(k: u8, b: u8) -> Move
     ensures { result ≡ next (Isotope k) b }
 {
     if k == 0 {
         return symbol_or(b, Move::Stop);
     }
-    symbol_or(b, to_if(is_digit(b), Mode::Isotope(k - 1)))
+    symbol_or(b, to_or(is_digit(b), Mode::Isotope(k - 1), Move::Stop))
 }
 
 // After an extension's digit, where k more may follow.
+#[tactic(auto, unfolding(reading_grammar::specs::Machine::next))]
 fn extension(k: u8, b: u8) -> Move
     ensures { result ≡ next (Extension k) b }
 {
@@ -199,6 +190,7 @@ fn extension(k: u8, b: u8) -> Move
 }
 
 // internal: what follows a byte in a mode.
+#[tactic(auto, unfolding(reading_grammar::specs::Machine::next))]
 pub fn next(m: Mode, b: u8) -> Move
     ensures { result ≡ next m b }
 {
@@ -211,14 +203,14 @@ pub fn next(m: Mode, b: u8) -> Move
             to_or(
                 is_bond_symbol(b),
                 Mode::AtomNext,
-                to_if(b == b'.', Mode::AtomNext),
+                to_or(b == b'.', Mode::AtomNext, Move::Stop),
             ),
         ),
-        Mode::Percent => to_if(is_nonzero(b), Mode::Percent1),
-        Mode::Percent1 => to_if(is_digit(b), Mode::Seq(Last::Plain)),
-        Mode::LetterA => to_if(b == b't', Mode::Seq(Last::Plain)),
-        Mode::LetterT => to_if(b == b's', Mode::Seq(Last::Plain)),
-        Mode::Bracket => symbol_or(b, to_if(is_nonzero(b), Mode::Isotope(2))),
+        Mode::Percent => to_or(is_nonzero(b), Mode::Percent1, Move::Stop),
+        Mode::Percent1 => to_or(is_digit(b), Mode::Seq(Last::Plain), Move::Stop),
+        Mode::LetterA => to_or(b == b't', Mode::Seq(Last::Plain), Move::Stop),
+        Mode::LetterT => to_or(b == b's', Mode::Seq(Last::Plain), Move::Stop),
+        Mode::Bracket => symbol_or(b, to_or(is_nonzero(b), Mode::Isotope(2), Move::Stop)),
         Mode::Isotope(k) => isotope(k, b),
         Mode::Symbol1(a) => second(a, b),
         Mode::Symbolled => marking(b),
@@ -228,7 +220,7 @@ pub fn next(m: Mode, b: u8) -> Move
         Mode::Hydrogens => charging(b),
         Mode::Sign => to_or(is_several(b), Mode::Charged, extending(b)),
         Mode::Charged => extending(b),
-        Mode::Colon => to_if(is_nonzero(b), Mode::Extension(3)),
+        Mode::Colon => to_or(is_nonzero(b), Mode::Extension(3), Move::Stop),
         Mode::Extension(k) => extension(k, b),
     }
 }

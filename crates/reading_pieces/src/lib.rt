@@ -5,6 +5,7 @@ use ids::{BRIDGES, MAX_ATOMS, MAX_DEPTH};
 use reading_state::KEYS;
 
 // A reading between two pieces, as numbers and arrays; every cell is 0 before the first byte, and once it was refused or has ended all but the first two are.
+// Stays: numbers in place of kinds and options, and arrays side by side, since C lends this struct and sees its cells.
 #[repr(C)]
 #[derive(Clone, Copy)]
 pub struct Paused {

@@ -1,5 +1,5 @@
 -- 01, The text: "What steers the reading is the hub, the open branches and the open bridges"
-use Rattle.std.specs.Prelude.{ℕ, ◌+◌, ◌-◌, ◌*◌, List, get_or, set, replicate, eqb, ltb}
+use Rattle.std.specs.Prelude.{ℕ, ◌+◌, ◌-◌, ◌*◌, List, get_or, set, replicate, eqb, ltb, Option, Some, None}
 use Rattle.loops.specs.Loop.{pick}
 use Rattle.ids.specs.declared.AtomId.{AtomId}
 use Rattle.table.specs.Limits.{max_atoms, max_bonds}
@@ -111,8 +111,8 @@ closed s =
     }
 
 -- where a bridge number was opened: nowhere, or at an atom with a symbol of a kind
-unfoldable pub opening_of : Steering → ℕ → Opening
-opening_of s r = pick (eqb (get_or s.opener r 0) 0) Opening.Free (Opening.At (record { 0 = get_or s.opener r 0 - 1 }) (get_or s.symbol r 0))
+unfoldable pub opening_of : Steering → ℕ → Option Opening
+opening_of s r = pick (eqb (get_or s.opener r 0) 0) None (Some (record { atom = record { 0 = get_or s.opener r 0 - 1 }; symbol = get_or s.symbol r 0 }))
 
 -- 02, P8: "bridges as their digits stand in the text at this atom": the keys of the bond b, its digits standing at p at its first end and at q at its second
 abbrev pub keyed : List ℕ → ℕ → ℕ → ℕ → List ℕ

@@ -13,6 +13,7 @@ use ids::{AtomId, BRIDGES, MAX_BONDS, MAX_DEPTH};
 pub const KEYS: usize = 2 * MAX_BONDS;
 
 // The fields of a bracket.
+// Stays: selected and mark are numbers, as they are in the cells of an atom and of a paused reading, which C sees.
 #[derive(Clone, Copy)]
 pub struct Fields {
     pub element: u16,
@@ -24,11 +25,11 @@ pub struct Fields {
     pub mark: u16,
 }
 
-// Where a bridge number was opened: nowhere, or at an atom with a symbol of a kind (0: none).
+// Where an open bridge began: its atom, and the kind of its symbol (0: none).
 #[derive(Clone, Copy)]
-pub enum Opening {
-    Free,
-    At(AtomId, u8),
+pub struct Opening {
+    pub atom: AtomId,
+    pub symbol: u8,
 }
 
 // The numbers stand between the arrays, so that the compiler copies each array by itself.
@@ -38,6 +39,7 @@ pub struct State {
     pub hubs: [u16; MAX_DEPTH],
     pub depth: usize,
     // Of each bridge number: the opening atom and one, or 0 where it is free.
+    // Stays: numbers in place of options, since a paused reading holds these cells as they are, and its C struct has no options.
     pub openers: [u16; BRIDGES],
     // How many bonds there are so far.
     pub bonds: usize,
@@ -50,6 +52,7 @@ pub struct State {
 
 impl State {
     // internal: nothing is read yet.
+    #[tactic(auto, unfolding(crate::specs::State::started))]
     pub fn new() -> Self
         ensures { steering result (replicate bridges 0) (replicate max_atoms 0) (replicate key_count 0) ≡ started }
     {
@@ -81,6 +84,7 @@ impl State {
     }
 
     // internal: a branch opens, and its hub is remembered.
+    #[tactic(auto, unfolding(crate::specs::State::opened))]
     pub fn open(mut self) -> Self
         requires depth_lt_max_depth { self.depth < max_depth }
         requires hub_bound { self.hub.0 < 65536 }
@@ -96,6 +100,7 @@ impl State {
     }
 
     // internal: the innermost branch closes, and the hub is again what it was.
+    #[tactic(auto, unfolding(crate::specs::State::closed))]
     pub fn close(mut self) -> Self
         requires depth_nonzero { 0 < self.depth }
         requires depth_le_max_depth { self.depth ≤ max_depth }
@@ -113,8 +118,9 @@ impl State {
         self
     }
 
-    // internal: where a bridge number was opened.
-    pub fn opening(self, number: usize) -> Opening
+    // internal: where a bridge number was opened; none where it is free.
+    #[tactic(auto, unfolding(crate::specs::State::opening_of))]
+    pub fn opening(self, number: usize) -> Option<Opening>
         requires number_lt_bridges { number < bridges }
         requires number_bound { get_or self.openers number 0 < 65536 }
         ensures { (p x y : List ℕ) → result ≡ opening_of (steering self p x y) number }
@@ -123,12 +129,16 @@ impl State {
         let symbols = self.symbols;
         let u = openers[number] as usize;
         if u == 0 {
-            return Opening::Free;
+            return None;
         }
-        Opening::At(AtomId(u - 1), symbols[number])
+        Some(Opening {
+            atom: AtomId(u - 1),
+            symbol: symbols[number],
+        })
     }
 
     // internal: a bridge at the hub, whose number opens with its symbol if it was free, and else is free again, with a bond more.
+    #[tactic(auto, unfolding(crate::specs::State::joined))]
     pub fn join(mut self, number: usize, symbol: u8) -> Self
         requires number_lt_bridges { number < bridges }
         requires hub_bound { self.hub.0 < 65535 }

@@ -13,7 +13,6 @@ use Rattle.loops.specs.Loop.{each, up_to}
 use Rattle.loops.proofs.Loops.{up_to-at, filled_at, each_at, each_same}
 use Rattle.table.specs.Limits.{CHARGE}
 use Rattle.table.specs.Cells.{atom_cell, element, selected, hydrogens, end1, end2}
-use Rattle.table.specs.Valid.{Valid}
 use Rattle.valence.specs.Valence.{delocalized}
 use Rattle.table_graph.specs.Graph.{bond_sum, flag, delocalized_flag}
 use Rattle.table_graph.specs.Built.{sum_flag}
@@ -23,14 +22,14 @@ use Rattle.same_drawing.specs.Drawing.{atoms_only}
 use Rattle.redrawing_check.specs.Certificate.{Permutes, Shows, bonds_only, cells_kept, ends_kept, numbers_kept, sums_kept, sum_at, Settled}
 
 -- the first a of n numbers are below n, no two are equal, and each is marked
-pub record Permuting (list : List ℕ) (n size a : ℕ) (seen : List ℕ) : Type 0 where
+pub record Permuting (list : List ℕ) (n size a : ℕ) (seen : List Bool) : Type 0 where
   pub within : a ≤ n
   pub room : length seen ≡ size
   pub below : (b : ℕ) → b < a → image list b < n
-  pub marked : (b : ℕ) → b < a → get_or seen (image list b) 0 ≡ 1
+  pub marked : (b : ℕ) → b < a → get_or seen (image list b) false ≡ true
   pub one : (b c : ℕ) → b < a → c < a → image list b ≡ image list c → b ≡ c
 
-pub permuting-start : {list seen : List ℕ} {n : ℕ} → Permuting list n (length seen) 0 seen
+pub permuting-start : {list : List ℕ} {seen : List Bool} {n : ℕ} → Permuting list n (length seen) 0 seen
 permuting-start = record { within = omega arith; room = refl; below = λ b l. absurd (omega arith); marked = λ b l. absurd (omega arith); one = λ b c l k e. absurd (omega arith) }
 
 -- the last of a + 1 numbers, or one before it
@@ -41,28 +40,28 @@ last_or {R} a b l f g = go (ltb b a) refl
     go true e = f (ltb-true b a e)
     go false e = g (let q = ltb-false b a e in omega arith)
 
-module _ {list seen : List ℕ} {n size a : ℕ} (p : Permuting list n size a seen) (v : ℕ) (e : v ≡ image list a) (l : a < n) (h : v < n) (r : n ≤ size) (z : get_or seen v 0 ≡ 0) where
+module _ {list : List ℕ} {seen : List Bool} {n size a : ℕ} (p : Permuting list n size a seen) (v : ℕ) (e : v ≡ image list a) (l : a < n) (h : v < n) (r : n ≤ size) (z : get_or seen v false ≡ false) where
   fresh : (b : ℕ) → b < a → image list b ≡ v → ⊥
-  fresh b k q = omega (arith, ap (λ (i : ℕ). get_or seen i 0) q, p.marked b k, z)
+  fresh b k q = let m = p.marked b k in let w = ap (λ (i : ℕ). get_or seen i false) q in (cc)
 
-  marks : (i : ℕ) → (i ≡ v → ⊥) → get_or seen i 0 ≡ 1 → get_or (set seen v 1) i 0 ≡ 1
-  marks i q k = get_or-set_other seen v i 1 0 q ∙ k
+  marks : (i : ℕ) → (i ≡ v → ⊥) → get_or seen i false ≡ true → get_or (set seen v true) i false ≡ true
+  marks i q k = get_or-set_other seen v i true false q ∙ k
 
-  pub permuting-step : Permuting list n size (a + 1) (set seen v 1)
+  pub permuting-step : Permuting list n size (a + 1) (set seen v true)
   permuting-step =
       record {
         within = omega arith;
-        room = length-set seen v 1 ∙ p.room;
+        room = length-set seen v true ∙ p.room;
         below = λ b k. last_or a b k (λ i. p.below b i) (λ i. rw (ap (image list) i, sym e) h);
         marked = λ b k. last_or a b k
             (λ i. marks (image list b) (fresh b i) (p.marked b i))
-            (λ i. ap (λ (j : ℕ). get_or (set seen v 1) j 0) (ap (image list) i ∙ sym e) ∙ get_or-set_same seen v 1 0 (omega (arith, p.room)));
+            (λ i. ap (λ (j : ℕ). get_or (set seen v true) j false) (ap (image list) i ∙ sym e) ∙ get_or-set_same seen v true false (omega (arith, p.room)));
         one = λ b c k j q. last_or a b k
             (λ i. last_or a c j (λ m. p.one b c i m q) (λ m. absurd (fresh b i (q ∙ ap (image list) m ∙ sym e))))
             (λ i. last_or a c j (λ m. absurd (fresh c m (sym q ∙ ap (image list) i ∙ sym e))) (λ m. i ∙ sym m));
       }
 
-pub permuting-end : {list seen : List ℕ} {n size a : ℕ} → Permuting list n size a seen → n ≤ a → Permutes n list
+pub permuting-end : {list : List ℕ} {seen : List Bool} {n size a : ℕ} → Permuting list n size a seen → n ≤ a → Permutes n list
 permuting-end p l = record { below = λ b k. p.below b (omega arith); one = λ b c k j q. p.one b c (omega arith) (omega arith) q }
 
 -- the ends of a bond
@@ -106,14 +105,10 @@ pub sums-told : {x y : Molecule} {l r t : List ℕ} {z : Bool} → Settled x l �
 sums-told {x} {y} {l} {r} {t} p q e w h =
     h ∙ each_same (numbers_kept l r t) (sums_kept x y t) x.n (λ a i. λ j. eqb (p.at a i j) (q.at (image t a) (let b = w.below a i in omega arith) j))
 
--- valid with equal counts
-pub valid-as : {atoms bonds : List ℤ} {n1 m1 n2 m2 : ℕ} → n1 ≡ n2 → m1 ≡ m2 → Valid atoms bonds n2 m2 → Valid atoms bonds n1 m1
-valid-as e f w = rw (e, f) w
-
 -- the answers of the checker together
 module _ {atoms1 bonds1 atoms2 bonds2 : List ℤ} {n1 m1 n2 m2 : ℕ} {t u : List ℕ} (e : n1 ≡ n2) (f : m1 ≡ m2) (p : Permutes n1 t) (q : Permutes m1 u) where
   pub shows-by : {i j z : Bool} → i ≡ each (cells_kept atoms1 atoms2 t) 0 n1 → not i ≡ false → j ≡ each (ends_kept bonds1 bonds2 t u) 0 m1 → not j ≡ false
-      → z ≡ each (sums_kept (molecule atoms1 bonds1 n1 m1) (molecule atoms2 bonds2 n1 m1) t) 0 n1 → z ≡ true → Shows (molecule atoms1 bonds1 n1 m1) (molecule atoms2 bonds2 n2 m2) t u
+      → z ≡ each (sums_kept (molecule atoms1 bonds1 n1 m1) (molecule atoms2 bonds2 n2 m2) t) 0 n1 → z ≡ true → Shows (molecule atoms1 bonds1 n1 m1) (molecule atoms2 bonds2 n2 m2) t u
   unfolding same_cells joins
   shows-by {i} {j} p1 q1 p2 q2 p3 q3 =
       let c = sym p1 ∙ not-false i q1 in
@@ -125,8 +120,6 @@ module _ {atoms1 bonds1 atoms2 bonds2 : List ℤ} {n1 m1 n2 m2 : ℕ} {t u : Lis
         renumbers = p;
         reorders = q;
         cells = λ a l. each_at (cells_kept atoms1 atoms2 t) n1 a c l;
-        sums = λ a l.
-            eqb-true (settled_sum (molecule atoms1 bonds1 n1 m1) a) (settled_sum (molecule atoms2 bonds2 n1 m1) (image t a)) (each_at (sums_kept (molecule atoms1 bonds1 n1 m1) (molecule atoms2 bonds2 n1 m1) t) n1 a s l)
-            ∙ ap (λ (m : ℕ). settled_sum (molecule atoms2 bonds2 n1 m) (image t a)) f;
+        sums = λ a l. eqb-true (settled_sum (molecule atoms1 bonds1 n1 m1) a) (settled_sum (molecule atoms2 bonds2 n2 m2) (image t a)) (each_at (sums_kept (molecule atoms1 bonds1 n1 m1) (molecule atoms2 bonds2 n2 m2) t) n1 a s l);
         ends = λ k l. each_at (ends_kept bonds1 bonds2 t u) m1 k b l;
       }

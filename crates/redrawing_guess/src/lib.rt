@@ -1,376 +1,298 @@
 // A guess of how the atoms and bonds of a molecule go to those of another. It is not trusted: nothing is claimed of it, and `redrawing_check` tells whether it shows a redrawing. Every function here is internal.
 #![tactic(auto)]
 
-ghost use Rattle.std.specs.Prelude.{◌≡◌, true, ◌+◌, ◌*◌, ◌<◌, ◌≤◌};
+ghost use Rattle.std.specs.Prelude.{◌≡◌, true, ◌<◌, ◌≤◌, IfSome};
+ghost use Rattle.std.specs.Iterator.{at_most};
 ghost use Rattle.table.specs.Limits.{max_atoms, max_bonds};
 ghost use Rattle.table.specs.Valid.{Valid};
 ghost use Rattle.same_model.specs.Same.{molecule};
 ghost use Rattle.same_model.specs.Redrawing.{Redrawing};
 
 use ids::BondId;
-use table::{MAX_ATOMS, MAX_BONDS, cell, row};
+use table::{MAX_ATOMS, MAX_BONDS, Tables, cell, row};
 
-// No atom, and no bond.
+// The image of an atom or a bond that has none, in a guess.
+// Stays: `is_redrawing` reads lists of numbers, as its clauses by `image` say.
 const NONE: u16 = 65535;
 
-// The cells of a graph: one for each atom, two for each half-bond, of which there are two for each bond, and two that are not used.
-const GRAPH: usize = 5402;
+// The half-bonds of a graph: two for each bond, and the first, which is not used.
+const HALVES: usize = 2201;
 
-// The cells of a plan: two for each atom.
-const PLAN: usize = 2000;
-
-// The number at a place of a list, NONE past its end.
-fn at(l: &[u16], i: usize) -> u16 {
-    if i < l.len() {
-        return l[i];
-    }
-    NONE
-}
-
-// Writes a number at a place of a list; nothing past its end.
-fn put(l: &mut [u16], i: usize, v: u16) {
-    if i < l.len() {
-        l[i] = v;
-    }
-}
-
-// A number made wider.
-fn wide(x: u16) -> usize
-    ensures { result ≡ x }
-{
-    x as usize
-}
-
-// A number made narrower.
+// The number of an atom or a half-bond, made narrower.
 fn narrow(x: usize) -> u16 {
-    (x % 65536) as u16
+    u16::try_from(x).unwrap_or(NONE)
 }
 
-// The graph of a molecule of n atoms is a list: for each atom its first half-bond, then for each half-bond, from 1 on, the next of the same atom, 0 after the last, and the atom at its other end. Here the place of a half-bond.
-fn place(n: usize, h: u16) -> usize
-    requires { n ≤ max_atoms }
-    ensures { result ≡ n + 2 * h }
-{
-    n + 2 * wide(h)
+// The bonds of a molecule, and the keys of its atoms.
+#[derive(Clone, Copy)]
+pub struct Drawing<'a> {
+    pub bonds: &'a [i32],
+    pub keys: &'a [u64],
 }
 
-// The first half-bond of an atom.
-fn first(graph: &[u16], a: u16) -> u16 {
-    at(graph, wide(a))
+// A bond as it is seen from one of its atoms: the atom at the other end, and the next half-bond of the same atom, 0 after the last.
+#[derive(Clone, Copy)]
+struct Half {
+    to: u16,
+    next: u16,
 }
 
-// The half-bond after one.
-fn next(graph: &[u16], n: usize, h: u16) -> u16
-    requires { n ≤ max_atoms }
-{
-    at(graph, place(n, h))
-}
-
-// The atom at the other end of a half-bond.
-fn other(graph: &[u16], n: usize, h: u16) -> u16
-    requires { n ≤ max_atoms }
-{
-    at(graph, place(n, h) + 1)
-}
-
-// Adds a half-bond from the atom a to the atom b.
-fn hook(graph: &mut [u16], n: usize, a: usize, b: usize, h: u16)
-    requires { n ≤ max_atoms }
-{
-    let p = place(n, h);
-    put(graph, p, at(graph, a));
-    put(graph, p + 1, narrow(b));
-    put(graph, a, h);
-}
-
-// The graph of a molecule, into a list of zeros.
-fn link(bonds: &[i32], n: usize, m: usize, graph: &mut [u16])
-    requires { (n ≤ max_atoms) × (m ≤ max_bonds) }
-{
-    let mut k = 0;
-    while k < m {
-        let bond = row::get_bond(bonds, BondId(k));
-        let e = cell::number(bond.first);
-        let f = cell::number(bond.second);
-        hook(graph, n, e, f, narrow(2 * k + 1));
-        hook(graph, n, f, e, narrow(2 * k + 2));
-        k += 1;
-    }
-}
-
-// A half-bond between the atoms a and b, seen from either, 0 where there is none: both lists are followed, as far as the shorter goes.
-fn between(graph: &[u16], n: usize, a: u16, b: u16) -> u16
-    requires { n ≤ max_atoms }
-{
-    let mut h = first(graph, a);
-    let mut k = first(graph, b);
-    let mut i = 0;
-    while i < MAX_ATOMS {
-        if (h == 0) | (k == 0) {
-            return 0;
-        }
-        if other(graph, n, h) == b {
-            return h;
-        }
-        if other(graph, n, k) == a {
-            return k;
-        }
-        h = next(graph, n, h);
-        k = next(graph, n, k);
-        i += 1;
-    }
-    0
-}
-
-// A plan has two cells for each atom in the order in which they are placed: the atom, and the one before it that it is joined to, NONE for the first of a part. Here one atom more, if it has no mark yet; answers how many there are.
-fn queue(plan: &mut [u16], marks: &mut [u16], end: usize, a: u16, from: u16) -> usize
-    requires { end ≤ max_atoms }
-    ensures { result ≤ max_atoms }
-{
-    if MAX_ATOMS <= end {
-        return end;
-    }
-    if at(marks, wide(a)) != 0 {
-        return end;
-    }
-    put(marks, wide(a), 1);
-    put(plan, 2 * end, a);
-    put(plan, 2 * end + 1, from);
-    end + 1
-}
-
-// The atoms that an atom is joined to.
-fn queue_neighbours(
-    graph: &[u16],
+// The bonds of a molecule of n atoms that have keys: half-bonds 2 * k + 1 and 2 * k + 2 for the bond k, and the first half-bond of each atom, 0 if it has none.
+#[derive(Drop)]
+struct Graph<'a> {
     n: usize,
-    plan: &mut [u16],
-    marks: &mut [u16],
-    filled: usize,
-    a: u16,
-) -> usize
-    requires { (n ≤ max_atoms) × (filled ≤ max_atoms) }
-    ensures { result ≤ max_atoms }
-{
-    let mut end = filled;
-    let mut h = first(graph, a);
-    let mut i = 0;
-    while i < MAX_ATOMS {
-        if h == 0 {
-            return end;
+    keys: &'a [u64],
+    firsts: [u16; MAX_ATOMS],
+    halves: [Half; HALVES],
+}
+
+impl<'a> Graph<'a> {
+    // The graph of n atoms and m bonds.
+    fn new(drawing: Drawing<'a>, n: usize, m: usize) -> Graph<'a>
+        requires { m ≤ max_bonds }
+    {
+        let Drawing { bonds, keys } = drawing;
+        let mut graph = Graph {
+            n,
+            keys,
+            firsts: [0; MAX_ATOMS],
+            halves: [Half { to: 0, next: 0 }; HALVES],
+        };
+        for k in 0..m {
+            let bond = row::get_bond(bonds, BondId(k));
+            let first = cell::number(bond.first);
+            let second = cell::number(bond.second);
+            graph.hook(first, second, 2 * k + 1);
+            graph.hook(second, first, 2 * k + 2);
         }
-        end = queue(plan, marks, end, other(graph, n, h), a);
-        h = next(graph, n, h);
-        i += 1;
+        graph
     }
-    end
-}
 
-// The rest of a part, breadth first, from the place of its first atom on.
-fn queue_part(
-    graph: &[u16],
-    n: usize,
-    plan: &mut [u16],
-    marks: &mut [u16],
-    filled: usize,
-    begun: usize,
-) -> usize
-    requires { (n ≤ max_atoms) × (filled ≤ max_atoms) }
-    ensures { result ≤ max_atoms }
-{
-    let mut end = filled;
-    let mut i = begun;
-    while i < MAX_ATOMS {
-        if end <= i {
-            return end;
+    // Adds a half-bond from an atom to another.
+    fn hook(&mut self, from: usize, to: usize, h: usize) {
+        if from < MAX_ATOMS && h < HALVES {
+            self.halves[h] = Half {
+                to: narrow(to),
+                next: self.firsts[from],
+            };
+            self.firsts[from] = narrow(h);
         }
-        end = queue_neighbours(graph, n, plan, marks, end, at(plan, 2 * i));
-        i += 1;
     }
-    end
+
+    // The first half-bond of an atom.
+    fn first(&self, a: u16) -> Option<u16> {
+        let h = *self.firsts.get(usize::from(a))?;
+        if h == 0 { None } else { Some(h) }
+    }
+
+    // The half-bond after one.
+    fn after(&self, h: u16) -> Option<u16> {
+        let next = self.halves.get(usize::from(h))?.next;
+        if next == 0 { None } else { Some(next) }
+    }
+
+    // The atom that a half-bond leads to.
+    fn end(&self, h: u16) -> Option<u16> {
+        Some(self.halves.get(usize::from(h))?.to)
+    }
+
+    // The neighbours of an atom.
+    fn neighbours(&self, a: u16) -> Neighbours<'_> {
+        Neighbours {
+            halves: &self.halves,
+            half: self.firsts.get(usize::from(a)).copied().unwrap_or(0),
+            left: MAX_ATOMS,
+        }
+    }
+
+    // The bond between the atoms a and b, seen from either: both lists are followed, as far as the shorter goes.
+    fn bond_between(&self, a: u16, b: u16) -> Option<u16> {
+        for (x, y) in self.neighbours(a).zip(self.neighbours(b)) {
+            if x.atom == b {
+                return Some(x.bond);
+            }
+            if y.atom == a {
+                return Some(y.bond);
+            }
+        }
+        None
+    }
+
+    // Whether the atom a has the key of an atom of another graph.
+    fn same_key(&self, a: u16, other: &Graph, b: u16) -> bool {
+        match (
+            self.keys.get(usize::from(a)),
+            other.keys.get(usize::from(b)),
+        ) {
+            (Some(x), Some(y)) => *x == *y,
+            _ => false,
+        }
+    }
 }
 
-// A plan of all atoms, part by part, with a list of zeros for the marks.
-fn fill_plan(graph: &[u16], n: usize, plan: &mut [u16], marks: &mut [u16])
-    requires { n ≤ max_atoms }
-{
-    let mut end = 0;
-    let mut a = 0;
-    while a < n {
-        let begun = end;
-        end = queue(plan, marks, end, narrow(a), NONE);
-        end = queue_part(graph, n, plan, marks, end, begun);
-        a += 1;
+// A neighbour of an atom, and the bond that leads to it.
+#[derive(Clone, Copy)]
+struct Neighbour {
+    atom: u16,
+    bond: u16,
+}
+
+// The neighbours that are left of an atom, from a half-bond on, and how many they are at most.
+#[derive(Drop)]
+struct Neighbours<'a> {
+    halves: &'a [Half],
+    half: u16,
+    left: usize,
+}
+
+impl<'a> Iterator for Neighbours<'a> {
+    type Item = Neighbour;
+
+    ghost remaining = { λ s. at_most s.left };
+
+    fn next(&mut self) -> Option<Neighbour> {
+        if self.half == 0 || self.left == 0 {
+            return None;
+        }
+        let Half { to, next } = *self.halves.get(usize::from(self.half))?;
+        let bond = (self.half - 1) / 2;
+        self.half = next;
+        self.left -= 1;
+        Some(Neighbour { atom: to, bond })
     }
 }
 
-// Whether two atoms have equal keys.
-fn same_key(keys1: &[u64], a: usize, keys2: &[u64], b: usize) -> bool {
-    if keys1.len() <= a {
-        return false;
-    }
-    if keys2.len() <= b {
-        return false;
-    }
-    keys1[a] == keys2[b]
+// A step of a plan: an atom, and the one before it that it is joined to, none for the first of a part.
+#[derive(Clone, Copy)]
+struct Step {
+    atom: u16,
+    from: Option<u16>,
 }
 
-// Whether each atom that is joined to a and has an image goes to one that is joined to b; an atom has an image if it goes there and back.
+// The atoms of a graph in the order in which they are placed, part by part, and which atoms are among them.
+#[derive(Drop)]
+struct Plan {
+    steps: [Step; MAX_ATOMS],
+    len: usize,
+    queued: [bool; MAX_ATOMS],
+}
+
+impl Plan {
+    // The plan of all atoms.
+    fn new(graph: &Graph) -> Plan {
+        let mut plan = Plan {
+            steps: [Step {
+                atom: 0,
+                from: None,
+            }; MAX_ATOMS],
+            len: 0,
+            queued: [false; MAX_ATOMS],
+        };
+        for a in 0..graph.n {
+            let begun = plan.len;
+            plan.queue(narrow(a), None);
+            plan.queue_part(graph, begun);
+        }
+        plan
+    }
+
+    // One atom more, if it is not among them.
+    fn queue(&mut self, atom: u16, from: Option<u16>) {
+        let a = usize::from(atom);
+        if self.len < MAX_ATOMS && a < MAX_ATOMS && !self.queued[a] {
+            self.queued[a] = true;
+            self.steps[self.len] = Step { atom, from };
+            self.len += 1;
+        }
+    }
+
+    // The rest of a part, breadth first, from the place of its first atom on.
+    fn queue_part(&mut self, graph: &Graph, begun: usize) {
+        for i in begun..MAX_ATOMS {
+            if self.len <= i {
+                return;
+            }
+            self.queue_neighbours(graph, i);
+        }
+    }
+
+    // The atoms that the atom of a step is joined to.
+    fn queue_neighbours(&mut self, graph: &Graph, i: usize) {
+        if let Some(step) = self.step(i) {
+            for next in graph.neighbours(step.atom) {
+                self.queue(next.atom, Some(step.atom));
+            }
+        }
+    }
+
+    // A step, if there are so many.
+    fn step(&self, i: usize) -> Option<Step>
+        ensures { IfSome result (λ _. i < max_atoms) }
+    {
+        self.steps.get(i).copied()
+    }
+}
+
+// The image of an atom, if it has one.
+fn image(images: &[Option<u16>], a: u16) -> Option<u16> {
+    *images.get(usize::from(a))?
+}
+
+// Whether an atom goes to another there, and back.
+fn goes(there: &[Option<u16>], back: &[Option<u16>], a: u16) -> Option<u16> {
+    let b = image(there, a)?;
+    if image(back, b)? == a { Some(b) } else { None }
+}
+
+// Whether each neighbour of a that has an image goes to a neighbour of b.
 fn keeps(
-    graph1: &[u16],
-    graph2: &[u16],
-    n: usize,
+    graph1: &Graph,
     a: u16,
+    graph2: &Graph,
     b: u16,
-    there: &[u16],
-    back: &[u16],
-) -> bool
-    requires { n ≤ max_atoms }
-{
-    let mut h = first(graph1, a);
-    let mut i = 0;
-    while i < MAX_ATOMS {
-        if h == 0 {
-            return true;
-        }
-        let c = other(graph1, n, h);
-        let d = at(there, wide(c));
-        if at(back, wide(d)) == c {
-            if between(graph2, n, b, d) == 0 {
+    there: &[Option<u16>],
+    back: &[Option<u16>],
+) -> bool {
+    for c in graph1.neighbours(a) {
+        if let Some(d) = goes(there, back, c.atom) {
+            if graph2.bond_between(b, d).is_none() {
                 return false;
             }
         }
-        h = next(graph1, n, h);
-        i += 1;
     }
     true
 }
 
-// Whether the atom a may go to b, which is free and has its key, beside those that are placed.
-fn fits(graph1: &[u16], graph2: &[u16], n: usize, a: u16, b: u16, t: &[u16], taken: &[u16]) -> bool
-    requires { n ≤ max_atoms }
-{
-    if !keeps(graph1, graph2, n, a, b, t, taken) {
-        return false;
-    }
-    keeps(graph2, graph1, n, b, a, taken, t)
+// What an atom may go to: for the first of a part an atom, for another what a half-bond of its neighbour's image leads to.
+#[derive(Clone, Copy)]
+enum Candidate {
+    Atom(u16),
+    Half(u16),
 }
 
-// Begins with the candidates of the atom at a place of the plan: the half-bonds of its neighbour's image, or each atom's number and 1.
-fn begin(graph2: &[u16], plan: &[u16], t: &[u16], i: usize, cursors: &mut [u16])
-    requires { i ≤ max_atoms }
-{
-    let from = at(plan, 2 * i + 1);
-    if from == NONE {
-        put(cursors, i, 1);
-        return;
-    }
-    put(cursors, i, first(graph2, at(t, wide(from))));
-}
-
-// The candidate after one, 0 after the last.
-fn candidate_after(graph2: &[u16], n: usize, from: u16, c: u16) -> u16
-    requires { n ≤ max_atoms }
-{
-    if from != NONE {
-        return next(graph2, n, c);
-    }
-    if wide(c) < n {
-        return narrow(wide(c) + 1);
-    }
-    0
-}
-
-// The atom of a candidate that is not 0.
-fn candidate_atom(graph2: &[u16], n: usize, from: u16, c: u16) -> u16
-    requires { n ≤ max_atoms }
-{
-    if from != NONE {
-        return other(graph2, n, c);
-    }
-    if c == 0 {
-        return NONE;
-    }
-    c - 1
-}
-
-// The first candidate from one on whose atom is free and has the key of a; 0 where there is none.
-fn free_candidate(
-    graph2: &[u16],
-    n: usize,
-    keys1: &[u64],
-    keys2: &[u64],
-    taken: &[u16],
-    a: u16,
-    from: u16,
-    cursor: u16,
-) -> u16
-    requires { n ≤ max_atoms }
-{
-    let mut c = cursor;
-    let mut i = 0;
-    while i < MAX_ATOMS {
-        if c == 0 {
-            return 0;
+impl Candidate {
+    // The atom in the graph.
+    fn atom(self, graph: &Graph) -> Option<u16> {
+        match self {
+            Candidate::Atom(b) => Some(b),
+            Candidate::Half(h) => graph.end(h),
         }
-        let b = candidate_atom(graph2, n, from, c);
-        if (at(taken, wide(b)) == NONE) & same_key(keys1, wide(a), keys2, wide(b)) {
-            return c;
+    }
+
+    // The candidate after this one.
+    fn after(self, graph: &Graph) -> Option<Candidate> {
+        match self {
+            Candidate::Atom(b) => {
+                let next = b.checked_add(1)?;
+                if usize::from(next) < graph.n {
+                    Some(Candidate::Atom(next))
+                } else {
+                    None
+                }
+            }
+            Candidate::Half(h) => Some(Candidate::Half(graph.after(h)?)),
         }
-        c = candidate_after(graph2, n, from, c);
-        i += 1;
     }
-    0
-}
-
-// Takes back the atom before a place of the plan; answers the place to go on at, past all if the place begins a part.
-fn take_back(plan: &[u16], i: usize, from: u16, t: &[u16], taken: &mut [u16]) -> usize
-    requires { i ≤ max_atoms }
-{
-    if from == NONE {
-        return MAX_ATOMS + 1;
-    }
-    if i == 0 {
-        return MAX_ATOMS + 1;
-    }
-    let a = at(plan, 2 * i - 2);
-    let b = at(t, wide(a));
-    put(taken, wide(b), NONE);
-    i - 1
-}
-
-// Places the atom a at b, and goes on to the next place of the plan.
-fn settle(
-    graph2: &[u16],
-    plan: &[u16],
-    i: usize,
-    a: u16,
-    b: u16,
-    cursors: &mut [u16],
-    taken: &mut [u16],
-    t: &mut [u16],
-) -> usize
-    requires { i < max_atoms }
-{
-    put(t, wide(a), b);
-    put(taken, wide(b), a);
-    begin(graph2, plan, t, i + 1, cursors);
-    i + 1
-}
-
-// How many bonds an atom has.
-fn degree(graph: &[u16], n: usize, a: u16) -> usize
-    requires { n ≤ max_atoms }
-{
-    let mut h = first(graph, a);
-    let mut d = 0;
-    while d < MAX_ATOMS {
-        if h == 0 {
-            return d;
-        }
-        h = next(graph, n, h);
-        d += 1;
-    }
-    d
 }
 
 // What is left of a budget after a step at an atom with d bonds: it costs 1, and more where there are many.
@@ -379,130 +301,162 @@ fn spend(left: usize, d: usize) -> usize
     ensures { result < left }
 {
     if d <= 4 {
-        return left - 1;
+        left - 1
+    } else {
+        left.saturating_sub(d / 2)
     }
-    let cost = d / 2;
-    if left < cost {
-        return 0;
-    }
-    left - cost
 }
 
-// One step: tries the next candidate of the atom at a place of the plan; answers the place to go on at.
-fn step(
-    graph1: &[u16],
-    keys1: &[u64],
-    graph2: &[u16],
-    keys2: &[u64],
-    n: usize,
-    plan: &[u16],
-    i: usize,
-    cursors: &mut [u16],
-    taken: &mut [u16],
-    t: &mut [u16],
-) -> usize
-    requires { (n ≤ max_atoms) × (i < max_atoms) }
-{
-    let a = at(plan, 2 * i);
-    let from = at(plan, 2 * i + 1);
-    let c = free_candidate(graph2, n, keys1, keys2, taken, a, from, at(cursors, i));
-    if c == 0 {
-        return take_back(plan, i, from, t, taken);
-    }
-    put(cursors, i, candidate_after(graph2, n, from, c));
-    let b = candidate_atom(graph2, n, from, c);
-    if !fits(graph1, graph2, n, a, b, t, taken) {
-        return i;
-    }
-    settle(graph2, plan, i, a, b, cursors, taken, t)
+// A search for images of the atoms of a graph in another, in the order of a plan: the next candidate for each of its steps, and the images there and back. An atom has an image if it goes there and back.
+#[derive(Drop)]
+struct Search<'a> {
+    graph1: &'a Graph<'a>,
+    graph2: &'a Graph<'a>,
+    plan: &'a Plan,
+    cursors: [Option<Candidate>; MAX_ATOMS],
+    there: [Option<u16>; MAX_ATOMS],
+    back: [Option<u16>; MAX_ATOMS],
 }
 
-// Whether all atoms of a plan were placed within a budget; `taken` begins with NONE in each cell.
-fn search(
-    graph1: &[u16],
-    keys1: &[u64],
-    graph2: &[u16],
-    keys2: &[u64],
-    n: usize,
-    plan: &[u16],
-    budget: usize,
-    cursors: &mut [u16],
-    taken: &mut [u16],
-    t: &mut [u16],
-) -> bool
-    requires { n ≤ max_atoms }
-{
-    begin(graph2, plan, t, 0, cursors);
-    let mut i = 0;
-    let mut left = budget;
-    while 0 < left {
-        if n <= i {
-            return i == n;
+impl<'a> Search<'a> {
+    // The first candidate at a step.
+    fn first_candidate(&self, step: Step) -> Option<Candidate> {
+        match step.from {
+            None => Some(Candidate::Atom(0)),
+            Some(from) => Some(Candidate::Half(self.graph2.first(image(&self.there, from)?)?)),
         }
-        left = spend(left, degree(graph1, n, at(plan, 2 * i)));
-        i = step(graph1, keys1, graph2, keys2, n, plan, i, cursors, taken, t);
     }
-    i == n
-}
 
-// The same from the graphs alone.
-fn place_all(
-    graph1: &[u16],
-    keys1: &[u64],
-    graph2: &[u16],
-    keys2: &[u64],
-    n: usize,
-    budget: usize,
-    t: &mut [u16],
-) -> bool
-    requires { n ≤ max_atoms }
-{
-    let mut plan = [0u16; PLAN];
-    let mut cursors = [0u16; MAX_ATOMS];
-    let mut taken = [NONE; MAX_ATOMS];
-    fill_plan(graph1, n, &mut plan, &mut cursors);
-    search(
-        graph1,
-        keys1,
-        graph2,
-        keys2,
-        n,
-        &plan,
-        budget,
-        &mut cursors,
-        &mut taken,
-        t,
-    )
-}
-
-// The bond of a half-bond, NONE for 0.
-fn bond_of(h: u16) -> u16 {
-    if h == 0 {
-        return NONE;
+    // Begins with the candidates of a step.
+    fn begin(&mut self, i: usize) {
+        if let Some(step) = self.plan.step(i) {
+            self.cursors[i] = self.first_candidate(step);
+        }
     }
-    (h - 1) / 2
-}
 
-// The images of m bonds, from those of the atoms.
-fn fill_bonds(graph1: &[u16], graph2: &[u16], n: usize, m: usize, t: &[u16], u: &mut [u16])
-    requires { (n ≤ max_atoms) × (m ≤ max_bonds) }
-{
-    let mut k = 0;
-    while k < m {
-        let e = other(graph1, n, narrow(2 * k + 2));
-        let f = other(graph1, n, narrow(2 * k + 1));
-        let h = between(graph2, n, at(t, wide(e)), at(t, wide(f)));
-        put(u, k, bond_of(h));
-        k += 1;
+    // Whether an atom is free and has the key of a.
+    fn is_free(&self, a: u16, b: u16) -> bool {
+        image(&self.back, b).is_none() && self.graph1.same_key(a, self.graph2, b)
+    }
+
+    // The first candidate from one on whose atom is free and has the key of a, with that atom.
+    fn free_candidate(&self, a: u16, cursor: Option<Candidate>) -> Option<(Candidate, u16)> {
+        let mut next = cursor;
+        for _ in 0..MAX_ATOMS {
+            let c = next?;
+            let b = c.atom(self.graph2)?;
+            if self.is_free(a, b) {
+                return Some((c, b));
+            }
+            next = c.after(self.graph2);
+        }
+        None
+    }
+
+    // Whether the atom a may go to b beside those that are placed.
+    fn fits(&self, a: u16, b: u16) -> bool {
+        keeps(self.graph1, a, self.graph2, b, &self.there, &self.back)
+            && keeps(self.graph2, b, self.graph1, a, &self.back, &self.there)
+    }
+
+    // Places the atom a at b.
+    fn place(&mut self, a: u16, b: u16) {
+        if usize::from(a) < MAX_ATOMS && usize::from(b) < MAX_ATOMS {
+            self.there[usize::from(a)] = Some(b);
+            self.back[usize::from(b)] = Some(a);
+        }
+    }
+
+    // Takes back the atom of a step.
+    fn take_back(&mut self, i: usize) {
+        if let Some(step) = self.plan.step(i) {
+            if let Some(b) = image(&self.there, step.atom) {
+                if usize::from(b) < MAX_ATOMS {
+                    self.back[usize::from(b)] = None;
+                }
+            }
+        }
+    }
+
+    // Tries the next candidate at a step; answers the step to go on at, none where the first atom of a part has no candidate left.
+    fn advance(&mut self, i: usize) -> Option<usize> {
+        let step = self.plan.step(i)?;
+        let Some((c, b)) = self.free_candidate(step.atom, self.cursors[i]) else {
+            step.from?;
+            let before = i.checked_sub(1)?;
+            self.take_back(before);
+            return Some(before);
+        };
+        self.cursors[i] = c.after(self.graph2);
+        if !self.fits(step.atom, b) {
+            return Some(i);
+        }
+        self.place(step.atom, b);
+        self.begin(i + 1);
+        Some(i + 1)
+    }
+
+    // What a step costs.
+    fn cost(&self, i: usize) -> usize {
+        match self.plan.step(i) {
+            Some(step) => self.graph1.neighbours(step.atom).count(),
+            None => 0,
+        }
+    }
+
+    // Whether all atoms were placed within a budget.
+    fn run(&mut self, budget: usize) -> bool {
+        self.begin(0);
+        let mut i = 0;
+        let mut left = budget;
+        // Stays: the budget falls by what a step costs, which is not always 1, so there is no index to go over.
+        while 0 < left {
+            if self.graph1.n <= i {
+                return true;
+            }
+            left = spend(left, self.cost(i));
+            match self.advance(i) {
+                Some(next) => i = next,
+                None => return false,
+            }
+        }
+        i == self.graph1.n
+    }
+
+    // The images of the atoms, as far as there is room.
+    fn fill_atoms(&self, t: &mut [u16]) {
+        for (cell, image) in t.iter_mut().zip(self.there.iter()).take(self.graph1.n) {
+            *cell = image.unwrap_or(NONE);
+        }
+    }
+
+    // The image of a bond.
+    fn bond_image(&self, k: usize) -> Option<u16>
+        requires { k < max_bonds }
+    {
+        let first = self.graph1.end(narrow(2 * k + 2))?;
+        let second = self.graph1.end(narrow(2 * k + 1))?;
+        let a = image(&self.there, first)?;
+        let b = image(&self.there, second)?;
+        self.graph2.bond_between(a, b)
+    }
+
+    // The images of m bonds, as far as there is room.
+    fn fill_bonds(&self, m: usize, u: &mut [u16])
+        requires { m ≤ max_bonds }
+    {
+        for k in 0..m {
+            if k < u.len() {
+                u[k] = self.bond_image(k).unwrap_or(NONE);
+            }
+        }
     }
 }
 
 // internal: guesses the images t of the atoms and u of the bonds of a molecule in another with as many of both, within a budget of steps; atoms go to atoms with equal keys. Answers whether there is a guess.
 pub fn guess(
-    bonds1: &[i32],
-    keys1: &[u64],
-    bonds2: &[i32],
-    keys2: &[u64],
+    drawing1: Drawing,
+    drawing2: Drawing,
     n: usize,
     m: usize,
     budget: usize,
@@ -511,42 +465,59 @@ pub fn guess(
 ) -> bool
     requires { (n ≤ max_atoms) × (m ≤ max_bonds) }
 {
-    let mut graph1 = [0u16; GRAPH];
-    let mut graph2 = [0u16; GRAPH];
-    link(bonds1, n, m, &mut graph1);
-    link(bonds2, n, m, &mut graph2);
-    if !place_all(&graph1, keys1, &graph2, keys2, n, budget, t) {
+    let graph1 = Graph::new(drawing1, n, m);
+    let graph2 = Graph::new(drawing2, n, m);
+    let plan = Plan::new(&graph1);
+    let mut search = Search {
+        graph1: &graph1,
+        graph2: &graph2,
+        plan: &plan,
+        cursors: [None; MAX_ATOMS],
+        there: [None; MAX_ATOMS],
+        back: [None; MAX_ATOMS],
+    };
+    if !search.run(budget) {
         return false;
     }
-    fill_bonds(&graph1, &graph2, n, m, t, u);
+    search.fill_atoms(t);
+    search.fill_bonds(m, u);
     true
 }
 
 // internal: true only if the second molecule is a redrawing of the first: a guess within the budget shows it. False says nothing.
 pub fn shows_redrawing(
-    atoms1: &[i32],
-    bonds1: &[i32],
-    n1: usize,
-    m1: usize,
+    tables1: Tables,
     keys1: &[u64],
-    atoms2: &[i32],
-    bonds2: &[i32],
-    n2: usize,
-    m2: usize,
+    tables2: Tables,
     keys2: &[u64],
     budget: usize,
 ) -> bool
-    requires valid { Valid atoms1.now bonds1.now n1 m1 }
-    requires valid_2 { Valid atoms2.now bonds2.now n2 m2 }
-    ensures { result ≡ true → Redrawing (molecule atoms1.now bonds1.now n1 m1) (molecule atoms2.now bonds2.now n2 m2) }
+    requires valid { Valid tables1.atoms.now tables1.bonds.now tables1.n tables1.m }
+    requires valid_2 { Valid tables2.atoms.now tables2.bonds.now tables2.n tables2.m }
+    ensures { result ≡ true → Redrawing (molecule tables1.entry.atoms.now tables1.entry.bonds.now tables1.entry.n tables1.entry.m) (molecule tables2.entry.atoms.now tables2.entry.bonds.now tables2.entry.n tables2.entry.m) }
 {
-    if (n1 != n2) | (m1 != m2) {
+    let Tables {
+        bonds: bonds1,
+        n,
+        m,
+        ..
+    } = tables1;
+    let Tables { bonds: bonds2, .. } = tables2;
+    if n != tables2.n || m != tables2.m {
         return false;
     }
     let mut t = [0u16; MAX_ATOMS];
     let mut u = [0u16; MAX_BONDS];
-    if !guess(bonds1, keys1, bonds2, keys2, n1, m1, budget, &mut t, &mut u) {
+    let drawing1 = Drawing {
+        bonds: bonds1,
+        keys: keys1,
+    };
+    let drawing2 = Drawing {
+        bonds: bonds2,
+        keys: keys2,
+    };
+    if !guess(drawing1, drawing2, n, m, budget, &mut t, &mut u) {
         return false;
     }
-    redrawing_check::is_redrawing(atoms1, bonds1, n1, m1, atoms2, bonds2, n2, m2, &t, &u)
+    redrawing_check::is_redrawing(tables1, tables2, &t, &u)
 }

@@ -8,12 +8,14 @@ use mathlib.Core.Logic.{⊎_elim}
 use mathlib.Core.List.{List, [], ◌∷◌}
 use lib.ListN.{length, get_or, set, take, drop}
 use lib.Dec.{leb, ltb}
-use borrow.Author.Tests.{ne_eqb, eq-eqb, le-leb, lt-leb, lt-ltb, le-ltb}
+use borrow.Author.Tests.{ne_eqb, eq-eqb, le-leb, lt-leb, lt-ltb, le-ltb, ltb-true, ltb-false}
 use Rattle.loops.specs.Loop.{pick, each}
 use Rattle.register.specs.Layout.{size, max_entries, max_body, first_body, count, entry_at, start_of, length_of, end_before, valid_entry, valid, used, body_of}
 use Rattle.register.specs.Adding.{fits, low, high, entry_bytes, steps, step_with, step_of, after_with, added_after}
-use Rattle.register.specs.declared.RegisterAnswer.TheVariants.{Done, Short, Invalid, Full}
-use Rattle.register.specs.Answers.{refusing, out, adding_of}
+use Rattle.std.specs.Prelude.{Ok, Err}
+use Rattle.register.specs.declared.RegisterError.{RegisterError}
+use Rattle.register.specs.declared.RegisterError.TheVariants.{Short, Invalid, Full}
+use Rattle.register.specs.Answers.{refusing, ready_of, room_of, out, adding_of, FoundOut, found_of, body_at}
 use Rattle.register.proofs.Rules.{valid-is}
 use Rattle.register.proofs.Stores.{lt-or-le, step_in, step-out, place-body, place-entry, place-last, value-body, value-entry, value-last}
 
@@ -91,6 +93,49 @@ module _ {A : Type 0} (r : List ℕ) (x y z : A) where
   unfolding refusing
   is-valid h e = simp (le-ltb _ _ h, e)
 
+refusing-of-by : {A B : Type 0} (f : A → B) (r : List ℕ) (x y z : A) (s v : Bool) → ltb (length r) size ≡ s → valid r ≡ v → f (refusing r x y z) ≡ refusing r (f x) (f y) (f z)
+unfolding refusing
+refusing-of-by f r x y z true v h e = simp h
+refusing-of-by f r x y z false false h e = simp (h, e)
+refusing-of-by f r x y z false true h e = simp (h, e)
+
+-- what is made of the answer, made of each of the three
+pub refusing-of : {A B : Type 0} (f : A → B) (r : List ℕ) (x y z : A) → f (refusing r x y z) ≡ refusing r (f x) (f y) (f z)
+refusing-of f r x y z = refusing-of-by f r x y z _ _ refl refl
+
+-- a refusal of the check is that of a call that goes on with a
+module _ {A : Type 0} (r : List ℕ) (f : RegisterError → A) (a : A) (e : RegisterError) where
+  refused-by : (s v : Bool) → ltb (length r) size ≡ s → valid r ≡ v → Err e ≡ ready_of r → f e ≡ refusing r (f Short) (f Invalid) a
+  unfolding refusing
+  refused-by true v x y h = let z : e ≡ Short = let w = simp x at h in cc in simp x (ap f z)
+  refused-by false false x y h = let z : e ≡ Invalid = let w = simp (x, y) at h in cc in simp (x, y) (ap f z)
+  refused-by false true x y h = let w = simp (x, y) at h in cc
+
+  pub refused : Err e ≡ ready_of r → f e ≡ refusing r (f Short) (f Invalid) a
+  refused h = refused-by _ _ refl refl h
+
+-- what the answer of reading an entry says of the register, and of the body
+module _ (r : List ℕ) (p : ℕ) where
+  found-by : (s v n : Bool) → ltb (length r) size ≡ s → valid r ≡ v → ltb p (count r) ≡ n → (found_of r p).found ≡ 1 → (size ≤ length r) × (valid r ≡ true) × (p < count r)
+  unfolding found_of refusing
+  found-by true v n x y z h = absurd (omega (arith, simp x at h))
+  found-by false false n x y z h = absurd (omega (arith, simp (x, y) at h))
+  found-by false true false x y z h = absurd (omega (arith, simp (x, y, z) at h))
+  found-by false true true x y z h = (ltb-false _ _ x, y, ltb-true _ _ z)
+
+  pub found-is : (f : FoundOut) → f ≡ found_of r p → f.found ≡ 1 → (size ≤ length r) × (valid r ≡ true) × (p < count r)
+  found-is f e h = found-by _ _ _ refl refl refl (sym (ap (λ o. o.found) e) ∙ h)
+
+  none-by : (s v n : Bool) → ltb (length r) size ≡ s → valid r ≡ v → ltb p (count r) ≡ n → (found_of r p).found ≡ 0 → [] ≡ body_at r p
+  unfolding found_of body_at refusing
+  none-by true v n x y z h = simp x
+  none-by false false n x y z h = simp (x, y)
+  none-by false true false x y z h = simp (x, y, z)
+  none-by false true true x y z h = absurd (omega (arith, simp (x, y, z) at h))
+
+  pub none-is : (f : FoundOut) → f ≡ found_of r p → f.found ≡ 0 → [] ≡ body_at r p
+  none-is f e h = none-by _ _ _ refl refl refl (sym (ap (λ o. o.found) e) ∙ h)
+
 -- adding as a loop of steps
 pub used-at : (r : List ℕ) (n e : ℕ) → n ≡ count r → e ≡ end_before r n → e ≡ used r
 used-at r n e c x = x ∙ ap (end_before r) c
@@ -116,21 +161,37 @@ module _ {A : Type 0} (r : List ℕ) (x y : A) (t : Bool) (a b : A) (h : size �
 
 -- adding a body of m bytes that leaves q
 module _ (r : List ℕ) (m : ℕ) (q : List ℕ) where
-  pub adding-short : length r < size → out Short r ≡ adding_of r m q
+  pub adding-short : length r < size → out (Err Short) r ≡ adding_of r m q
   unfolding adding_of
   adding-short h = is-short r _ _ _ h
 
-  pub adding-invalid : size ≤ length r → valid r ≡ false → out Invalid r ≡ adding_of r m q
+  pub adding-invalid : size ≤ length r → valid r ≡ false → out (Err Invalid) r ≡ adding_of r m q
   unfolding adding_of
   adding-invalid h e = is-invalid r _ _ _ h e
 
-  pub adding-full : size ≤ length r → valid r ≡ true → fits r m ≡ false → out Full r ≡ adding_of r m q
+  pub adding-full : size ≤ length r → valid r ≡ true → fits r m ≡ false → out (Err Full) r ≡ adding_of r m q
   unfolding adding_of
   adding-full h e f = picks-no r _ _ _ _ _ h e f
 
-  pub adding-done : size ≤ length r → valid r ≡ true → fits r m ≡ true → out Done q ≡ adding_of r m q
+  pub adding-done : size ≤ length r → valid r ≡ true → fits r m ≡ true → out (Ok tt) q ≡ adding_of r m q
   unfolding adding_of
   adding-done h e f = picks-yes r _ _ _ _ _ h e f
+
+-- a refusal of the check, where room is asked for
+pub no-room-first : (r : List ℕ) (m : ℕ) (e : RegisterError) → Err e ≡ ready_of r → Err e ≡ room_of r m
+no-room-first r m e h = refused r (λ i. Err i) _ e h
+
+-- a refusal where room is asked for is that of adding
+module _ (r : List ℕ) (m : ℕ) (q : List ℕ) (e : RegisterError) where
+  no-room-by : (s v f : Bool) → ltb (length r) size ≡ s → valid r ≡ v → fits r m ≡ f → Err e ≡ room_of r m → out (Err e) r ≡ adding_of r m q
+  unfolding refusing adding_of
+  no-room-by true v f x y z h = let w : e ≡ Short = let u = simp x at h in cc in simp x (ap (λ i. out (Err i) r) w)
+  no-room-by false false f x y z h = let w : e ≡ Invalid = let u = simp (x, y) at h in cc in simp (x, y) (ap (λ i. out (Err i) r) w)
+  no-room-by false true false x y z h = let w : e ≡ Full = let u = simp (x, y, z) at h in cc in simp (x, y, z) (ap (λ i. out (Err i) r) w)
+  no-room-by false true true x y z h = let u = simp (x, y, z) at h in cc
+
+  pub no-room : Err e ≡ room_of r m → out (Err e) r ≡ adding_of r m q
+  no-room h = no-room-by _ _ _ refl refl refl h
 
 -- the ways of adding a body of m bytes
 pub data Way (r : List ℕ) (m : ℕ) : Type 0 where

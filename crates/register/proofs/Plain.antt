@@ -10,11 +10,11 @@ use lib.Seq.{get_or-set_same, get_or-set_other}
 use borrow.Author.Tests.{lt-ltb, le-ltb}
 use Rattle.loops.specs.Loop.{each, up_to}
 use Rattle.loops.proofs.Loops.{length-up_to, up_to-at}
-use Rattle.register.specs.declared.RegisterAnswer.TheVariants.{Done, Full}
-use Rattle.register.specs.declared.Found.TheVariants as found
+use Rattle.std.specs.Prelude.{Ok, Err, None}
+use Rattle.register.specs.declared.RegisterError.TheVariants.{Invalid, Full}
 use Rattle.register.specs.Layout.{size, first_body, count, start_of, length_of, tag_of, end_before, valid, used, invalid, listed, Entry, body_of, entry_of, entries_of, listed_of}
 use Rattle.register.specs.Adding.{fits, steps, added_after, new_entry}
-use Rattle.register.specs.Answers.{code_of, out, emptied, emptied_of, added_of, found_out, found_of, body_at}
+use Rattle.register.specs.Answers.{code_of, out, emptied, emptied_of, added_of, found_at, found_out, found_of, body_at}
 use Rattle.register.specs.Calls.{Call, emptying, adding, cutting, reading, TagsFit, entry, cut_after, leaves_all, tells_all, bytes_of, room_for, add_to, add_told, entry_from, read_from, Plain, done, made, lost, got}
 use Rattle.register.specs.Calls as calls
 use Rattle.register.proofs.Rules.{Valid, valid-is, listed-valid, up_to-more, take-up_to}
@@ -134,12 +134,12 @@ module _ (r : List ℕ) (full : size ≤ length r) (t : ℕ) (b : List ℕ) wher
       ∙ ap (λ s. code_of (add_told s (length b))) (sym (listed-invalid r e))
   told-by (way-full h e f) =
       let x : room_for (entries_of r) (length b) ≡ false = room-same r full (valid-is r e) (length b) ∙ f in
-      let y : code_of Full ≡ code_of (add_told (listed (entries_of r)) (length b)) = rw x in
+      let y : code_of (Err Full) ≡ code_of (add_told (listed (entries_of r)) (length b)) = rw x in
       sym (ap (λ o. o.code) (adding-full r (length b) (added_after r t b (steps (length b))) full e f))
       ∙ y ∙ ap (λ s. code_of (add_told s (length b))) (sym (listed-valid r e))
   told-by (way-done h e f) =
       let x : room_for (entries_of r) (length b) ≡ true = room-same r full (valid-is r e) (length b) ∙ f in
-      let y : code_of Done ≡ code_of (add_told (listed (entries_of r)) (length b)) = rw x in
+      let y : code_of (Ok tt) ≡ code_of (add_told (listed (entries_of r)) (length b)) = rw x in
       sym (ap (λ o. o.code) (adding-done r (length b) (added_after r t b (steps (length b))) full e f))
       ∙ y ∙ ap (λ s. code_of (add_told s (length b))) (sym (listed-valid r e))
 
@@ -154,7 +154,7 @@ module _ (r : List ℕ) (full : size ≤ length r) where
   empty-count : count (emptied r) ≡ 0
   empty-count = get_or-set_other (set r 1 0) 0 1 1 0 (λ e. omega arith) ∙ get_or-set_same r 1 0 0 (omega arith)
 
-  empty-out : out Done (emptied r) ≡ emptied_of r
+  empty-out : out (Ok tt) (emptied r) ≡ emptied_of r
   unfolding emptied_of
   empty-out = rw (le-ltb (length r) size full)
 
@@ -166,7 +166,7 @@ module _ (r : List ℕ) (full : size ≤ length r) where
   pub empty-is : listed_of (emptied_of r).register ≡ listed []
   empty-is = ap (λ o. listed_of o.register) (sym empty-out) ∙ emptied-is
 
-  pub empty-told : (emptied_of r).code ≡ code_of Done
+  pub empty-told : (emptied_of r).code ≡ code_of (Ok tt)
   empty-told = ap (λ o. o.code) (sym empty-out)
 
   pub empty-length : length (emptied_of r).register ≡ length r
@@ -177,7 +177,7 @@ module _ (r : List ℕ) (full : size ≤ length r) where
     read-invalid : valid r ≡ false → entry (found_of r p) (body_at r p) ≡ read_from (listed_of r) p
     unfolding found_of body_at
     read-invalid e =
-        let x : found_out found.Invalid ≡ found_of r p = is-invalid r _ _ _ full e in
+        let x : found_out (Err Invalid) ≡ found_of r p = is-invalid r _ _ _ full e in
         let y : [] ≡ body_at r p = is-invalid r _ _ _ full e in
         rw (sym x, sym y, listed-invalid r e)
 
@@ -193,21 +193,21 @@ module _ (r : List ℕ) (full : size ≤ length r) where
       read-missing : count r ≤ p → entry (found_of r p) (body_at r p) ≡ read_from (listed_of r) p
       unfolding found_of body_at
       read-missing h =
-          let x : found_out found.Missing ≡ found_of r p = picks-no r _ _ _ _ _ full e (le-ltb p (count r) h) in
+          let x : found_out (Ok None) ≡ found_of r p = picks-no r _ _ _ _ _ full e (le-ltb p (count r) h) in
           let y : [] ≡ body_at r p = picks-no r _ _ _ _ _ full e (le-ltb p (count r) h) in
           rw (sym x, sym y, listed-valid r e, entries-length, le-ltb p (count r) h)
 
-      from_list : p < count r → entry_from (entries_of r) p (entry_of r p) ≡ entry (found_out (found.At (tag_of r p) (start_of r p) (length_of r p))) (body_of r p)
+      from_list : p < count r → entry_from (entries_of r) p (entry_of r p) ≡ entry (found_at (tag_of r p) (start_of r p) (length_of r p)) (body_of r p)
       from_list h = rw (body-length r full (valid-is r e) p h, sym (start_is r full (valid-is r e) p h))
 
       read_found : p < count r → entry (found_of r p) (body_at r p) ≡ read_from (listed_of r) p
       unfolding found_of body_at
       read_found h =
-          let x : found_out (found.At (tag_of r p) (start_of r p) (length_of r p)) ≡ found_of r p = picks-yes r _ _ _ _ _ full e (lt-ltb p (count r) h) in
+          let x : found_at (tag_of r p) (start_of r p) (length_of r p) ≡ found_of r p = picks-yes r _ _ _ _ _ full e (lt-ltb p (count r) h) in
           let y : body_of r p ≡ body_at r p = picks-yes r _ _ _ _ _ full e (lt-ltb p (count r) h) in
           let z : entry_from (entries_of r) p (entry_of r p) ≡ read_from (listed (entries_of r)) p = rw (entries-length, lt-ltb p (count r) h, entries_at h) in
           ap (λ f. entry f (body_at r p)) (sym x)
-          ∙ ap (λ b. entry (found_out (found.At (tag_of r p) (start_of r p) (length_of r p))) b) (sym y)
+          ∙ ap (λ b. entry (found_at (tag_of r p) (start_of r p) (length_of r p)) b) (sym y)
           ∙ sym (from_list h) ∙ z ∙ ap (λ s. read_from s p) (sym (listed-valid r e))
 
     read_by : (a : Bool) → valid r ≡ a → entry (found_of r p) (body_at r p) ≡ read_from (listed_of r) p

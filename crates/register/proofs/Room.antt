@@ -7,7 +7,8 @@ use mathlib.Core.List.{List, [], ◌∷◌, ◌++◌, append_assoc, append-nil}
 use lib.ListN.{length, length-append}
 use borrow.Author.Tests.{lt-ltb, le-ltb, le-leb, lt-leb}
 use Rattle.loops.specs.Loop.{pick}
-use Rattle.register.specs.declared.RegisterAnswer.TheVariants.{Done, Full}
+use Rattle.std.specs.Prelude.{Ok, Err}
+use Rattle.register.specs.declared.RegisterError.TheVariants.{Full}
 use Rattle.register.specs.Layout.{size, max_entries, first_body, max_body, Listed, listed, Entry, listed_of}
 use Rattle.register.specs.Adding.{steps}
 use Rattle.register.specs.Answers.{code_of, emptied_of, added_of}
@@ -81,7 +82,7 @@ module _ (xs : List Entry) (r : List ℕ) (full : size ≤ length r) (h : Entrie
       ∙ ap (add_all xs) (empty-is r full) ∙ all-taken xs [] h (omega arith) (omega arith)
 
   -- and one more is taken exactly where there is room: else 18
-  pub one_more : (t : ℕ) (b : List ℕ) → (added_of (adds_all xs (emptied_of r).register) t b).code ≡ code_of (pick (room_for xs (length b)) Done Full)
+  pub one_more : (t : ℕ) (b : List ℕ) → (added_of (adds_all xs (emptied_of r).register) t b).code ≡ code_of (pick (room_for xs (length b)) (Ok tt) (Err Full))
   one_more t b =
       told_is (adds_all xs (emptied_of r).register) (omega (arith, adds-length xs (emptied_of r).register, empty-length r full)) t b
       ∙ ap (λ s. code_of (add_told s (length b))) all-added

@@ -1,12 +1,11 @@
 -- P2, whole lists of calls: what they tell and leave, and the same on a plain list of entries
-use Rattle.std.specs.Prelude.{ℕ, ◌+◌, ◌<◌, ◌≡◌, Bool, ◌&&◌, List, [], ◌∷◌, ◌++◌, length, get_or, take, ltb, leb}
+use Rattle.std.specs.Prelude.{ℕ, ◌+◌, ◌<◌, ◌≡◌, Bool, ◌&&◌, List, [], ◌∷◌, ◌++◌, length, get_or, take, ltb, leb, Result, Ok, Err, None}
 use Rattle.loops.specs.Loop.{pick}
-use Rattle.register.specs.declared.RegisterAnswer.{RegisterAnswer}
-use Rattle.register.specs.declared.RegisterAnswer.TheVariants.{Done, Invalid, Full}
-use Rattle.register.specs.declared.Found.TheVariants as found
+use Rattle.register.specs.declared.RegisterError.{RegisterError}
+use Rattle.register.specs.declared.RegisterError.TheVariants.{Invalid, Full}
 use Rattle.register.specs.Layout.{size, max_entries, first_body, max_body, Listed, invalid, listed, Entry}
 use Rattle.register.specs.Adding.{added_after, new_entry}
-use Rattle.register.specs.Answers.{code_of, adding_of, emptied_of, added_of, FoundOut, found_out, found_of, body_at}
+use Rattle.register.specs.Answers.{code_of, adding_of, emptied_of, added_of, FoundOut, found_at, found_out, found_of, body_at}
 
 -- a call; `cutting t b k` is an add whose power goes after k steps
 pub data Call : Type 0 where
@@ -66,22 +65,22 @@ abbrev pub add_to : ℕ → List ℕ → Listed → Listed
 add_to t b invalid = invalid
 add_to t b (listed es) = pick (room_for es (length b)) (listed (es ++ (new_entry t b ∷ []))) (listed es)
 
-abbrev pub add_told : Listed → ℕ → RegisterAnswer
-add_told invalid m = Invalid
-add_told (listed es) m = pick (room_for es m) Done Full
+abbrev pub add_told : Listed → ℕ → Result (Unit {0}) RegisterError
+add_told invalid m = Err Invalid
+add_told (listed es) m = pick (room_for es m) (Ok tt) (Err Full)
 
 -- entry p of the list; its body starts after those before it
 abbrev pub entry_from : List Entry → ℕ → Entry → Told
-entry_from es p x = entry (found_out (found.At x.tag (first_body + bytes_of (take p es)) (length x.body))) x.body
+entry_from es p x = entry (found_at x.tag (first_body + bytes_of (take p es)) (length x.body)) x.body
 
 abbrev pub read_from : Listed → ℕ → Told
-read_from invalid p = entry (found_out found.Invalid) []
-read_from (listed es) p = pick (ltb p (length es)) (entry_from es p (get_or es p (new_entry 0 []))) (entry (found_out found.Missing) [])
+read_from invalid p = entry (found_out (Err Invalid)) []
+read_from (listed es) p = pick (ltb p (length es)) (entry_from es p (get_or es p (new_entry 0 []))) (entry (found_out (Ok None)) [])
 
 -- calls on the list s tell ts and leave the list z: an add that was cut counts as made or as not made
 pub data Plain : Listed → List Call → List Told → Listed → Type 0 where
   done : {s : Listed} → Plain s [] [] s
-  emptied : {s n z : Listed} {a : ℕ} {cs : List Call} {ts : List Told} → n ≡ listed [] → a ≡ code_of Done → Plain n cs ts z → Plain s (emptying ∷ cs) (answer a ∷ ts) z
+  emptied : {s n z : Listed} {a : ℕ} {cs : List Call} {ts : List Told} → n ≡ listed [] → a ≡ code_of (Ok tt) → Plain n cs ts z → Plain s (emptying ∷ cs) (answer a ∷ ts) z
   added : {s n z : Listed} {a t : ℕ} {b : List ℕ} {cs : List Call} {ts : List Told} → n ≡ add_to t b s → a ≡ code_of (add_told s (length b)) → Plain n cs ts z → Plain s (adding t b ∷ cs) (answer a ∷ ts) z
   made : {s n z : Listed} {t : ℕ} {b : List ℕ} {k : ℕ} {cs : List Call} {ts : List Told} → n ≡ add_to t b s → Plain n cs ts z → Plain s (cutting t b k ∷ cs) (nothing ∷ ts) z
   lost : {s n z : Listed} {t : ℕ} {b : List ℕ} {k : ℕ} {cs : List Call} {ts : List Told} → n ≡ s → Plain n cs ts z → Plain s (cutting t b k ∷ cs) (nothing ∷ ts) z

@@ -96,12 +96,10 @@ pub fn valid(r: &[u8]) -> bool
     if MAX_ENTRIES < n {
         return false;
     }
-    let mut j = 0;
-    while j < n {
+    for j in 0..n {
         if !valid_entry(r, j) {
             return false;
         }
-        j += 1;
     }
     true
 }

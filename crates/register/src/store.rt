@@ -60,9 +60,7 @@ pub fn store_all(r: &mut [u8], tag: u16, body: &[u8])
 {
     let n = contents::count(r);
     let e = contents::end_before(r, n);
-    let mut k = 0;
-    while k < body.len() + 7 {
+    for k in 0..body.len() + 7 {
         store(r, n, e, tag, body, k);
-        k += 1;
     }
 }

@@ -9,9 +9,11 @@ use lib.Dec.{ltb, eqb}
 use borrow.Author.Tests.{ltb-true}
 use Rattle.loops.specs.Loop.{pick}
 use Rattle.register.specs.Layout.{size, max_entries, count, valid}
-use Rattle.register.specs.Answers.{refusing, FoundOut, found_of}
+use Rattle.register.specs.declared.RegisterError.{RegisterError}
+use Rattle.register.specs.declared.RegisterError.TheVariants.{Short, Invalid, Full}
+use Rattle.register.specs.Answers.{error_code, refusing, none, FoundOut, found_of}
 use Rattle.register.proofs.Rules.{valid-is}
-use Rattle.register_walk.specs.Walk.{started_of, WalkOut, stays, walked_of}
+use Rattle.register_walk.specs.Walk.{WalkOut, stays, walked_of}
 
 -- the step that the numbers of a reading lead to
 abbrev from_found : ℕ → FoundOut → WalkOut
@@ -30,15 +32,11 @@ module _ (r : List ℕ) (p : ℕ) where
   pub step-law : (f : FoundOut) → f ≡ found_of r p → from_found p f ≡ walked_of r p
   step-law f e = ap (from_found p) e ∙ step_by _ _ _ refl refl refl
 
-  start-by : (a b c : Bool) → ltb (length r) size ≡ a → valid r ≡ b → ltb p (count r) ≡ c → (found_of r p).code ≡ started_of r
-  unfolding found_of started_of refusing
-  start-by true b c x y z = simp x
-  start-by false false c x y z = simp (x, y)
-  start-by false true false x y z = simp (x, y, z)
-  start-by false true true x y z = simp (x, y, z)
-
-  pub start-law : (f : FoundOut) → f ≡ found_of r p → f.code ≡ started_of r
-  start-law f e = ap (λ o. o.code) e ∙ start-by _ _ _ refl refl refl
+  -- the refusals
+  pub refused : (e : RegisterError) → none (error_code e) ≡ found_of r p → stays p (error_code e) ≡ walked_of r p
+  refused Short h = step-law _ h
+  refused Invalid h = step-law _ h
+  refused Full h = step-law _ h
 
   within_by : (a b c : Bool) → ltb (length r) size ≡ a → valid r ≡ b → ltb p (count r) ≡ c → (found_of r p).found ≡ 1 → p < max_entries
   unfolding found_of refusing

@@ -11,8 +11,7 @@ use Rattle.loops.specs.Loop.{up_to}
 use Rattle.register.specs.Layout.{size, count, start_of, length_of, tag_of, valid, body_of, entry_of, entries_of}
 use Rattle.register.specs.Answers.{body_at}
 use Rattle.register.proofs.Paths.{is-short, is-invalid, picks-yes, picks-no}
-use Rattle.register_walk.specs.declared.Walked.TheVariants as walked
-use Rattle.register_walk.specs.Walk.{stays, walked_out, walked_of, Step, step_of, walk, handed}
+use Rattle.register_walk.specs.Walk.{stays, hands, walked_of, Step, step_of, walk, handed}
 
 -- 1 and 17 are told at every place, and do not move it
 pub walk-short : (r : List ℕ) (p : ℕ) → length r < size → walked_of r p ≡ stays p 1
@@ -26,7 +25,7 @@ walk-invalid r p h e = sym (is-invalid r _ _ _ h e)
 module _ (r : List ℕ) (full : size ≤ length r) (e : valid r ≡ true) where
   -- an entry, with its body, and on to the next place
   abbrev entry_step : ℕ → Step
-  entry_step p = record { out = walked_out p (walked.At (tag_of r p) (start_of r p) (length_of r p) (p + 1)); body = body_of r p }
+  entry_step p = record { out = hands (tag_of r p) (start_of r p) (length_of r p) (p + 1); body = body_of r p }
 
   -- the end, which does not move the place
   abbrev end_step : ℕ → Step
@@ -35,7 +34,7 @@ module _ (r : List ℕ) (full : size ≤ length r) (e : valid r ≡ true) where
   pub walk-on : (p : ℕ) → p < count r → step_of r p ≡ entry_step p
   unfolding walked_of body_at
   walk-on p h =
-      let x : walked_out p (walked.At (tag_of r p) (start_of r p) (length_of r p) (p + 1)) ≡ walked_of r p = picks-yes r _ _ _ _ _ full e (lt-ltb p (count r) h) in
+      let x : hands (tag_of r p) (start_of r p) (length_of r p) (p + 1) ≡ walked_of r p = picks-yes r _ _ _ _ _ full e (lt-ltb p (count r) h) in
       let y : body_of r p ≡ body_at r p = picks-yes r _ _ _ _ _ full e (lt-ltb p (count r) h) in
       rw (sym x, sym y)
 

@@ -1,16 +1,16 @@
 -- P12, walking a register: what each step tells, in the paper's numbers, and whole walks
-use Rattle.std.specs.Prelude.{ℕ, zero, suc, ◌+◌, List, [], ◌∷◌, ltb, eqb}
+use Rattle.std.specs.Prelude.{ℕ, zero, suc, ◌+◌, List, [], ◌∷◌, ltb, eqb, Result, Ok, Err, Option, None, Some}
 use Rattle.loops.specs.Loop.{pick}
-use Rattle.register.specs.declared.RegisterAnswer.TheVariants.{Done, Short, Invalid}
+use Rattle.register.specs.declared.RegisterError.{RegisterError}
+use Rattle.register.specs.declared.RegisterError.TheVariants.{Short, Invalid}
 use Rattle.register.specs.Layout.{count, start_of, length_of, tag_of, Entry}
 use Rattle.register.specs.Adding.{new_entry}
-use Rattle.register.specs.Answers.{code_of, refusing, body_at}
-use Rattle.register_walk.specs.declared.Walked.{Walked}
-use Rattle.register_walk.specs.declared.Walked.TheVariants as walked
+use Rattle.register.specs.Answers.{error_code, code_of, refusing, body_at}
+use Rattle.register_walk.specs.declared.Step as declared
 
 -- the start: "a short register gives 1 and a bad layout 17"
 unfoldable pub started_of : List ℕ → ℕ
-started_of r = refusing r (code_of Short) (code_of Invalid) (code_of Done)
+started_of r = refusing r (code_of (Err Short)) (code_of (Err Invalid)) (code_of (Ok tt))
 
 -- the numbers of a step: an entry's tag, where its body stands, and the next place
 pub record WalkOut : Type 0 where
@@ -24,18 +24,21 @@ pub record WalkOut : Type 0 where
 abbrev pub stays : ℕ → ℕ → WalkOut
 stays p c = record { code = c; tag = 0; start = 0; size = 0; next = p }
 
+-- an entry is handed out
+abbrev pub hands : ℕ → ℕ → ℕ → ℕ → WalkOut
+hands t s n q = record { code = 0; tag = t; start = s; size = n; next = q }
+
 -- an answer to a step from the place p; 255 is "at the end"
-abbrev pub walked_out : ℕ → Walked → WalkOut
-walked_out p walked.Short = stays p 1
-walked_out p walked.Invalid = stays p 17
-walked_out p walked.End = stays p 255
-walked_out p (walked.At t s n q) = record { code = 0; tag = t; start = s; size = n; next = q }
+abbrev pub walked_out : ℕ → Result (Option declared.Step) RegisterError → WalkOut
+walked_out p (Err e) = stays p (error_code e)
+walked_out p (Ok None) = stays p 255
+walked_out p (Ok (Some x)) = hands x.found.tag x.found.start x.found.length x.next
 
 -- the step from a place: the entry there, and on to the next place; "a place past the last entry is the end"; "neither moves the place"
 unfoldable pub walked_of : List ℕ → ℕ → WalkOut
 walked_of r p =
-    refusing r (walked_out p walked.Short) (walked_out p walked.Invalid)
-    (pick (ltb p (count r)) (walked_out p (walked.At (tag_of r p) (start_of r p) (length_of r p) (p + 1))) (walked_out p walked.End))
+    refusing r (walked_out p (Err Short)) (walked_out p (Err Invalid))
+    (pick (ltb p (count r)) (hands (tag_of r p) (start_of r p) (length_of r p) (p + 1)) (walked_out p (Ok None)))
 
 -- what a step hands out: its numbers, and the body at its place
 pub record Step : Type 0 where

@@ -5,74 +5,44 @@ ghost use Rattle.std.specs.Prelude.{◌≡◌};
 ghost use Rattle.register.specs.Answers.{code_of, body_at};
 ghost use Rattle.register_walk.specs.Walk.{started_of, walked_out, walked_of};
 
-use register::{Found, RegisterAnswer};
+use register::{Found, RegisterError};
 
-// What a step of a walk answers.
-#[derive(Clone, Copy)]
-pub enum Walked {
-    Short,
-    Invalid,
-    // Past the last entry.
-    End,
-    // The tag, where the body stands in the register, and the place of the next step.
-    At {
-        tag: u16,
-        start: usize,
-        length: usize,
-        next: usize,
-    },
+// A step of a walk: the entry that it hands out, and the place of the next step.
+#[derive(Clone, Copy, Debug, PartialEq, Eq)]
+pub struct Step {
+    pub found: Found,
+    pub next: usize,
 }
 
-// Whether a walk can start: 0, 1 or 17.
-pub fn start(register: &[u8]) -> RegisterAnswer
+// Whether a walk can start. Refusals 1, 17.
+pub fn start(register: &[u8]) -> Result<(), RegisterError>
     ensures { code_of result ≡ started_of register.now }
 {
-    let found = register::entry(register, 0);
-    match found {
-        Found::Short => RegisterAnswer::Short,
-        Found::Invalid => RegisterAnswer::Invalid,
-        Found::Missing => RegisterAnswer::Done,
-        Found::At {
-            tag: _,
-            start: _,
-            length: _,
-        } => RegisterAnswer::Done,
-    }
+    register::ready(register)
 }
 
-// A step of a walk from a place counted from 0, in plain parameters. Refusals 1, 17; these and the end leave the place as it was.
-pub fn walk_at(register: &[u8], place: usize) -> Walked
+// A step of a walk from a place counted from 0, in plain parameters; none past the last entry. Refusals 1, 17; these and the end leave the place as it was.
+pub fn walk_at(register: &[u8], place: usize) -> Result<Option<Step>, RegisterError>
     ensures { walked_out place result ≡ walked_of register.now place }
 {
-    let found = register::entry(register, place);
+    let found = register::entry(register, place)?;
     match found {
-        Found::Short => Walked::Short,
-        Found::Invalid => Walked::Invalid,
-        Found::Missing => Walked::End,
-        Found::At { tag, start, length } => Walked::At {
-            tag,
-            start,
-            length,
+        Some(found) => Ok(Some(Step {
+            found,
             next: place + 1,
-        },
+        })),
+        None => Ok(None),
     }
 }
 
-// internal: the place after a step from a place.
-pub fn place_after(register: &[u8], place: usize) -> usize
-    ensures { result ≡ (walked_of register.now place).next }
+// The place after a step from a place.
+fn place_after(walked: Result<Option<Step>, RegisterError>, place: usize) -> usize
+    ensures { result ≡ (walked_out place walked).next }
 {
-    let walked = walk_at(register, place);
     match walked {
-        Walked::Short => place,
-        Walked::Invalid => place,
-        Walked::End => place,
-        Walked::At {
-            tag: _,
-            start: _,
-            length: _,
-            next,
-        } => next,
+        Ok(Some(step)) => step.next,
+        Ok(None) => place,
+        Err(_) => place,
     }
 }
 
@@ -98,13 +68,10 @@ pub fn body<'a>(r: RegisterReader<'a>) -> &'a [u8]
 }
 
 // A step: the reader moves on past the entry that is handed out; the end and the refusals 1 and 17 leave it where it was.
-pub fn next<'s, 'a>(r: &'s mut RegisterReader<'a>) -> Walked
+pub fn next<'s, 'a>(r: &'s mut RegisterReader<'a>) -> Result<Option<Step>, RegisterError>
     ensures { (walked_out r.old.next result ≡ walked_of r.old.register.now r.old.next) × (r.new.register ≡ r.old.register) × (r.new.next ≡ (walked_of r.old.register.now r.old.next).next) }
 {
-    let register = r.register;
-    let place = r.next;
-    let walked = walk_at(register, place);
-    let next = place_after(register, place);
-    r.next = next;
+    let walked = walk_at(r.register, r.next);
+    r.next = place_after(walked, r.next);
     walked
 }

@@ -106,20 +106,18 @@ fn read_block(rt: &(impl Input + Print + Eprint), g: Progress) -> Step
     }
 }
 
-// Reads to the end. Nothing says that the input ends, so the blocks are counted down from a number that no input has.
+// Reads to the end. Nothing says that the input ends, so there are only as many turns as no input has blocks.
 fn read_all(rt: &(impl Input + Print + Eprint)) -> Step
     ensures { Bounded result.progress.line }
 {
     let mut progress = report_blocks::begin();
-    let mut left = u64::MAX;
-    while left > 0 {
+    for _ in 0..u64::MAX {
         let r = read_block(rt, progress);
         if !r.more {
             return r;
         }
         let p = r.progress;
         progress = p;
-        left -= 1;
     }
     Step {
         more: true,

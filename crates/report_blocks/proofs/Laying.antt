@@ -18,7 +18,7 @@ use Rattle.report_entry.specs.Entry.{line_of, accepted_of}
 use Rattle.report_entry.specs.Laid.{Reports}
 use Rattle.report_entry.specs.declared.Reported.{Reported}
 use Rattle.report_blocks.specs.declared.Tally.{Tally}
-use Rattle.report_blocks.specs.declared.whole.Printed.TheVariants.{Bytes, Refused}
+use Rattle.std.proofs.Common.{Ok, Err}
 use Rattle.refusal.specs.declared.Refusal.TheVariants.{Short}
 use Rattle.report_blocks.specs.Report.{start, counted, report_from, report_of}
 use Rattle.report_blocks.specs.Reply.{printed, reply_of}
@@ -81,14 +81,14 @@ capped_same n m h g = ap (λ t. pick t n most_count) (lt-ltb n most_count (omega
 
 module _ (input out : List ℕ) (size : ℕ) (e : size ≡ capped (length (report_of input))) where
   -- the report does not fit
-  pub reply-short : length out < size → printed (Refused Short) out ≡ reply_of input out
+  pub reply-short : length out < size → printed (Err Short) out ≡ reply_of input out
   unfolding reply_of
   reply-short h =
-      sym (ap (λ t. pick t (record { code = 0; size = length (report_of input); output = filled (report_of input) (length out) }) (printed (Refused Short) out))
+      sym (ap (λ t. pick t (record { code = 0; size = length (report_of input); output = filled (report_of input) (length out) }) (printed (Err Short) out))
       (lt-leb (length (report_of input)) (length out) (capped-above (length (report_of input)) (length out) (omega (arith, e, h)))))
 
   -- it fits, is laid, and zeros follow
-  pub reply-fits : {after last : List ℕ} {r : ℕ} → length out < most_count → size ≤ length out → Wrote (report_of input) (buffer_at out 0) (buffer_at after r) → last ≡ take size after ++ replicate (length after - size) 0 → printed (Bytes size) last ≡ reply_of input out
+  pub reply-fits : {after last : List ℕ} {r : ℕ} → length out < most_count → size ≤ length out → Wrote (report_of input) (buffer_at out 0) (buffer_at after r) → last ≡ take size after ++ replicate (length after - size) 0 → printed (Ok size) last ≡ reply_of input out
   unfolding reply_of
   reply-fits {after} {last} {r} m h w c =
       let n : ℕ = length (report_of input) in

@@ -9,13 +9,6 @@ use refusal::Refusal;
 use report_lines::input::line_end;
 use report_lines::output;
 
-// What the report's call answers: the number of bytes, or a refusal.
-#[derive(Clone, Copy)]
-pub enum Printed {
-    Bytes(usize),
-    Refused(Refusal),
-}
-
 // The report, laid as far as the output has room. The place after it.
 fn lay(input: &[u8], out: &mut [u8]) -> usize
     ensures { Wrote (report_of input.now) (buffer_at out.old 0) (buffer_at out.new result) }
@@ -45,15 +38,15 @@ pub fn report_length(input: &[u8]) -> usize
     lay(input, &mut none)
 }
 
-// The report of an input, and zeros after it. 1 where it does not fit, and nothing changes.
-pub fn report(input: &[u8], out: &mut [u8]) -> Printed
+// The report of an input, and zeros after it: the number of its bytes. 1 where it does not fit, and nothing changes.
+pub fn report(input: &[u8], out: &mut [u8]) -> Result<usize, Refusal>
     ensures { printed result out.new ≡ reply_of input.now out.old }
 {
     let size = report_length(input);
     if out.len() < size {
-        return Printed::Refused(Refusal::Short);
+        return Err(Refusal::Short);
     }
     lay(input, out);
     buffer::clear_from(out, size);
-    Printed::Bytes(size)
+    Ok(size)
 }

@@ -12,11 +12,9 @@ ghost use Rattle.report_entry.specs.Entry.{refused_as, of_written, of_molecule};
 ghost use Rattle.report_entry.specs.Laid.{Says, Reports};
 
 use ids::MAX_TEXT;
-use reader::ending::ReadAnswer;
 use refusal::Refusal;
 use report_lines::output;
-use table::{ATOM_CELLS, BOND_CELLS, Check, MAX_ATOMS, MAX_BONDS};
-use writer::Written;
+use table::{ATOM_CELLS, BOND_CELLS, MAX_ATOMS, MAX_BONDS, Tables};
 
 // Room that is enough for a line: numbers and marks take 91 bytes at most, beside the row and the text.
 pub const LINE_ROOM: usize = 91 + (MAX_BONDS + MAX_TEXT);
@@ -42,27 +40,24 @@ fn refuse(k: usize, r: Refusal, p: usize, out: &mut [u8], at: usize) -> Reported
 // The line of a kekulized molecule: the row that it was kekulized by, and its text.
 fn report_kekulized(
     k: usize,
-    atoms: &[i32],
-    bonds: &[i32],
-    n: usize,
-    m: usize,
+    tables: Tables,
     overfull: usize,
     row: &[u8],
     out: &mut [u8],
     at: usize,
 ) -> Reported
-    requires { (m ≤ length row.now) × Writable atoms.now bonds.now n m }
-    ensures { Says k (of_written n m overfull row.now (write_of atoms.now bonds.now n m (replicate max_text 0) (replicate max_atoms 0))) result (buffer_at out.old at) out.new }
+    requires { (tables.m ≤ length row.now) × Writable tables.atoms.now tables.bonds.now tables.n tables.m }
+    ensures { Says k (of_written tables.entry.n tables.entry.m overfull row.now (write_of tables.entry.atoms.now tables.entry.bonds.now tables.entry.n tables.entry.m (replicate max_text 0) (replicate max_atoms 0))) result (buffer_at out.old at) out.new }
 {
+    let Tables { n, m, .. } = tables;
     let mut text = [0u8; MAX_TEXT];
     let mut numbers = [0u16; MAX_ATOMS];
-    let w = writer::write_valid(atoms, bonds, n, m, &mut text, &mut numbers);
-    match w {
-        Written::Text(size) => {
+    match writer::write_valid(tables, &mut text, &mut numbers) {
+        Ok(size) => {
             let at = output::accepted(out, at, k, n, m, overfull, &row[..m], &text[..size]);
             Reported { accepted: true, at }
         }
-        Written::Refused(r) => refuse(k, r, 0, out, at),
+        Err(r) => refuse(k, r, 0, out, at),
     }
 }
 
@@ -83,8 +78,8 @@ fn report_molecule(
     let mut row = [0u8; MAX_BONDS];
     let c = standard::settle(atoms, bonds, n, m, &mut row);
     match c {
-        Check::Fine => report_kekulized(k, atoms, bonds, n, m, overfull, &row, out, at),
-        Check::Refused(r) => refuse(k, r, 0, out, at),
+        Ok(()) => report_kekulized(k, Tables { atoms, bonds, n, m }, overfull, &row, out, at),
+        Err(r) => refuse(k, r, 0, out, at),
     }
 }
 
@@ -96,9 +91,11 @@ pub fn report_line(k: usize, s: &[u8], out: &mut [u8], at: usize) -> Reported
     let mut bonds = [0i32; BOND_CELLS * MAX_BONDS];
     let a = reader::read_zeroed(s, &mut atoms, &mut bonds);
     match a {
-        ReadAnswer::Refused(r, p) => refuse(k, r, p, out, at),
-        ReadAnswer::Molecule(n, m, overfull) => {
-            report_molecule(k, &mut atoms, &mut bonds, n, m, overfull, out, at)
+        Err(e) => refuse(k, e.refusal, e.at, out, at),
+        Ok(t) => {
+            report_molecule(
+                k, &mut atoms, &mut bonds, t.atoms, t.bonds, t.overfull, out, at,
+            )
         }
     }
 }

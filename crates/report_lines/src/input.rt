@@ -8,6 +8,7 @@ use ids::MAX_TEXT;
 pub const MAX_LINE: usize = MAX_TEXT + 1;
 
 // The line so far: its first bytes. Further bytes are dropped.
+// Stays: memory is fixed, so the bytes have their length beside them and no Vec holds them.
 #[derive(Clone, Copy)]
 pub struct Line {
     pub bytes: [u8; MAX_LINE],
@@ -15,6 +16,7 @@ pub struct Line {
 }
 
 // Whether the line's end was met; the place after what was taken; the line.
+// Stays: the place is told whether or not the end was met, so that the flag makes no Option of it.
 #[derive(Clone, Copy)]
 pub struct Filled {
     pub done: bool,
@@ -37,26 +39,25 @@ impl Line {
         requires { Bounded self }
         ensures { Fills self s.now from result }
     {
-        let mut i = from;
-        while i < s.len() {
+        for i in from..s.len() {
             let b = s[i];
-            i += 1;
             if b == b'\n' {
                 return Filled {
                     done: true,
-                    at: i,
+                    at: i + 1,
                     line: self,
                 };
             }
             let n = self.len;
-            if n < MAX_LINE {
-                self.bytes[n] = b;
-                self.len = n + 1;
+            if MAX_LINE <= n {
+                continue;
             }
+            self.bytes[n] = b;
+            self.len = n + 1;
         }
         Filled {
             done: false,
-            at: i,
+            at: s.len(),
             line: self,
         }
     }
@@ -67,12 +68,10 @@ pub fn line_end(s: &[u8], from: usize) -> usize
     requires { from < length s.now }
     ensures { Ends s.now from result }
 {
-    let mut i = from;
-    while i < s.len() {
+    for i in from..s.len() {
         if s[i] == b'\n' {
             return i;
         }
-        i += 1;
     }
-    i
+    s.len()
 }

@@ -44,10 +44,8 @@ fn bits(out: &mut [u8], at: usize, row: &[u8]) -> usize
     ensures { Wrote (row_text row.now) (buffer_at out.old at) (buffer_at out.new result) }
 {
     let mut to = at;
-    let mut i = 0;
-    while i < row.len() {
-        to = buffer::put(out, to, bit(row[i]));
-        i += 1;
+    for &b in row {
+        to = buffer::put(out, to, bit(b));
     }
     to
 }

@@ -11,10 +11,12 @@ ghost use Rattle.same.specs.Ready.{Ready, Decided};
 
 use ids::BondId;
 use refusal::Refusal;
+use same_decide::{Drawn, Pair};
 use same_place::{CELLS, SIDE};
-use table::{MAX_ATOMS, MAX_BONDS};
+use table::{MAX_ATOMS, MAX_BONDS, Tables};
 
 // What the call answers.
+// Stays: a Result would need a second enum for its two kinds of refusal, and a bool for Same and Different.
 #[derive(Clone, Copy)]
 pub enum Sameness {
     // Both rows and the renumbering are handed out.
@@ -38,27 +40,12 @@ pub fn sameness_code(a: Sameness) -> u8
 }
 
 // The tables, rows and renumbering of both molecules are as long as they have to be.
-fn roomy(
-    atoms1: &[i32],
-    bonds1: &[i32],
-    atoms2: &[i32],
-    bonds2: &[i32],
-    row1: &[u8],
-    row2: &[u8],
-    ren: &[u16],
-) -> bool
-    ensures { result ≡ roomy_both (molecule atoms1.now bonds1.now 0 0) (molecule atoms2.now bonds2.now 0 0) row1.now row2.now ren.now }
+fn roomy(tables1: Tables, tables2: Tables, row1: &[u8], row2: &[u8], ren: &[u16]) -> bool
+    ensures { result ≡ roomy_both (molecule tables1.entry.atoms.now tables1.entry.bonds.now 0 0) (molecule tables2.entry.atoms.now tables2.entry.bonds.now 0 0) row1.now row2.now ren.now }
 {
-    let first = (MAX_BONDS <= row1.len()) & table_validity::enough(atoms1, bonds1);
-    let second = (MAX_BONDS <= row2.len()) & table_validity::enough(atoms2, bonds2);
+    let first = (MAX_BONDS <= row1.len()) & table_validity::enough(tables1.atoms, tables1.bonds);
+    let second = (MAX_BONDS <= row2.len()) & table_validity::enough(tables2.atoms, tables2.bonds);
     first & second & (MAX_ATOMS <= ren.len())
-}
-
-// A byte as a wider number.
-fn wide(x: u8) -> u16
-    ensures { result ≡ x }
-{
-    x as u16
 }
 
 // The number at a place of the renumbering that was found; 0 past its end.
@@ -67,7 +54,7 @@ fn found_at(found: &[u8; SIDE], n: usize, i: usize) -> u16
     ensures { result ≡ pick (ltb i n) (get_or found.now i 0) 0 }
 {
     if i < n {
-        return wide(found[i]);
+        return found[i] as u16;
     }
     0
 }
@@ -77,80 +64,83 @@ fn hand_out(found: &[u8; SIDE], n: usize, ren: &mut [u16])
     requires { (n ≤ max_same) × (n ≤ length ren.old) × (n ≤ length found.now) }
     ensures { ren.new ≡ fill (length ren.old) (take n found.now) }
 {
-    let mut i = 0;
-    while i < ren.len() {
+    for i in 0..ren.len() {
         ren[i] = found_at(found, n, i);
-        i += 1;
     }
 }
 
-// Whether two molecules of equally many atoms, with the keys of their atoms, are the same.
+// Whether two molecules of as many atoms as the first, with the keys of their atoms, are the same.
 fn decide_keyed(
     keys1: &[u64; SIDE],
-    atoms1: &[i32],
-    bonds1: &[i32],
-    m1: usize,
+    tables1: Tables,
     keys2: &[u64; SIDE],
-    atoms2: &[i32],
-    bonds2: &[i32],
-    m2: usize,
-    n: usize,
+    tables2: Tables,
     row1: &mut [u8],
     row2: &mut [u8],
     ren: &mut [u16],
 ) -> bool
-    requires ready { Ready (molecule atoms1.now bonds1.now n m1) row1.old }
-    requires ready_2 { Ready (molecule atoms2.now bonds2.now n m2) row2.old }
-    requires keys1_value { (keys1.now ≡ keys_of (molecule atoms1.now bonds1.now n m1)) × (keys2.now ≡ keys_of (molecule atoms2.now bonds2.now n m2)) }
-    requires n_in_bounds { n ≤ length ren.old }
-    ensures { Decided (molecule atoms1.now bonds1.now n m1) (molecule atoms2.now bonds2.now n m2) row1.old row2.old ren.old result row1.new row2.new ren.new }
+    requires ready { Ready (molecule tables1.atoms.now tables1.bonds.now tables1.n tables1.m) row1.old }
+    requires ready_2 { Ready (molecule tables2.atoms.now tables2.bonds.now tables1.n tables2.m) row2.old }
+    requires keys1_value { (keys1.now ≡ keys_of (molecule tables1.atoms.now tables1.bonds.now tables1.n tables1.m)) × (keys2.now ≡ keys_of (molecule tables2.atoms.now tables2.bonds.now tables1.n tables2.m)) }
+    requires n_in_bounds { tables1.n ≤ length ren.old }
+    ensures { Decided (molecule tables1.entry.atoms.now tables1.entry.bonds.now tables1.entry.n tables1.entry.m) (molecule tables2.entry.atoms.now tables2.entry.bonds.now tables1.entry.n tables2.entry.m) row1.old row2.old ren.old result row1.new row2.new ren.new }
 {
-    let on = same_keys::scattered(bonds1, n, m1);
+    let n = tables1.n;
+    let on = same_keys::scattered(tables1.bonds, n, tables1.m);
     let mut base1 = [0u16; CELLS];
-    same_keys::fill_pairs(on, atoms1, bonds1, n, m1, keys1, &mut base1);
+    same_keys::fill_pairs(on, tables1, keys1, &mut base1);
     let mut base2 = [0u16; CELLS];
-    same_keys::fill_pairs(on, atoms2, bonds2, n, m2, keys2, &mut base2);
+    same_keys::fill_pairs(on, Tables { n, ..tables2 }, keys2, &mut base2);
     let mut ok = [0u8; CELLS];
-    same_drawing::fill_matches(atoms1, keys1, atoms2, keys2, n, &mut ok);
+    same_drawing::fill_matches(tables1.atoms, keys1, tables2.atoms, keys2, n, &mut ok);
+    let pair = Pair {
+        first: Drawn {
+            base: &base1,
+            keys: keys1,
+            atoms: tables1.atoms,
+            bonds: tables1.bonds,
+            m: tables1.m,
+        },
+        second: Drawn {
+            base: &base2,
+            keys: keys2,
+            atoms: tables2.atoms,
+            bonds: tables2.bonds,
+            m: tables2.m,
+        },
+        ok: &ok,
+        n,
+    };
     let mut found = [0u8; SIDE];
-    let yes = same_decide::first_row(
-        &ok, &base1, keys1, atoms1, bonds1, m1, &base2, keys2, atoms2, bonds2, n, m2, row1, row2,
-        &mut found,
-    );
+    let yes = same_decide::first_row(pair, row1, row2, &mut found);
     hand_out(&found, n, ren);
     yes
 }
 
-// Whether two molecules of equally many atoms are the same: not where the keys of their atoms have unequal sums.
+// Whether two molecules of as many atoms as the first are the same: not where the keys of their atoms have unequal sums.
 fn decide_equal(
-    atoms1: &[i32],
-    bonds1: &[i32],
-    m1: usize,
-    atoms2: &[i32],
-    bonds2: &[i32],
-    m2: usize,
-    n: usize,
+    tables1: Tables,
+    tables2: Tables,
     row1: &mut [u8],
     row2: &mut [u8],
     ren: &mut [u16],
 ) -> bool
-    requires ready { Ready (molecule atoms1.now bonds1.now n m1) row1.old }
-    requires ready_2 { Ready (molecule atoms2.now bonds2.now n m2) row2.old }
-    requires n_in_bounds { n ≤ length ren.old }
-    ensures { Decided (molecule atoms1.now bonds1.now n m1) (molecule atoms2.now bonds2.now n m2) row1.old row2.old ren.old result row1.new row2.new ren.new }
+    requires ready { Ready (molecule tables1.atoms.now tables1.bonds.now tables1.n tables1.m) row1.old }
+    requires ready_2 { Ready (molecule tables2.atoms.now tables2.bonds.now tables1.n tables2.m) row2.old }
+    requires n_in_bounds { tables1.n ≤ length ren.old }
+    ensures { Decided (molecule tables1.entry.atoms.now tables1.entry.bonds.now tables1.entry.n tables1.entry.m) (molecule tables2.entry.atoms.now tables2.entry.bonds.now tables1.entry.n tables2.entry.m) row1.old row2.old ren.old result row1.new row2.new ren.new }
 {
+    let n = tables1.n;
     let mut keys1 = [0u64; SIDE];
-    same_keys::fill_keys(atoms1, bonds1, n, m1, &mut keys1);
+    same_keys::fill_keys(tables1, &mut keys1);
     let mut keys2 = [0u64; SIDE];
-    same_keys::fill_keys(atoms2, bonds2, n, m2, &mut keys2);
+    same_keys::fill_keys(Tables { n, ..tables2 }, &mut keys2);
     let sum1 = same_keys::key_sum(&keys1, n);
     let sum2 = same_keys::key_sum(&keys2, n);
     if sum1 != sum2 {
         return false;
     }
-    decide_keyed(
-        &keys1, atoms1, bonds1, m1, &keys2, atoms2, bonds2, m2, n, row1, row2, ren,
-    )
+    decide_keyed(&keys1, tables1, &keys2, tables2, row1, row2, ren)
 }
 
 // Zeros in both rows and in the renumbering.
@@ -170,25 +160,21 @@ fn clear_all(row1: &mut [u8], row2: &mut [u8], ren: &mut [u16])
 // renumbering, first to second, are handed out; the rest of each is zeroed. Different, ManyAtoms (over 64 atoms in either) and
 // 13 (either is not valid) zero all three. 1: a table, a row or the renumbering is too short, and nothing changes.
 pub fn same(
-    atoms1: &[i32],
-    bonds1: &[i32],
-    n1: usize,
-    m1: usize,
-    atoms2: &[i32],
-    bonds2: &[i32],
-    n2: usize,
-    m2: usize,
+    tables1: Tables,
+    tables2: Tables,
     row1: &mut [u8],
     row2: &mut [u8],
     ren: &mut [u16],
 ) -> Sameness
-    ensures { same_out result row1.new row2.new ren.new ≡ same_of (molecule atoms1.now bonds1.now n1 m1) (molecule atoms2.now bonds2.now n2 m2) row1.old row2.old ren.old }
+    ensures { same_out result row1.new row2.new ren.new ≡ same_of (molecule tables1.entry.atoms.now tables1.entry.bonds.now tables1.entry.n tables1.entry.m) (molecule tables2.entry.atoms.now tables2.entry.bonds.now tables2.entry.n tables2.entry.m) row1.old row2.old ren.old }
 {
-    if !roomy(atoms1, bonds1, atoms2, bonds2, row1, row2, ren) {
+    let n1 = tables1.n;
+    let n2 = tables2.n;
+    if !roomy(tables1, tables2, row1, row2, ren) {
         return Sameness::Refused(Refusal::Short);
     }
-    let first = table_validity::sound(atoms1, bonds1, n1, m1);
-    let second = table_validity::sound(atoms2, bonds2, n2, m2);
+    let first = table_validity::sound(tables1);
+    let second = table_validity::sound(tables2);
     if !(first & second) {
         clear_all(row1, row2, ren);
         return Sameness::Refused(Refusal::Invalid);
@@ -201,7 +187,7 @@ pub fn same(
         clear_all(row1, row2, ren);
         return Sameness::Different;
     }
-    if decide_equal(atoms1, bonds1, m1, atoms2, bonds2, m2, n1, row1, row2, ren) {
+    if decide_equal(tables1, tables2, row1, row2, ren) {
         return Sameness::Same;
     }
     clear_all(row1, row2, ren);

@@ -13,7 +13,8 @@ use Rattle.same_place.specs.Place.{entry, Prefix}
 use Rattle.same_keys.specs.Keys.{at}
 use Rattle.same_finer.specs.Finer.{finer_told, Hopeless}
 use Rattle.same_finer.proofs.Keeping.{told-long}
-use Rattle.same_alike.specs.Alike.{like_pair, like_row, is_inside, is_fixed, Like}
+use Rattle.same_alike.specs.Alike.{like_pair, like_row, is_fixed, Like}
+use Rattle.same_open.specs.Open.{is_inside}
 use Rattle.same_alike.proofs.Likeness.{hopeless-back}
 use Rattle.same_alike.proofs.Marks.{marked}
 

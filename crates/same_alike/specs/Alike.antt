@@ -1,5 +1,5 @@
 -- auxiliary: a list that sends the atoms of one side to others of it and keeps all that the search looks at
-use Rattle.std.specs.Prelude.{ℕ, ◌<◌, ◌≡◌, Bool, true, ◌&&◌, not, List, eqb, ltb}
+use Rattle.std.specs.Prelude.{ℕ, ◌<◌, ◌≡◌, Bool, true, ◌&&◌, not, List, eqb}
 use Rattle.loops.specs.Loop.{pick, each}
 use Rattle.same_place.specs.Place.{entry}
 use Rattle.same_keys.specs.Keys.{at}
@@ -10,10 +10,6 @@ like_pair o2 ok tau a b = eqb (entry ok a (at tau b)) (entry ok a b) && pick (eq
 
 abbrev pub like_row : List ℕ → List ℕ → List ℕ → ℕ → ℕ → Bool
 like_row o2 ok tau n a = each (like_pair o2 ok tau a) 0 n
-
--- an image that is one of n
-abbrev pub is_inside : List ℕ → ℕ → ℕ → Bool
-is_inside tau n a = ltb (at tau a) n
 
 -- an atom that was placed stays
 abbrev pub is_fixed : List ℕ → List ℕ → ℕ → Bool

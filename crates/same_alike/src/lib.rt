@@ -6,15 +6,41 @@ ghost use Rattle.loops.specs.Loop.{each};
 ghost use Rattle.same_model.specs.Same.{max_same};
 ghost use Rattle.same_place.specs.Place.{Prefix};
 ghost use Rattle.same_finer.specs.Finer.{ways_by, Hopeless, Nears};
-ghost use Rattle.same_alike.specs.Alike.{like_pair, like_row, is_inside, is_fixed, Like};
+ghost use Rattle.same_alike.specs.Alike.{like_pair, like_row, is_fixed, Like};
 
+use same_finer::Weights;
 use same_place::{CELLS, SIDE};
 
+// Two matrices, and which of n atoms of the first may go to which of the second.
+#[derive(Clone, Copy)]
+pub struct Sides<'a> {
+    pub o1: &'a [u16; CELLS],
+    pub o2: &'a [u16; CELLS],
+    // Stays: its cells are numbers, as `placeable` and `like_pair` state them.
+    pub ok: &'a [u8; CELLS],
+    pub n: usize,
+}
+
+// Where the atoms before `from` were placed.
+#[derive(Clone, Copy)]
+pub struct Placed<'a> {
+    pub ren: &'a [u8; SIDE],
+    pub from: usize,
+}
+
+// How many guesses were wrong and right so far.
+#[derive(Clone, Copy)]
+pub struct Luck {
+    pub wrong: u32,
+    pub right: u32,
+}
+
 // What two atoms ask of the list, by their images.
-fn is_pair_like(o2: &[u16; CELLS], ok: &[u8; CELLS], tau: &[u8; SIDE], a: usize, b: usize) -> bool
+fn is_pair_like(sides: Sides, tau: &[u8; SIDE], a: usize, b: usize) -> bool
     requires { (a < max_same) × (b < max_same) × (get_or tau.now a 0 < max_same) × (get_or tau.now b 0 < max_same) }
-    ensures { result ≡ like_pair o2.now ok.now tau.now a b }
+    ensures { result ≡ like_pair sides.entry.o2.now sides.entry.ok.now tau.now a b }
 {
+    let Sides { o2, ok, .. } = sides;
     let x = tau[a] as usize;
     let y = tau[b] as usize;
     if ok[SIDE * a + y] != ok[SIDE * a + b] {
@@ -30,117 +56,72 @@ fn is_pair_like(o2: &[u16; CELLS], ok: &[u8; CELLS], tau: &[u8; SIDE], a: usize,
 }
 
 // What one atom asks of it, beside all.
-fn is_row_like(o2: &[u16; CELLS], ok: &[u8; CELLS], tau: &[u8; SIDE], n: usize, a: usize) -> bool
-    requires { (n ≤ max_same) × (a < n) × ((b : ℕ) → b < n → get_or tau.now b 0 < n) }
-    ensures { result ≡ like_row o2.now ok.now tau.now n a }
+fn is_row_like(sides: Sides, tau: &[u8; SIDE], a: usize) -> bool
+    requires { (sides.n ≤ max_same) × (a < sides.n) × ((b : ℕ) → b < sides.n → get_or tau.now b 0 < sides.n) }
+    ensures { result ≡ like_row sides.entry.o2.now sides.entry.ok.now tau.now sides.entry.n a }
 {
-    let mut b = 0;
-    while b < n {
-        if !is_pair_like(o2, ok, tau, a, b) {
+    for b in 0..sides.n {
+        if !is_pair_like(sides, tau, a, b) {
             return false;
         }
-        b += 1;
     }
     true
 }
 
 // What all ask of it.
-fn are_rows_like(o2: &[u16; CELLS], ok: &[u8; CELLS], tau: &[u8; SIDE], n: usize) -> bool
-    requires { (n ≤ max_same) × ((b : ℕ) → b < n → get_or tau.now b 0 < n) }
-    ensures { result ≡ each (like_row o2.now ok.now tau.now n) 0 n }
+fn are_rows_like(sides: Sides, tau: &[u8; SIDE]) -> bool
+    requires { (sides.n ≤ max_same) × ((b : ℕ) → b < sides.n → get_or tau.now b 0 < sides.n) }
+    ensures { result ≡ each (like_row sides.entry.o2.now sides.entry.ok.now tau.now sides.entry.n) 0 sides.entry.n }
 {
-    let mut a = 0;
-    while a < n {
-        if !is_row_like(o2, ok, tau, n, a) {
+    for a in 0..sides.n {
+        if !is_row_like(sides, tau, a) {
             return false;
         }
-        a += 1;
-    }
-    true
-}
-
-// A number as a wider one.
-fn wide(x: u8) -> usize
-    ensures { result ≡ x }
-{
-    x as usize
-}
-
-// Whether all images are below n.
-fn are_inside(tau: &[u8; SIDE], n: usize) -> bool
-    requires { n ≤ max_same }
-    ensures { result ≡ each (is_inside tau.now n) 0 n }
-{
-    let mut a = 0;
-    while a < n {
-        if wide(tau[a]) >= n {
-            return false;
-        }
-        a += 1;
     }
     true
 }
 
 // Whether the images of the atoms placed before `from` stay.
-fn are_fixed(tau: &[u8; SIDE], ren: &[u8; SIDE], from: usize) -> bool
-    requires { (from ≤ max_same) × ((b : ℕ) → b < from → get_or ren.now b 0 < max_same) }
-    ensures { result ≡ each (is_fixed tau.now ren.now) 0 from }
+fn are_fixed(tau: &[u8; SIDE], placed: Placed) -> bool
+    requires { (placed.from ≤ max_same) × ((b : ℕ) → b < placed.from → get_or placed.ren.now b 0 < max_same) }
+    ensures { result ≡ each (is_fixed tau.now placed.entry.ren.now) 0 placed.entry.from }
 {
-    let mut b = 0;
-    while b < from {
+    let Placed { ren, from } = placed;
+    for b in 0..from {
         let image = ren[b] as usize;
         if tau[image] != ren[b] {
             return false;
         }
-        b += 1;
     }
     true
 }
 
 // Whether a list keeps all that is looked at.
-fn is_like(
-    o2: &[u16; CELLS],
-    ok: &[u8; CELLS],
-    tau: &[u8; SIDE],
-    n: usize,
-    ren: &[u8; SIDE],
-    from: usize,
-) -> bool
-    requires { Prefix n ren.now from }
-    ensures { result ≡ true → Like o2.now ok.now n tau.now ren.now from }
+fn is_like(sides: Sides, tau: &[u8; SIDE], placed: Placed) -> bool
+    requires { Prefix sides.n placed.ren.now placed.from }
+    ensures { result ≡ true → Like sides.entry.o2.now sides.entry.ok.now sides.entry.n tau.now placed.entry.ren.now placed.entry.from }
 {
-    if !are_inside(tau, n) {
+    if !same_open::are_inside(tau, sides.n) {
         return false;
     }
-    if !are_fixed(tau, ren, from) {
+    if !are_fixed(tau, placed) {
         return false;
     }
-    are_rows_like(o2, ok, tau, n)
+    are_rows_like(sides, tau)
 }
 
 // Marks each atom whose image has a mark.
-fn spread(
-    o1: &[u16; CELLS],
-    o2: &[u16; CELLS],
-    ok: &[u8; CELLS],
-    tau: &[u8; SIDE],
-    n: usize,
-    ren: &[u8; SIDE],
-    from: usize,
-    dead: &mut [u8; SIDE],
-)
-    requires prefix { Prefix n ren.now from × (from < n) }
-    requires like { Like o2.now ok.now n tau.now ren.now from }
-    requires hopeless { Hopeless o1.now o2.now ok.now n (take from ren.now) (n - (from + 1)) dead.old }
-    ensures { Hopeless o1.now o2.now ok.now n (take from ren.now) (n - (from + 1)) dead.new }
+fn spread(sides: Sides, tau: &[u8; SIDE], placed: Placed, dead: &mut [u8; SIDE])
+    requires prefix { Prefix sides.n placed.ren.now placed.from × (placed.from < sides.n) }
+    requires like { Like sides.o2.now sides.ok.now sides.n tau.now placed.ren.now placed.from }
+    requires hopeless { Hopeless sides.o1.now sides.o2.now sides.ok.now sides.n (take placed.from placed.ren.now) (sides.n - (placed.from + 1)) dead.old }
+    ensures { Hopeless sides.entry.o1.now sides.entry.o2.now sides.entry.ok.now sides.entry.n (take placed.entry.from placed.entry.ren.now) (sides.entry.n - (placed.entry.from + 1)) dead.new }
 {
-    let mut y = 0;
-    while y < n {
+    for y in 0..sides.n {
         let image = tau[y] as usize;
         if dead[image] == 1 {
             dead[y] = 1;
         }
-        y += 1;
     }
 }
 
@@ -152,12 +133,10 @@ fn partner(ka: &[u64; SIDE], kb: &[u64; SIDE], n: usize, v: usize) -> usize
     if ka[v] == kb[v] {
         return v;
     }
-    let mut w = 0;
-    while w < n {
+    for w in 0..n {
         if (kb[w] == ka[v]) & (ka[w] != kb[w]) {
             return w;
         }
-        w += 1;
     }
     v
 }
@@ -166,69 +145,52 @@ fn partner(ka: &[u64; SIDE], kb: &[u64; SIDE], n: usize, v: usize) -> usize
 fn is_shared(keys: &[u64; SIDE], n: usize, v: usize) -> bool
     requires { (n ≤ max_same) × (v < n) }
 {
-    let mut w = 0;
-    while w < n {
+    for w in 0..n {
         if (w != v) & (keys[w] == keys[v]) {
             return true;
         }
-        w += 1;
     }
     false
 }
 
 // A guess of a list that sends e to d: keys are made finer with e told apart, and with d.
-fn guess(
-    w2: &[u16; CELLS],
-    near2: &[u64; SIDE],
-    k2: &[u64; SIDE],
-    n: usize,
-    e: usize,
-    d: usize,
-    tau: &mut [u8; SIDE],
-)
-    requires { (n ≤ max_same) × (e < n) × (d < n) × (n ≤ length k2.now) × Nears w2.now n near2.now }
+fn guess(weights: Weights, k2: &[u64; SIDE], n: usize, e: usize, d: usize, tau: &mut [u8; SIDE])
+    requires { (n ≤ max_same) × (e < n) × (d < n) × (n ≤ length k2.now) × Nears weights.w.now n weights.near.now }
 {
     let mut ka = *k2;
-    same_finer::tell(w2, near2, n, e, &mut ka);
+    same_finer::tell(weights, n, e, &mut ka);
     let mut kb = *k2;
-    same_finer::tell(w2, near2, n, d, &mut kb);
-    let mut v = 0;
-    while v < n {
+    same_finer::tell(weights, n, d, &mut kb);
+    for v in 0..n {
         let w = partner(&ka, &kb, n, v);
         tau[v] = w as u8;
         if (v != w) & is_shared(&ka, n, v) {
-            same_finer::tell(w2, near2, n, v, &mut ka);
-            same_finer::tell(w2, near2, n, w, &mut kb);
+            same_finer::tell(weights, n, v, &mut ka);
+            same_finer::tell(weights, n, w, &mut kb);
         }
-        v += 1;
     }
 }
 
 // Marks what a guess for e shows to be as hopeless as d; answers whether the guess was right.
 fn mark_like(
-    o1: &[u16; CELLS],
-    o2: &[u16; CELLS],
-    ok: &[u8; CELLS],
-    w2: &[u16; CELLS],
-    near2: &[u64; SIDE],
+    sides: Sides,
+    weights: Weights,
     k2: &[u64; SIDE],
-    n: usize,
-    ren: &[u8; SIDE],
-    from: usize,
+    placed: Placed,
     d: usize,
     e: usize,
     dead: &mut [u8; SIDE],
 ) -> bool
-    requires prefix { Prefix n ren.now from × (from < n) × (d < n) × (e < n) × (n ≤ length k2.now) × Nears w2.now n near2.now }
-    requires hopeless { Hopeless o1.now o2.now ok.now n (take from ren.now) (n - (from + 1)) dead.old }
-    ensures { Hopeless o1.now o2.now ok.now n (take from ren.now) (n - (from + 1)) dead.new }
+    requires prefix { Prefix sides.n placed.ren.now placed.from × (placed.from < sides.n) × (d < sides.n) × (e < sides.n) × (sides.n ≤ length k2.now) × Nears weights.w.now sides.n weights.near.now }
+    requires hopeless { Hopeless sides.o1.now sides.o2.now sides.ok.now sides.n (take placed.from placed.ren.now) (sides.n - (placed.from + 1)) dead.old }
+    ensures { Hopeless sides.entry.o1.now sides.entry.o2.now sides.entry.ok.now sides.entry.n (take placed.entry.from placed.entry.ren.now) (sides.entry.n - (placed.entry.from + 1)) dead.new }
 {
     let mut tau = [0u8; SIDE];
-    guess(w2, near2, k2, n, e, d, &mut tau);
-    if !is_like(o2, ok, &tau, n, ren, from) {
+    guess(weights, k2, sides.n, e, d, &mut tau);
+    if !is_like(sides, &tau, placed) {
         return false;
     }
-    spread(o1, o2, ok, &tau, n, ren, from, dead);
+    spread(sides, &tau, placed, dead);
     true
 }
 
@@ -240,48 +202,41 @@ fn more(x: u32) -> u32 {
     x
 }
 
-// Whether another guess may pay, by how many were wrong and right so far.
-fn is_lucky(luck: &[u32; 2]) -> bool {
-    (luck[0] < 64) | (luck[0] / 8 <= luck[1])
+// Whether another guess may pay.
+fn is_lucky(luck: Luck) -> bool {
+    (luck.wrong < 64) | (luck.wrong / 8 <= luck.right)
 }
 
 // Counts a guess.
-fn count(luck: &mut [u32; 2], right: bool) {
+fn count(luck: &mut Luck, right: bool) {
     if right {
-        luck[1] = more(luck[1]);
+        luck.right = more(luck.right);
     } else {
-        luck[0] = more(luck[0]);
+        luck.wrong = more(luck.wrong);
     }
 }
 
 // internal: marks an atom that cannot come next, and those that are shown to be like it.
 pub fn mark(
-    o1: &[u16; CELLS],
-    o2: &[u16; CELLS],
-    ok: &[u8; CELLS],
-    w2: &[u16; CELLS],
-    near2: &[u64; SIDE],
+    sides: Sides,
+    weights: Weights,
     k2: &[u64; SIDE],
-    n: usize,
-    ren: &[u8; SIDE],
-    from: usize,
+    placed: Placed,
     d: usize,
-    luck: &mut [u32; 2],
+    luck: &mut Luck,
     dead: &mut [u8; SIDE],
 )
-    requires prefix { Prefix n ren.now from × (from < n) × (d < n) × (n ≤ length k2.now) × Nears w2.now n near2.now }
-    requires d_value { ways_by o1.now o2.now ok.now n (take from ren.now) (n - (from + 1)) d ≡ [] }
-    requires hopeless { Hopeless o1.now o2.now ok.now n (take from ren.now) (n - (from + 1)) dead.old }
-    ensures { Hopeless o1.now o2.now ok.now n (take from ren.now) (n - (from + 1)) dead.new }
+    requires prefix { Prefix sides.n placed.ren.now placed.from × (placed.from < sides.n) × (d < sides.n) × (sides.n ≤ length k2.now) × Nears weights.w.now sides.n weights.near.now }
+    requires d_value { ways_by sides.o1.now sides.o2.now sides.ok.now sides.n (take placed.from placed.ren.now) (sides.n - (placed.from + 1)) d ≡ [] }
+    requires hopeless { Hopeless sides.o1.now sides.o2.now sides.ok.now sides.n (take placed.from placed.ren.now) (sides.n - (placed.from + 1)) dead.old }
+    ensures { Hopeless sides.entry.o1.now sides.entry.o2.now sides.entry.ok.now sides.entry.n (take placed.entry.from placed.entry.ren.now) (sides.entry.n - (placed.entry.from + 1)) dead.new }
 {
     dead[d] = 1;
-    let mut e = d + 1;
-    while e < n {
-        let lucky = is_lucky(luck);
+    for e in d + 1..sides.n {
+        let lucky = is_lucky(*luck);
         if lucky & (dead[e] != 1) & (k2[e] == k2[d]) {
-            let right = mark_like(o1, o2, ok, w2, near2, k2, n, ren, from, d, e, dead);
+            let right = mark_like(sides, weights, k2, placed, d, e, dead);
             count(luck, right);
         }
-        e += 1;
     }
 }

@@ -19,8 +19,7 @@ use Rattle.matching.proofs.Enumeration.{row-length}
 use Rattle.loops.proofs.Loops.{and_left}
 use Rattle.table_graph.specs.Graph.{matching_of}
 use Rattle.table.specs.Valid.{Valid}
-use Rattle.kekule_answers.specs.Answers.{found_of, found_code}
-use Rattle.kekule_answers.specs.declared.Found.{Found}
+use Rattle.kekule_answers.specs.Answers.{Found, found_of, found_code}
 use Rattle.kekule.specs.Kekule.{CallReply, out, call_reply_of}
 use Rattle.same_place.specs.Place.{goods, Prefix, Solved}
 use Rattle.same_drawing.specs.Drawing.{with_bond, Drawable}

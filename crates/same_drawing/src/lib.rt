@@ -25,9 +25,9 @@ fn drawn_order(kind: usize, chosen: u8) -> u16
     kinds::order(kind) as u16
 }
 
-// Raises a cell of a matrix.
-fn raise(o: &mut [u16; CELLS], a: usize, b: usize, x: u16)
-    requires a_lt_max_same { (a < max_same) × (b < max_same) × (x ≤ 3) }
+// internal: raises a cell of a matrix, by no more than an open bond does.
+pub fn raise(o: &mut [u16; CELLS], a: usize, b: usize, x: u16)
+    requires a_lt_max_same { (a < max_same) × (b < max_same) × (x ≤ 17) }
     requires low { Low o.old 60000 }
     ensures { o.new ≡ bump o.old (max_same * a + b) x }
 {
@@ -55,10 +55,8 @@ pub fn fill_orders(bonds: &[i32], m: usize, row: &[u8], o: &mut [u16; CELLS])
     requires low { Low o.old 40000 }
     ensures { o.new ≡ run (with_bond bonds.now row.now) 0 m o.old }
 {
-    let mut k = 0;
-    while k < m {
+    for k in 0..m {
         add_order(bonds, BondId(k), row[k], o);
-        k += 1;
     }
 }
 
@@ -91,10 +89,8 @@ pub fn row_sum(bonds: &[i32], m: usize, keys: &[u64; SIDE], row: &[u8]) -> u64
     ensures { result ≡ row_sum bonds.now m keys.now row.now }
 {
     let mut sum = 0u64;
-    let mut k = 0;
-    while k < m {
+    for k in 0..m {
         sum += bond_weight(bonds, BondId(k), row[k], keys);
-        k += 1;
     }
     sum
 }
@@ -124,6 +120,7 @@ pub fn same_cells(atoms1: &[i32], a: AtomId, atoms2: &[i32], b: AtomId) -> bool
 }
 
 // 0 or 1.
+// Stays: the cells of the matrix are numbers, as `match_cell` and the definitions over it state them.
 fn flag(b: bool) -> u8
     ensures { result ≡ flag b }
 {
@@ -163,8 +160,7 @@ pub fn fill_matches(
     ensures { ok.new ≡ up_to (match_cell atoms1.now keys1.now atoms2.now keys2.now) 0 (max_same * n) ++ drop (max_same * n) ok.old }
 {
     let end = SIDE * n;
-    let mut i = 0;
-    while i < end {
+    for i in 0..end {
         ok[i] = flag(may_go(
             atoms1,
             keys1,
@@ -173,6 +169,5 @@ pub fn fill_matches(
             keys2,
             AtomId(i % SIDE),
         ));
-        i += 1;
     }
 }

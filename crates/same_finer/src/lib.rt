@@ -12,6 +12,13 @@ use same_place::{CELLS, SIDE};
 // A prime; keys are mixed below it.
 const PRIME: u64 = 2147483647;
 
+// The weights of a matrix, and for each atom those to which it has a bond that weighs, as bits.
+#[derive(Clone, Copy)]
+pub struct Weights<'a> {
+    pub w: &'a [u16; CELLS],
+    pub near: &'a [u64; SIDE],
+}
+
 // What a bond weighs, by a cell of a matrix.
 fn weight(x: u16) -> u16
     ensures { result ≡ weight x }
@@ -46,10 +53,8 @@ pub fn fill_weights(o: &[u16; CELLS], n: usize, w: &mut [u16; CELLS])
     ensures { w.new ≡ up_to (weight_cell o.now) 0 (max_same * n) ++ drop (max_same * n) w.old }
 {
     let end = SIDE * n;
-    let mut i = 0;
-    while i < end {
+    for i in 0..end {
         w[i] = weight_cell(o, i);
-        i += 1;
     }
 }
 
@@ -59,12 +64,10 @@ pub fn is_mirrored(w: &[u16; CELLS], n: usize) -> bool
     ensures { result ≡ each (mirror w.now) 0 (max_same * n) }
 {
     let end = SIDE * n;
-    let mut i = 0;
-    while i < end {
+    for i in 0..end {
         if w[i] != w[SIDE * (i % SIDE) + i / SIDE] {
             return false;
         }
-        i += 1;
     }
     true
 }
@@ -81,16 +84,7 @@ fn weighty(w: &[u16; CELLS], n: usize, a: usize) -> u64
     requires { (n ≤ max_same) × (a < max_same) }
     ensures { Near w.now n a result }
 {
-    let mut mask = 0u64;
-    let mut b = n;
-    while 0 < b {
-        b -= 1;
-        mask = 2 * mask;
-        if w[SIDE * a + b] != 0 {
-            mask += 1;
-        }
-    }
-    mask
+    same_open::mask_of(n, |b| w[SIDE * a + b] != 0)
 }
 
 // internal: these for each of n atoms.
@@ -98,10 +92,8 @@ pub fn fill_weighty(w: &[u16; CELLS], n: usize, near: &mut [u64; SIDE])
     requires { (n ≤ max_same) × (n ≤ length near.old) }
     ensures { Nears w.now n near.new }
 {
-    let mut a = 0;
-    while a < n {
+    for a in 0..n {
         near[a] = weighty(w, n, a);
-        a += 1;
     }
 }
 
@@ -113,6 +105,7 @@ fn next_key(w: &[u16; CELLS], near: u64, mixed: &[u64; SIDE], n: usize, a: usize
     let mut sum = key % PRIME;
     let mut rest = near;
     let mut b = 0;
+    // Stays: this counts no index, it goes from one bit that is set to the next.
     while rest != 0 {
         let skip = u64::trailing_zeros(rest) as usize;
         b += skip;
@@ -125,39 +118,36 @@ fn next_key(w: &[u16; CELLS], near: u64, mixed: &[u64; SIDE], n: usize, a: usize
 }
 
 // One round, from old keys to new ones.
-fn round(w: &[u16; CELLS], near: &[u64; SIDE], n: usize, old: &[u64; SIDE], keys: &mut [u64; SIDE])
-    requires { (n ≤ max_same) × (n ≤ length keys.old) × (n ≤ length old.now) × Nears w.now n near.now }
-    ensures { keys.new ≡ up_to (next_key w.now n old.now) 0 n ++ drop n keys.old }
+fn round(weights: Weights, n: usize, old: &[u64; SIDE], keys: &mut [u64; SIDE])
+    requires { (n ≤ max_same) × (n ≤ length keys.old) × (n ≤ length old.now) × Nears weights.w.now n weights.near.now }
+    ensures { keys.new ≡ up_to (next_key weights.entry.w.now n old.now) 0 n ++ drop n keys.old }
 {
+    let Weights { w, near } = weights;
     let mut mixed = [0u64; SIDE];
     same_keys::mix_all(old, n, &mut mixed);
-    let mut a = 0;
-    while a < n {
+    for a in 0..n {
         keys[a] = next_key(w, near[a], &mixed, n, a, old[a]);
-        a += 1;
     }
 }
 
 // internal: r rounds.
-pub fn make_finer(w: &[u16; CELLS], near: &[u64; SIDE], n: usize, r: usize, keys: &mut [u64; SIDE])
-    requires { (n ≤ max_same) × (n ≤ length keys.old) × Nears w.now n near.now }
-    ensures { keys.new ≡ finer w.now n r keys.old }
+pub fn make_finer(weights: Weights, n: usize, r: usize, keys: &mut [u64; SIDE])
+    requires { (n ≤ max_same) × (n ≤ length keys.old) × Nears weights.w.now n weights.near.now }
+    ensures { keys.new ≡ finer weights.entry.w.now n r keys.old }
 {
-    let mut i = 0;
-    while i < r {
+    for i in 0..r {
         let old = *keys;
-        round(w, near, n, &old, keys);
-        i += 1;
+        round(weights, n, &old, keys);
     }
 }
 
 // internal: an atom told apart, and three rounds; answers the sum of the keys then.
-pub fn tell(w: &[u16; CELLS], near: &[u64; SIDE], n: usize, v: usize, keys: &mut [u64; SIDE]) -> u64
-    requires { (n ≤ max_same) × (v < n) × (n ≤ length keys.old) × Nears w.now n near.now }
-    ensures keys_after { keys.new ≡ finer_told w.now n keys.old v }
-    ensures value { result ≡ key_sum (finer_told w.now n keys.old v) n }
+pub fn tell(weights: Weights, n: usize, v: usize, keys: &mut [u64; SIDE]) -> u64
+    requires { (n ≤ max_same) × (v < n) × (n ≤ length keys.old) × Nears weights.w.now n weights.near.now }
+    ensures keys_after { keys.new ≡ finer_told weights.entry.w.now n keys.old v }
+    ensures value { result ≡ key_sum (finer_told weights.entry.w.now n keys.old v) n }
 {
     keys[v] = keys[v] % PRIME + 1000003;
-    make_finer(w, near, n, 3, keys);
+    make_finer(weights, n, 3, keys);
     same_keys::key_sum(keys, n)
 }

@@ -10,7 +10,15 @@ ghost use Rattle.same_keys.specs.Keys.{prime, mixed, stirred, charge_number, fir
 
 use ids::{AtomId, BondId};
 use same_place::{CELLS, SIDE};
-use table::{CHARGE, ELEMENT, EXTENSION, HYDROGENS, ISOTOPE, MAX_BONDS, cell, row};
+use table::{CHARGE, ELEMENT, EXTENSION, HYDROGENS, ISOTOPE, MAX_BONDS, Tables, cell, row};
+
+// The two ends of each of m bonds.
+#[derive(Clone, Copy)]
+pub struct Ends<'a> {
+    pub firsts: &'a [u16],
+    pub seconds: &'a [u16],
+    pub m: usize,
+}
 
 // A prime; keys are mixed below it.
 const PRIME: u64 = 2147483647;
@@ -56,7 +64,7 @@ fn first_key(atoms: &[i32], a: AtomId, sum: u64) -> u64
 pub fn plus(x: u16, y: u8) -> u64
     ensures { result ≡ x + y }
 {
-    x as u64 + y as u64
+    u64::from(x) + u64::from(y)
 }
 
 // The keys that n atoms begin with, from their bond sums and flags.
@@ -70,10 +78,8 @@ fn fill_first(
     requires { (n ≤ max_same) × (max_same ≤ length keys.old) }
     ensures { keys.new ≡ up_to (sum_key atoms.now sums.now flags.now) 0 n ++ drop n keys.old }
 {
-    let mut i = 0;
-    while i < n {
+    for i in 0..n {
         keys[i] = first_key(atoms, AtomId(i), plus(sums[i], flags[i]));
-        i += 1;
     }
 }
 
@@ -82,10 +88,8 @@ pub fn mix_all(keys: &[u64], n: usize, mixed: &mut [u64])
     requires { (n ≤ length keys.now) × (n ≤ length mixed.old) }
     ensures { mixed.new ≡ up_to (mixed_at keys.now) 0 n ++ drop n mixed.old }
 {
-    let mut i = 0;
-    while i < n {
+    for i in 0..n {
         mixed[i] = mix(keys[i]);
-        i += 1;
     }
 }
 
@@ -101,58 +105,48 @@ fn join(keys: &mut [u64], mixed: &[u64], a: usize, b: usize)
 }
 
 // internal: the same over m bonds.
-pub fn spread(ea: &[u16], eb: &[u16], m: usize, mixed: &[u64], keys: &mut [u64])
-    requires inside { Inside ea.now eb.now m (length mixed.now) × Inside ea.now eb.now m (length keys.old) }
+pub fn spread(ends: Ends, mixed: &[u64], keys: &mut [u64])
+    requires inside { Inside ends.firsts.now ends.seconds.now ends.m (length mixed.now) × Inside ends.firsts.now ends.seconds.now ends.m (length keys.old) }
     requires low { Low mixed.now prime × Low keys.old (highest 78) }
-    ensures { keys.new ≡ run (spread (at ea.now) (at eb.now) mixed.now) 0 m keys.old }
+    ensures { keys.new ≡ run (spread (at ends.entry.firsts.now) (at ends.entry.seconds.now) mixed.now) 0 ends.entry.m keys.old }
 {
-    let mut k = 0;
-    while k < m {
-        join(keys, mixed, ea[k] as usize, eb[k] as usize);
-        k += 1;
+    let Ends { firsts, seconds, m } = ends;
+    for k in 0..m {
+        join(keys, mixed, firsts[k] as usize, seconds[k] as usize);
     }
 }
 
 // One round: each of n atoms adds the mixed keys, in a buffer, of those that it is joined to.
-fn next_keys(ea: &[u16], eb: &[u16], m: usize, n: usize, mixed: &mut [u64], keys: &mut [u64])
-    requires inside { Inside ea.now eb.now m n }
+fn next_keys(ends: Ends, n: usize, mixed: &mut [u64], keys: &mut [u64])
+    requires inside { Inside ends.firsts.now ends.seconds.now ends.m n }
     requires n_in_bounds { (n ≤ length mixed.old) × (n ≤ length keys.old) }
     requires low { Low mixed.old prime × Low keys.old (highest 76) }
-    ensures keys_after { keys.new ≡ next_keys (at ea.now) (at eb.now) m n keys.old }
+    ensures keys_after { keys.new ≡ next_keys (at ends.entry.firsts.now) (at ends.entry.seconds.now) ends.entry.m n keys.old }
     ensures low_2 { Low mixed.new prime }
 {
     mix_all(keys, n, mixed);
-    spread(ea, eb, m, mixed, keys);
+    spread(ends, mixed, keys);
 }
 
 // internal: r rounds.
-pub fn refine(
-    ea: &[u16],
-    eb: &[u16],
-    m: usize,
-    n: usize,
-    r: usize,
-    mixed: &mut [u64],
-    keys: &mut [u64],
-)
-    requires inside { Inside ea.now eb.now m n }
+pub fn refine(ends: Ends, n: usize, r: usize, mixed: &mut [u64], keys: &mut [u64])
+    requires inside { Inside ends.firsts.now ends.seconds.now ends.m n }
     requires n_in_bounds { (n ≤ length mixed.old) × (n ≤ length keys.old) }
     requires r_bound { (r ≤ 40) × Low mixed.old prime × Low keys.old (highest 34) }
-    ensures { keys.new ≡ refined (at ea.now) (at eb.now) m n r keys.old }
+    ensures { keys.new ≡ refined (at ends.entry.firsts.now) (at ends.entry.seconds.now) ends.entry.m n r keys.old }
 {
-    let mut i = 0;
-    while i < r {
-        next_keys(ea, eb, m, n, mixed, keys);
-        i += 1;
+    for i in 0..r {
+        next_keys(ends, n, mixed, keys);
     }
 }
 
 // internal: the keys of n atoms, into an array of zeros.
-pub fn fill_keys(atoms: &[i32], bonds: &[i32], n: usize, m: usize, keys: &mut [u64; SIDE])
-    requires valid { Valid atoms.now bonds.now n m }
-    requires n_le_max_same { (n ≤ max_same) × (keys.old ≡ replicate max_same 0) }
-    ensures { keys.new ≡ keys_of (molecule atoms.now bonds.now n m) }
+pub fn fill_keys(tables: Tables, keys: &mut [u64; SIDE])
+    requires valid { Valid tables.atoms.now tables.bonds.now tables.n tables.m }
+    requires n_le_max_same { (tables.n ≤ max_same) × (keys.old ≡ replicate max_same 0) }
+    ensures { keys.new ≡ keys_of (molecule tables.entry.atoms.now tables.entry.bonds.now tables.entry.n tables.entry.m) }
 {
+    let Tables { atoms, bonds, n, m } = tables;
     let mut ea = [0u16; MAX_BONDS];
     let mut eb = [0u16; MAX_BONDS];
     let mut el = [0u8; MAX_BONDS];
@@ -162,25 +156,23 @@ pub fn fill_keys(atoms: &[i32], bonds: &[i32], n: usize, m: usize, keys: &mut [u
     table_graph::fill_flags(atoms, &sums, n, &mut flags);
     fill_first(atoms, &sums, &flags, n, keys);
     let mut mixed = [0u64; SIDE];
-    refine(&ea, &eb, m, n, n / 2 + 1, &mut mixed, keys);
+    let ends = Ends {
+        firsts: &ea,
+        seconds: &eb,
+        m,
+    };
+    refine(ends, n, n / 2 + 1, &mut mixed, keys);
 }
 
 // The keys of n atoms with one of them told apart, refined again.
-fn tell_apart(
-    ea: &[u16; MAX_BONDS],
-    eb: &[u16; MAX_BONDS],
-    m: usize,
-    n: usize,
-    a: usize,
-    keys: &mut [u64; SIDE],
-)
-    requires inside { Inside ea.now eb.now m n }
+fn tell_apart(ends: Ends, n: usize, a: usize, keys: &mut [u64; SIDE])
+    requires inside { Inside ends.firsts.now ends.seconds.now ends.m n }
     requires n_le_max_same { (n ≤ max_same) × (a < max_same) × Low keys.old (highest 33) }
-    ensures { keys.new ≡ told_apart (at ea.now) (at eb.now) m n keys.old a }
+    ensures { keys.new ≡ told_apart (at ends.entry.firsts.now) (at ends.entry.seconds.now) ends.entry.m n keys.old a }
 {
     keys[a] += 1000003;
     let mut mixed = [0u64; SIDE];
-    refine(ea, eb, m, n, 8, &mut mixed, keys);
+    refine(ends, n, 8, &mut mixed, keys);
 }
 
 // The cell of a pair, from a key.
@@ -195,67 +187,41 @@ fn fill_row(keys: &[u64; SIDE], n: usize, a: usize, pairs: &mut [u16; CELLS])
     requires { (n ≤ max_same) × (a < max_same) }
     ensures { pairs.new ≡ row_filled n (pair_cell keys.now) a pairs.old }
 {
-    let mut b = 0;
-    while b < n {
+    for b in 0..n {
         pairs[SIDE * a + b] = pair_cell(keys[b]);
-        b += 1;
     }
 }
 
 // The row of the atom a: the keys of n atoms with a told apart.
-fn pair_row(
-    ea: &[u16; MAX_BONDS],
-    eb: &[u16; MAX_BONDS],
-    m: usize,
-    n: usize,
-    a: usize,
-    keys: &[u64; SIDE],
-    pairs: &mut [u16; CELLS],
-)
-    requires inside { Inside ea.now eb.now m n }
+fn pair_row(ends: Ends, n: usize, a: usize, keys: &[u64; SIDE], pairs: &mut [u16; CELLS])
+    requires inside { Inside ends.firsts.now ends.seconds.now ends.m n }
     requires n_le_max_same { (n ≤ max_same) × (a < max_same) × Low keys.now (highest 33) }
-    ensures { pairs.new ≡ row_filled n (pair_cell (told_apart (at ea.now) (at eb.now) m n keys.now a)) a pairs.old }
+    ensures { pairs.new ≡ row_filled n (pair_cell (told_apart (at ends.entry.firsts.now) (at ends.entry.seconds.now) ends.entry.m n keys.now a)) a pairs.old }
 {
     let mut own = *keys;
-    tell_apart(ea, eb, m, n, a, &mut own);
+    tell_apart(ends, n, a, &mut own);
     fill_row(&own, n, a, pairs);
 }
 
 // All rows.
-fn pair_rows(
-    ea: &[u16; MAX_BONDS],
-    eb: &[u16; MAX_BONDS],
-    m: usize,
-    n: usize,
-    keys: &[u64; SIDE],
-    pairs: &mut [u16; CELLS],
-)
-    requires inside { Inside ea.now eb.now m n }
+fn pair_rows(ends: Ends, n: usize, keys: &[u64; SIDE], pairs: &mut [u16; CELLS])
+    requires inside { Inside ends.firsts.now ends.seconds.now ends.m n }
     requires n_le_max_same { (n ≤ max_same) × Low keys.now (highest 33) }
-    ensures { pairs.new ≡ pairs_filled (at ea.now) (at eb.now) m n keys.now pairs.old }
+    ensures { pairs.new ≡ pairs_filled (at ends.entry.firsts.now) (at ends.entry.seconds.now) ends.entry.m n keys.now pairs.old }
 {
-    let mut a = 0;
-    while a < n {
-        pair_row(ea, eb, m, n, a, keys, pairs);
-        a += 1;
+    for a in 0..n {
+        pair_row(ends, n, a, keys, pairs);
     }
 }
 
 // internal: the matrix of pairs of a molecule with its keys, into a matrix of zeros; it stays so where it is not asked for.
-pub fn fill_pairs(
-    on: bool,
-    atoms: &[i32],
-    bonds: &[i32],
-    n: usize,
-    m: usize,
-    keys: &[u64; SIDE],
-    pairs: &mut [u16; CELLS],
-)
-    requires valid { Valid atoms.now bonds.now n m }
-    requires n_le_max_same { (n ≤ max_same) × (keys.now ≡ keys_of (molecule atoms.now bonds.now n m)) }
+pub fn fill_pairs(on: bool, tables: Tables, keys: &[u64; SIDE], pairs: &mut [u16; CELLS])
+    requires valid { Valid tables.atoms.now tables.bonds.now tables.n tables.m }
+    requires n_le_max_same { (tables.n ≤ max_same) × (keys.now ≡ keys_of (molecule tables.atoms.now tables.bonds.now tables.n tables.m)) }
     requires pairs_value { pairs.old ≡ replicate (max_same * max_same) 0 }
-    ensures { pairs.new ≡ pairs_of on (molecule atoms.now bonds.now n m) keys.now }
+    ensures { pairs.new ≡ pairs_of on (molecule tables.entry.atoms.now tables.entry.bonds.now tables.entry.n tables.entry.m) keys.now }
 {
+    let Tables { bonds, n, m, .. } = tables;
     if !on {
         return;
     }
@@ -264,18 +230,21 @@ pub fn fill_pairs(
     let mut el = [0u8; MAX_BONDS];
     let mut sums = [0u16; SIDE];
     table_graph::wire(bonds, m, &mut ea, &mut eb, &mut el, &mut sums);
-    pair_rows(&ea, &eb, m, n, keys, pairs);
+    let ends = Ends {
+        firsts: &ea,
+        seconds: &eb,
+        m,
+    };
+    pair_rows(ends, n, keys, pairs);
 }
 
 // Marks the second end of each bond.
-fn mark_seconds(bonds: &[i32], m: usize, seen: &mut [u8; SIDE]) {
-    let mut k = 0;
-    while k < m {
+fn mark_seconds(bonds: &[i32], m: usize, seen: &mut [bool; SIDE]) {
+    for k in 0..m {
         let second = cell::number(row::get_bond(bonds, BondId(k)).second);
         if second < SIDE {
-            seen[second] = 1;
+            seen[second] = true;
         }
-        k += 1;
     }
 }
 
@@ -283,14 +252,12 @@ fn mark_seconds(bonds: &[i32], m: usize, seen: &mut [u8; SIDE]) {
 pub fn scattered(bonds: &[i32], n: usize, m: usize) -> bool
     requires { n ≤ max_same }
 {
-    let mut seen = [0u8; SIDE];
+    let mut seen = [false; SIDE];
     mark_seconds(bonds, m, &mut seen);
-    let mut a = 1;
-    while a < n {
-        if seen[a] == 0 {
+    for a in 1..n {
+        if !seen[a] {
             return true;
         }
-        a += 1;
     }
     false
 }
@@ -301,10 +268,8 @@ pub fn key_sum(keys: &[u64; SIDE], n: usize) -> u64
     ensures { result ≡ key_sum keys.now n }
 {
     let mut sum = 0;
-    let mut i = 0;
-    while i < n {
+    for i in 0..n {
         sum += mix(keys[i]);
-        i += 1;
     }
     sum
 }

@@ -6,7 +6,7 @@ ghost use Rattle.same_model.specs.Same.{max_same, image};
 ghost use Rattle.same_open.specs.Open.{bit, Goes, Faces, Among};
 ghost use Rattle.same_mirror.specs.Mirror.{Onto, SameFaces, SameCandidates, Like, Gone, AllGone, Spreads, allowed_masks, Repeated, FacedAfter};
 
-use same_open::{ALLOWED, Tried};
+use same_open::{ALLOWED, Quest, Tried};
 use same_place::{CELLS, SIDE};
 
 // How long a guess may take, and how much a candidate must have cost for it to be worth one, in steps.
@@ -17,55 +17,59 @@ const WORTH: u32 = 300;
 // What a guess costs, in steps.
 const COST: u32 = 100;
 
-// A number made wider.
-fn widened(x: u8) -> usize
-    ensures { result ≡ x }
-{
-    x as usize
+// A search's other side: the matrix q, what it allows, and which of n atoms may go to which of its own.
+#[derive(Clone, Copy)]
+pub struct Target<'a> {
+    pub q: &'a [u16; CELLS],
+    pub allowed: &'a [u64; ALLOWED],
+    pub ok: &'a [u8; CELLS],
+    pub n: usize,
+}
+
+// Where a search stands: where atoms went, which ones were placed, and the atom v that is placed now.
+#[derive(Clone, Copy)]
+struct Turn<'a> {
+    ren: &'a [u8; SIDE],
+    placed: &'a [u8; SIDE],
+    v: usize,
 }
 
 // Sends the atom i to e in the guess; whether each atom has a candidate then.
 fn fix(
-    q: &[u16; CELLS],
-    allowed: &[u64; ALLOWED],
-    n: usize,
+    quest: Quest,
     i: usize,
     e: usize,
     cand: &mut [u64; SIDE],
     done: &mut [u8; SIDE],
     like: &mut [u8; SIDE],
 ) -> bool
-    requires { (n ≤ max_same) × (i < n) × (e < n) }
+    requires { (quest.n ≤ max_same) × (i < quest.n) × (e < quest.n) }
 {
     let old = *cand;
     done[i] = 1;
     like[i] = e as u8;
-    same_open::narrow(q, allowed, &old, n, i, e, cand)
+    same_open::narrow(quest, &old, i, e, cand)
 }
 
 // Lets each image of a placed atom stay, but that of v.
 fn fix_images(
-    q: &[u16; CELLS],
-    allowed: &[u64; ALLOWED],
-    n: usize,
-    ren: &[u8; SIDE],
-    placed: &[u8; SIDE],
-    v: usize,
+    quest: Quest,
+    turn: Turn,
     cand: &mut [u64; SIDE],
     done: &mut [u8; SIDE],
     like: &mut [u8; SIDE],
 ) -> bool
-    requires { n ≤ max_same }
+    requires { quest.n ≤ max_same }
 {
+    let Turn { ren, placed, v } = turn;
+    let n = quest.n;
     let mut live = true;
-    let mut b = 0;
-    while b < n {
-        let i = widened(ren[b]);
+    for b in 0..n {
+        let i = ren[b] as usize;
         if (placed[b] == 1) & (b != v) & (i < n) {
-            let fixed = fix(q, allowed, n, i, i, cand, done, like);
+            let fixed = fix(quest, i, i, cand, done, like);
             live = live & fixed;
         }
-        b += 1;
     }
     live
 }
@@ -76,55 +80,28 @@ fn count_open(done: &[u8; SIDE], n: usize) -> usize
     ensures { result ≤ n }
 {
     let mut count = 0;
-    let mut b = 0;
-    while b < n {
+    for b in 0..n {
         if done[b] == 0 {
             count += 1;
         }
-        b += 1;
     }
     count
 }
 
 // A list that leaves the images of placed atoms and sends d to e. A guess: `is_like` tells whether it is right.
-fn guess(
-    q: &[u16; CELLS],
-    allowed: &[u64; ALLOWED],
-    n: usize,
-    ren: &[u8; SIDE],
-    placed: &[u8; SIDE],
-    v: usize,
-    d: usize,
-    e: usize,
-    like: &mut [u8; SIDE],
-) -> bool
-    requires { (n ≤ max_same) × (d < n) × (e < n) }
+fn guess(quest: Quest, turn: Turn, d: usize, e: usize, like: &mut [u8; SIDE]) -> bool
+    requires { (quest.n ≤ max_same) × (d < quest.n) × (e < quest.n) }
 {
     let mut cand = [u64::MAX; SIDE];
     let mut done = [0u8; SIDE];
-    let stay = fix_images(q, allowed, n, ren, placed, v, &mut cand, &mut done, like);
-    let goes = fix(q, allowed, n, d, e, &mut cand, &mut done, like);
+    let stay = fix_images(quest, turn, &mut cand, &mut done, like);
+    let goes = fix(quest, d, e, &mut cand, &mut done, like);
     if !(stay & goes) {
         return false;
     }
-    let rest = count_open(&done, n);
-    let tried = same_open::search(q, allowed, &cand, n, rest, &mut done, like, GUESS);
+    let rest = count_open(&done, quest.n);
+    let tried = same_open::search(quest, &cand, rest, &mut done, like, GUESS);
     tried.found
-}
-
-// Whether each of n atoms goes to one of them.
-fn are_inside(like: &[u8; SIDE], n: usize) -> bool
-    requires { n ≤ max_same }
-    ensures { result ≡ true → (e : ℕ) → e < n → image like.now e < n }
-{
-    let mut e = 0;
-    while e < n {
-        if n <= widened(like[e]) {
-            return false;
-        }
-        e += 1;
-    }
-    true
 }
 
 // Whether none of the atoms before d goes where d goes.
@@ -132,12 +109,10 @@ fn is_own(like: &[u8; SIDE], d: usize) -> bool
     requires { d < max_same }
     ensures { result ≡ true → (e : ℕ) → e < d → image like.now e ≡ image like.now d → ⊥ }
 {
-    let mut e = 0;
-    while e < d {
+    for e in 0..d {
         if like[e] == like[d] {
             return false;
         }
-        e += 1;
     }
     true
 }
@@ -147,14 +122,12 @@ fn is_onto(like: &[u8; SIDE], n: usize) -> bool
     requires { n ≤ max_same }
     ensures { result ≡ true → Onto n like.now }
 {
-    let mut d = 0;
-    while d < n {
+    for d in 0..n {
         if !is_own(like, d) {
             return false;
         }
-        d += 1;
     }
-    are_inside(like, n)
+    same_open::are_inside(like, n)
 }
 
 // Whether the bits of a mask go to those of another.
@@ -162,12 +135,10 @@ fn is_carried(x: u64, y: u64, like: &[u8; SIDE], n: usize) -> bool
     requires { (n ≤ max_same) × ((e : ℕ) → e < n → image like.now e < n) }
     ensures { result ≡ true → (e : ℕ) → e < n → bit x e ≡ bit y (image like.now e) }
 {
-    let mut e = 0;
-    while e < n {
+    for e in 0..n {
         if (x >> e) % 2 != (y >> like[e] as usize) % 2 {
             return false;
         }
-        e += 1;
     }
     true
 }
@@ -203,8 +174,7 @@ fn has_same_faces(allowed: &[u64; ALLOWED], like: &[u8; SIDE], n: usize) -> bool
     requires { (n ≤ max_same) × ((e : ℕ) → e < n → image like.now e < n) }
     ensures { result ≡ true → SameFaces allowed.now n like.now }
 {
-    let mut i = 0;
-    while i < ALLOWED {
+    for i in 0..ALLOWED {
         let d = i % SIDE;
         if d < n {
             let j = i - d + like[d] as usize;
@@ -212,7 +182,6 @@ fn has_same_faces(allowed: &[u64; ALLOWED], like: &[u8; SIDE], n: usize) -> bool
                 return false;
             }
         }
-        i += 1;
     }
     true
 }
@@ -222,12 +191,10 @@ fn has_same_candidates(cand: &[u64; SIDE], like: &[u8; SIDE], n: usize) -> bool
     requires { (n ≤ max_same) × ((e : ℕ) → e < n → image like.now e < n) }
     ensures { result ≡ true → SameCandidates cand.now n like.now }
 {
-    let mut a = 0;
-    while a < n {
+    for a in 0..n {
         if !is_carried(cand[a], cand[a], like, n) {
             return false;
         }
-        a += 1;
     }
     true
 }
@@ -248,24 +215,20 @@ fn is_like(allowed: &[u64; ALLOWED], cand: &[u64; SIDE], like: &[u8; SIDE], n: u
 
 // Whether a guess of a list that sends d to e is right; the list.
 fn is_alike(
-    q: &[u16; CELLS],
-    allowed: &[u64; ALLOWED],
+    quest: Quest,
     cand: &[u64; SIDE],
-    n: usize,
-    ren: &[u8; SIDE],
-    placed: &[u8; SIDE],
-    v: usize,
+    turn: Turn,
     d: usize,
     e: usize,
     like: &mut [u8; SIDE],
 ) -> bool
-    requires { (n ≤ max_same) × (d < n) × (e < n) }
-    ensures { result ≡ true → Like allowed.now cand.now n like.new }
+    requires { (quest.n ≤ max_same) × (d < quest.n) × (e < quest.n) }
+    ensures { result ≡ true → Like quest.entry.allowed.now cand.now quest.entry.n like.new }
 {
-    if !guess(q, allowed, n, ren, placed, v, d, e, like) {
+    if !guess(quest, turn, d, e, like) {
         return false;
     }
-    is_like(allowed, cand, like, n)
+    is_like(quest.allowed, cand, like, quest.n)
 }
 
 // Marks each atom to which one with a mark goes.
@@ -273,13 +236,11 @@ fn spread(like: &[u8; SIDE], n: usize, dead: &mut [u8; SIDE])
     requires { n ≤ max_same }
     ensures { Spreads n like.now dead.old dead.new }
 {
-    let mut x = 0;
-    while x < n {
+    for x in 0..n {
         if dead[x] == 1 {
-            let to = widened(like[x]) % SIDE;
+            let to = like[x] as usize % SIDE;
             dead[to] = 1;
         }
-        x += 1;
     }
 }
 
@@ -295,53 +256,46 @@ fn pay(left: u32, cost: u32) -> u32
 
 // Marks d and the candidates of v behind it that are shown to be like it, with what goes with them; what is left of a budget then.
 fn mark(
-    q: &[u16; CELLS],
-    allowed: &[u64; ALLOWED],
+    quest: Quest,
     cand: &[u64; SIDE],
-    n: usize,
-    ren: &[u8; SIDE],
-    placed: &[u8; SIDE],
-    v: usize,
+    turn: Turn,
     d: usize,
     dead: &mut [u8; SIDE],
     budget: u32,
 ) -> u32
-    requires { (n ≤ max_same) × (v < n) × (d < n) }
+    requires { (quest.n ≤ max_same) × (turn.v < quest.n) × (d < quest.n) }
     ensures upper_bound { result ≤ budget }
-    ensures by_index { (p : List ℕ) → Gone p allowed.now cand.now n v d → AllGone p allowed.now cand.now n v dead.old → AllGone p allowed.now cand.now n v dead.new }
+    ensures by_index { (p : List ℕ) → Gone p quest.entry.allowed.now cand.now quest.entry.n turn.entry.v d → AllGone p quest.entry.allowed.now cand.now quest.entry.n turn.entry.v dead.old → AllGone p quest.entry.allowed.now cand.now quest.entry.n turn.entry.v dead.new }
 {
+    let n = quest.n;
     dead[d] = 1;
     let mut left = budget;
-    let mut e = d + 1;
-    while e < n {
-        if ((cand[v] >> e) % 2 == 1) & (dead[e] != 1) {
+    for e in d + 1..n {
+        if ((cand[turn.v] >> e) % 2 == 1) & (dead[e] != 1) {
             left = pay(left, COST);
             let mut like = [0u8; SIDE];
-            if is_alike(q, allowed, cand, n, ren, placed, v, d, e, &mut like) {
+            if is_alike(quest, cand, turn, d, e, &mut like) {
                 spread(&like, n, dead);
             }
         }
-        e += 1;
     }
     left
 }
 
 // Tries the candidates of one atom after the other, but those like one that led nowhere at some cost. What was seen of the candidates only saves time.
 fn search(
-    p: &[u16; CELLS],
+    quest: Quest,
     near: &[u8; CELLS],
     q: &[u16; CELLS],
-    allowed: &[u64; ALLOWED],
     cand: &[u64; SIDE],
-    n: usize,
     rest: usize,
     seen: &[u64; SIDE],
     placed: &mut [u8; SIDE],
     ren: &mut [u8; SIDE],
     budget: u32,
 ) -> Tried
-    requires { (n ≤ max_same) × (rest ≤ n) }
-    ensures fact { result.found ≡ false → 0 < result.left → (t : List ℕ) → Among p.now allowed.now cand.now n t → ⊥ }
+    requires { (quest.n ≤ max_same) × (rest ≤ quest.n) }
+    ensures fact { result.found ≡ false → 0 < result.left → (t : List ℕ) → Among quest.entry.p.now quest.entry.allowed.now cand.now quest.entry.n t → ⊥ }
     ensures left_le_budget { result.left ≤ budget }
 {
     if rest == 0 {
@@ -350,12 +304,11 @@ fn search(
             left: budget,
         };
     }
-    let v = same_open::choose(cand, n, placed);
+    let v = same_open::choose(cand, quest.n, placed);
     placed[v] = 1;
     let mut dead = [0u8; SIDE];
     let mut left = budget;
-    let mut d = 0;
-    while d < n {
+    for d in 0..quest.n {
         if left == 0 {
             return Tried {
                 found: false,
@@ -366,34 +319,20 @@ fn search(
             left -= 1;
             let mut next = [0u64; SIDE];
             let mut told = *seen;
-            if same_support::narrow_near(
-                p, near, allowed, cand, n, v, d, placed, &mut told, &mut next,
-            ) {
+            if same_support::narrow_near(quest, near, cand, v, d, placed, &mut told, &mut next) {
                 ren[v] = d as u8;
-                let tried = search(
-                    p,
-                    near,
-                    q,
-                    allowed,
-                    &next,
-                    n,
-                    rest - 1,
-                    &told,
-                    placed,
-                    ren,
-                    left,
-                );
+                let tried = search(quest, near, q, &next, rest - 1, &told, placed, ren, left);
                 if tried.found {
                     return tried;
                 }
                 let spent = left - tried.left;
                 left = tried.left;
                 if (0 < left) & (WORTH < spent) {
-                    left = mark(q, allowed, cand, n, ren, placed, v, d, &mut dead, left);
+                    let own = Quest { p: q, ..quest };
+                    left = mark(own, cand, Turn { ren, placed, v }, d, &mut dead, left);
                 }
             }
         }
-        d += 1;
     }
     placed[v] = 0;
     Tried {
@@ -402,43 +341,30 @@ fn search(
     }
 }
 
-// internal: whether a renumbering leads from a matrix p to another, q, of which it is known what it allows. Among atoms with equally many candidates those with a low mark come first; no mark is 1.
+// internal: whether a renumbering leads from a matrix p to a target. Among atoms with equally many candidates those with a low mark come first; no mark is 1.
 pub fn seek(
     p: &[u16; CELLS],
-    q: &[u16; CELLS],
-    allowed: &[u64; ALLOWED],
-    ok: &[u8; CELLS],
-    n: usize,
+    target: Target,
     marks: &[u8; SIDE],
     ren: &mut [u8; SIDE],
     budget: u32,
 ) -> Tried
-    requires { n ≤ max_same }
-    ensures { result.found ≡ false → 0 < result.left → (t : List ℕ) → ((a : ℕ) → a < n → image t a < n) → Goes ok.now n t → Faces p.now allowed.now n t → ⊥ }
+    requires { target.n ≤ max_same }
+    ensures { result.found ≡ false → 0 < result.left → (t : List ℕ) → ((a : ℕ) → a < target.entry.n → image t a < target.entry.n) → Goes target.entry.ok.now target.entry.n t → Faces p.now target.entry.allowed.now target.entry.n t → ⊥ }
 {
+    let Target { q, allowed, ok, n } = target;
+    let quest = Quest { p, allowed, n };
     let mut cand = [0u64; SIDE];
     same_open::fill_candidates(ok, n, &mut cand);
     let mut placed = *marks;
     let mut near = [0u8; CELLS];
     same_support::fill_near(p, n, &mut near);
     let mut seen = [0u64; SIDE];
-    if !same_support::settle_all(p, &near, allowed, n, &placed, &mut seen, &mut cand) {
+    if !same_support::settle_all(quest, &near, &placed, &mut seen, &mut cand) {
         return Tried {
             found: false,
             left: budget,
         };
     }
-    search(
-        p,
-        &near,
-        q,
-        allowed,
-        &cand,
-        n,
-        n,
-        &seen,
-        &mut placed,
-        ren,
-        budget,
-    )
+    search(quest, &near, q, &cand, n, &seen, &mut placed, ren, budget)
 }

@@ -1,5 +1,5 @@
 -- Numbers as sets of digits: doubling, the digits that two have in common, and a loop that sets digits from the last to the first. Assumes nothing.
-use mathlib.Core.Path.{◌≡◌, sym, ap, ap₂, ◌∙◌}
+use mathlib.Core.Path.{◌≡◌, sym, ap, ap₂, ◌∙◌, subst}
 use Prim.Native.Nat.{ℕ, suc, ◌+◌, ◌-◌, ◌*◌, ◌/◌, ◌%◌, ◌^◌, ◌<◌, ◌≤◌, min}
 use native.Mathlib.Nat.{div-one, zero-div, pow-suc}
 use native.Mathlib.Numerals.{one-add}
@@ -53,6 +53,9 @@ module _ {P : ℕ → Type 0} {n : ℕ} where
   module _ {mask e : ℕ} (w : Masked P n mask e) where
     pub masked-end : e ≤ 0 → (x : ℕ) → x < n → P x → bit mask x ≡ 1
     masked-end h x i p = let z : x - e ≡ x = omega arith in ap (bit mask) (sym z) ∙ w.marked x (omega arith) i p
+
+    pub masked-size : e ≤ 0 → mask < 2 ^ n
+    masked-size h = let z : n - e ≡ n = omega arith in subst (λ (x : ℕ). mask < 2 ^ x) z w.low
 
     module _ (h : 0 < e) where
       twice : 2 ^ (n - (e - 1)) ≡ 2 ^ (n - e) * 2

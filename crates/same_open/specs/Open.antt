@@ -58,3 +58,7 @@ pub record Among (p allowed cand : List ℕ) (n : ℕ) (t : List ℕ) : Type 0 w
   pub below : (a : ℕ) → a < n → image t a < n
   pub kept : (a : ℕ) → a < n → bit (get_or cand a 0) (image t a) ≡ 1
   pub faces : Faces p allowed n t
+
+-- an image that is one of n
+abbrev pub is_inside : List ℕ → ℕ → ℕ → Bool
+is_inside l n a = ltb (get_or l a 0) n

@@ -15,17 +15,28 @@ ghost use Rattle.same_part.specs.Value.{part_value, with_value, open_flag};
 ghost use Rattle.same_part.specs.Part.{part_matrix, Opens};
 
 use ids::BondId;
+use matching::{EndTables, Links};
 use same_open::OPEN_BOND;
 use same_place::{CELLS, SIDE};
-use table::{MAX_BONDS, cell, row};
+use table::{MAX_BONDS, Tables, cell, row};
+
+// The bonds of a molecule, marks for those whose order a matching decides, and a row.
+#[derive(Clone, Copy)]
+pub struct Part<'a> {
+    pub bonds: &'a [i32],
+    pub m: usize,
+    pub opened: &'a [u8; MAX_BONDS],
+    pub row: &'a [u8],
+}
 
 // 1 for a bond that can be chosen.
-fn open_flag(ea: &[u16], eb: &[u16], el: &[u8], need: &[u8], k: BondId) -> u8
-    requires ends { Ends ea.now eb.now need.now k.0 }
-    requires k_in_bounds { k.0 < length el.now }
-    ensures { result ≡ open_flag ea.now eb.now el.now need.now k.0 }
+// Stays: the marks are numbers, as `open_flag` and `Opens` state them.
+fn open_flag(links: Links, need: &[u8], k: BondId) -> u8
+    requires ends { Ends links.ends.first.now links.ends.second.now need.now k.0 }
+    requires k_in_bounds { k.0 < length links.elided.now }
+    ensures { result ≡ open_flag links.entry.ends.first.now links.entry.ends.second.now links.entry.elided.now need.now k.0 }
 {
-    if matching_search::choosable(ea, eb, el, need, k) {
+    if matching_search::choosable(links, need, k) {
         1
     } else {
         0
@@ -33,33 +44,37 @@ fn open_flag(ea: &[u16], eb: &[u16], el: &[u8], need: &[u8], k: BondId) -> u8
 }
 
 // 1 for each bond that can be chosen, into the first cells.
-fn mark_open(ea: &[u16], eb: &[u16], el: &[u8], need: &[u8], opened: &mut [u8])
-    requires { Shape ea.now eb.now el.now need.now opened.old 0 }
-    ensures { opened.new ≡ up_to (open_flag ea.now eb.now el.now need.now) 0 (length ea.now) ++ drop (length ea.now) opened.old }
+fn mark_open(links: Links, need: &[u8], opened: &mut [u8])
+    requires { Shape links.ends.first.now links.ends.second.now links.elided.now need.now opened.old 0 }
+    ensures { opened.new ≡ up_to (open_flag links.entry.ends.first.now links.entry.ends.second.now links.entry.elided.now need.now) 0 (length links.entry.ends.first.now) ++ drop (length links.entry.ends.first.now) opened.old }
 {
-    let mut k = 0;
-    while k < ea.len() {
-        opened[k] = open_flag(ea, eb, el, need, BondId(k));
-        k += 1;
+    for k in 0..links.ends.first.len() {
+        opened[k] = open_flag(links, need, BondId(k));
     }
 }
 
 // internal: the bonds whose order a matching decides: 1 for each elided bond between delocalized atoms.
-pub fn fill_open(atoms: &[i32], bonds: &[i32], n: usize, m: usize, opened: &mut [u8; MAX_BONDS])
-    requires valid { Valid atoms.now bonds.now n m }
-    requires n_le_max_same { n ≤ max_same }
-    ensures { Opens atoms.now bonds.now n m opened.new }
+pub fn fill_open(tables: Tables, opened: &mut [u8; MAX_BONDS])
+    requires valid { Valid tables.atoms.now tables.bonds.now tables.n tables.m }
+    requires n_le_max_same { tables.n ≤ max_same }
+    ensures { Opens tables.entry.atoms.now tables.entry.bonds.now tables.entry.n tables.entry.m opened.new }
 {
+    let Tables { n, m, .. } = tables;
     let mut flags = [0u8; SIDE];
     let mut ea = [0u16; MAX_BONDS];
     let mut eb = [0u16; MAX_BONDS];
     let mut el = [0u8; MAX_BONDS];
     let mut sums = [0u16; SIDE];
     let mut marks = [0u8; MAX_BONDS];
-    table_graph::build(
-        atoms, bonds, n, m, &mut flags, &mut ea, &mut eb, &mut el, &mut sums,
-    );
-    mark_open(&ea[..m], &eb[..m], &el[..m], &flags[..n], &mut marks);
+    table_graph::build(tables, &mut flags, &mut ea, &mut eb, &mut el, &mut sums);
+    let links = Links {
+        ends: EndTables {
+            first: &ea[..m],
+            second: &eb[..m],
+        },
+        elided: &el[..m],
+    };
+    mark_open(links, &flags[..n], &mut marks);
     *opened = marks;
 }
 
@@ -76,16 +91,6 @@ fn part_order(kind: usize, opened: u8, chosen: u8, decided: bool) -> u16
     kinds::order(kind) as u16
 }
 
-// Raises a cell of a matrix.
-fn raise(p: &mut [u16; CELLS], a: usize, b: usize, x: u16)
-    requires a_lt_max_same { (a < max_same) × (b < max_same) × (x ≤ open_bond) }
-    requires low { Low p.old 60000 }
-    ensures { p.new ≡ bump p.old (max_same * a + b) x }
-{
-    let at = SIDE * a + b;
-    p[at] += x;
-}
-
 // Adds the bond k at both of its places.
 fn add_part(bonds: &[i32], k: BondId, opened: u8, chosen: u8, decided: bool, p: &mut [u16; CELLS])
     requires ends { Rattle.same_drawing.specs.Drawing.Ends bonds.now k.0 }
@@ -96,26 +101,23 @@ fn add_part(bonds: &[i32], k: BondId, opened: u8, chosen: u8, decided: bool, p: 
     let first = cell::number(bond.first);
     let second = cell::number(bond.second);
     let x = part_order(cell::number(bond.kind), opened, chosen, decided);
-    raise(p, first, second, x);
-    raise(p, second, first, x);
+    same_drawing::raise(p, first, second, x);
+    same_drawing::raise(p, second, first, x);
 }
 
 // internal: a molecule whose row is decided before `to`, as a matrix, from zeros.
-pub fn fill_part(
-    bonds: &[i32],
-    m: usize,
-    opened: &[u8; MAX_BONDS],
-    row: &[u8],
-    to: usize,
-    p: &mut [u16; CELLS],
-)
-    requires drawable { Drawable bonds.now m row.now }
+pub fn fill_part(part: Part, to: usize, p: &mut [u16; CELLS])
+    requires drawable { Drawable part.bonds.now part.m part.row.now }
     requires p_value { p.old ≡ replicate cells 0 }
-    ensures { p.new ≡ part_matrix bonds.now opened.now row.now to m }
+    ensures { p.new ≡ part_matrix part.entry.bonds.now part.entry.opened.now part.entry.row.now to part.entry.m }
 {
-    let mut k = 0;
-    while k < m {
+    let Part {
+        bonds,
+        m,
+        opened,
+        row,
+    } = part;
+    for k in 0..m {
         add_part(bonds, BondId(k), opened[k], row[k], k < to, p);
-        k += 1;
     }
 }

@@ -20,6 +20,7 @@ pub fn entry(o: &[u16; CELLS], a: usize, b: usize) -> u16
 }
 
 // internal: the atom a may go to d, after those before it.
+// Stays: the cells of `ok` are numbers, since `placeable` and `goods` of specs/Place, by which the answer of `same` is defined, read them so.
 pub fn placeable(
     o1: &[u16; CELLS],
     o2: &[u16; CELLS],
@@ -35,8 +36,7 @@ pub fn placeable(
     if ok[SIDE * a + d] != 1 {
         return false;
     }
-    let mut b = 0;
-    while b < a {
+    for b in 0..a {
         let image = ren[b] as usize;
         if image == d {
             return false;
@@ -44,7 +44,6 @@ pub fn placeable(
         if entry(o1, a, b) != entry(o2, d, image) {
             return false;
         }
-        b += 1;
     }
     true
 }
@@ -65,15 +64,13 @@ pub fn solve(
         return true;
     }
     let next = from + 1;
-    let mut d = 0;
-    while d < n {
+    for d in 0..n {
         if placeable(o1, o2, ok, ren, from, d) {
             ren[from] = d as u8;
             if solve(o1, o2, ok, n, ren, next) {
                 return true;
             }
         }
-        d += 1;
     }
     false
 }

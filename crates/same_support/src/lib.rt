@@ -6,7 +6,7 @@ ghost use Rattle.same_model.specs.Same.{max_same, image};
 ghost use Rattle.same_open.specs.Open.{classes, bit, Among};
 ghost use Rattle.same_support.specs.Support.{Reaches, Leaves};
 
-use same_open::{ALLOWED, class, narrow, put};
+use same_open::{ALLOWED, Quest, class, narrow};
 use same_place::{CELLS, SIDE};
 
 // How many candidates an atom may have for it to be worked out what they leave to its neighbours: atoms with one come first, then those with some.
@@ -33,6 +33,7 @@ fn stand_beside(allowed: &[u64; ALLOWED], n: usize, c: usize, mask: u64) -> u64
     let mut side = 0u64;
     let mut rest = mask;
     let mut d = 0;
+    // Stays: this counts no index, it goes from one bit that is set to the next.
     while (d < n) & (rest != 0) {
         let skip = u64::trailing_zeros(rest) as usize;
         d += skip;
@@ -50,35 +51,21 @@ fn keep(next: &mut [u64; SIDE], b: usize, mask: u64) -> bool
     ensures { Leaves next.old b (λ e. bit mask e ≡ 1) result next.new }
 {
     let both = next[b] & mask;
-    put(next, b, both);
+    next[b] = both;
     both != 0
 }
 
-// A byte as an index.
-fn wide(x: u8) -> usize
-    ensures { result ≡ x }
-{
-    x as usize
-}
-
 // Leaves each neighbour of w the candidates that stand beside some candidate of w; whether each has one.
-fn spread(
-    p: &[u16; CELLS],
-    near: &[u8; CELLS],
-    allowed: &[u64; ALLOWED],
-    n: usize,
-    w: usize,
-    next: &mut [u64; SIDE],
-) -> bool
-    requires { (n ≤ max_same) × (w < n) }
-    ensures by_index { (t : List ℕ) → Among p.now allowed.now next.old n t → Among p.now allowed.now next.new n t }
-    ensures fact { result ≡ false → (t : List ℕ) → Among p.now allowed.now next.old n t → ⊥ }
+fn spread(quest: Quest, near: &[u8; CELLS], w: usize, next: &mut [u64; SIDE]) -> bool
+    requires { (quest.n ≤ max_same) × (w < quest.n) }
+    ensures by_index { (t : List ℕ) → Among quest.entry.p.now quest.entry.allowed.now next.old quest.entry.n t → Among quest.entry.p.now quest.entry.allowed.now next.new quest.entry.n t }
+    ensures fact { result ≡ false → (t : List ℕ) → Among quest.entry.p.now quest.entry.allowed.now next.old quest.entry.n t → ⊥ }
 {
+    let Quest { p, allowed, n } = quest;
     let mut c = NO_CLASS;
     let mut side = 0;
-    let mut i = 0;
-    while i < n {
-        let b = wide(near[SIDE * w + i]);
+    for i in 0..n {
+        let b = near[SIDE * w + i] as usize;
         if n <= b {
             return true;
         }
@@ -92,87 +79,78 @@ fn spread(
                 return false;
             }
         }
-        i += 1;
     }
     true
 }
 
 // The same for each atom of few candidates that is not placed, unless it was done for these candidates already. No claim rests on what was seen.
 fn settle(
-    p: &[u16; CELLS],
+    quest: Quest,
     near: &[u8; CELLS],
-    allowed: &[u64; ALLOWED],
-    n: usize,
     few: u32,
     placed: &[u8; SIDE],
     seen: &mut [u64; SIDE],
     next: &mut [u64; SIDE],
 ) -> bool
-    requires { n ≤ max_same }
-    ensures by_index { (t : List ℕ) → Among p.now allowed.now next.old n t → Among p.now allowed.now next.new n t }
-    ensures fact { result ≡ false → (t : List ℕ) → Among p.now allowed.now next.old n t → ⊥ }
+    requires { quest.n ≤ max_same }
+    ensures by_index { (t : List ℕ) → Among quest.entry.p.now quest.entry.allowed.now next.old quest.entry.n t → Among quest.entry.p.now quest.entry.allowed.now next.new quest.entry.n t }
+    ensures fact { result ≡ false → (t : List ℕ) → Among quest.entry.p.now quest.entry.allowed.now next.old quest.entry.n t → ⊥ }
 {
-    let mut w = 0;
-    while w < n {
+    for w in 0..quest.n {
         let fresh = (placed[w] != 1) & (next[w] != seen[w]);
         if fresh && (u64::count_ones(next[w]) <= few) {
             seen[w] = next[w];
-            if !spread(p, near, allowed, n, w, next) {
+            if !spread(quest, near, w, next) {
                 return false;
             }
         }
-        w += 1;
     }
     true
 }
 
 // internal: what atoms that are not placed leave to their neighbours, however many candidates they have, twice; whether each has one.
 pub fn settle_all(
-    p: &[u16; CELLS],
+    quest: Quest,
     near: &[u8; CELLS],
-    allowed: &[u64; ALLOWED],
-    n: usize,
     placed: &[u8; SIDE],
     seen: &mut [u64; SIDE],
     next: &mut [u64; SIDE],
 ) -> bool
-    requires { n ≤ max_same }
-    ensures by_index { (t : List ℕ) → Among p.now allowed.now next.old n t → Among p.now allowed.now next.new n t }
-    ensures fact { result ≡ false → (t : List ℕ) → Among p.now allowed.now next.old n t → ⊥ }
+    requires { quest.n ≤ max_same }
+    ensures by_index { (t : List ℕ) → Among quest.entry.p.now quest.entry.allowed.now next.old quest.entry.n t → Among quest.entry.p.now quest.entry.allowed.now next.new quest.entry.n t }
+    ensures fact { result ≡ false → (t : List ℕ) → Among quest.entry.p.now quest.entry.allowed.now next.old quest.entry.n t → ⊥ }
 {
-    if !settle(p, near, allowed, n, ALL, placed, seen, next) {
+    if !settle(quest, near, ALL, placed, seen, next) {
         return false;
     }
-    settle(p, near, allowed, n, ALL, placed, seen, next)
+    settle(quest, near, ALL, placed, seen, next)
 }
 
 // internal: as `narrow`, and what atoms of few candidates leave to their neighbours.
 pub fn narrow_near(
-    p: &[u16; CELLS],
+    quest: Quest,
     near: &[u8; CELLS],
-    allowed: &[u64; ALLOWED],
     cand: &[u64; SIDE],
-    n: usize,
     v: usize,
     d: usize,
     placed: &[u8; SIDE],
     seen: &mut [u64; SIDE],
     next: &mut [u64; SIDE],
 ) -> bool
-    requires { (n ≤ max_same) × (v < n) × (d < n) }
-    ensures by_index { (t : List ℕ) → Among p.now allowed.now cand.now n t → image t v ≡ d → Among p.now allowed.now next.new n t }
-    ensures fact { result ≡ false → (t : List ℕ) → Among p.now allowed.now cand.now n t → image t v ≡ d → ⊥ }
+    requires { (quest.n ≤ max_same) × (v < quest.n) × (d < quest.n) }
+    ensures by_index { (t : List ℕ) → Among quest.entry.p.now quest.entry.allowed.now cand.now quest.entry.n t → image t v ≡ d → Among quest.entry.p.now quest.entry.allowed.now next.new quest.entry.n t }
+    ensures fact { result ≡ false → (t : List ℕ) → Among quest.entry.p.now quest.entry.allowed.now cand.now quest.entry.n t → image t v ≡ d → ⊥ }
 {
-    if !narrow(p, allowed, cand, n, v, d, next) {
+    if !narrow(quest, cand, v, d, next) {
         return false;
     }
-    if !settle(p, near, allowed, n, ONE, placed, seen, next) {
+    if !settle(quest, near, ONE, placed, seen, next) {
         return false;
     }
-    if !settle(p, near, allowed, n, SOME, placed, seen, next) {
+    if !settle(quest, near, SOME, placed, seen, next) {
         return false;
     }
-    settle(p, near, allowed, n, FEW, placed, seen, next)
+    settle(quest, near, FEW, placed, seen, next)
 }
 
 // Lists the atoms to which the atom a has a cell of a class, behind others; how many are listed then.
@@ -187,13 +165,11 @@ fn list_class(
     requires { (n ≤ max_same) × (a < n) }
 {
     let mut count = from;
-    let mut b = 0;
-    while b < n {
+    for b in 0..n {
         if (class(p[SIDE * a + b]) == c) & (count < SIDE) {
             near[SIDE * a + count] = b as u8;
             count += 1;
         }
-        b += 1;
     }
     count
 }
@@ -203,10 +179,8 @@ fn list_near(p: &[u16; CELLS], n: usize, a: usize, near: &mut [u8; CELLS])
     requires { (n ≤ max_same) × (a < n) }
 {
     let mut count = 0;
-    let mut c = 1;
-    while c < NO_CLASS {
+    for c in 1..NO_CLASS {
         count = list_class(p, n, a, c, count, near);
-        c += 1;
     }
     if count < SIDE {
         near[SIDE * a + count] = NONE;
@@ -217,9 +191,7 @@ fn list_near(p: &[u16; CELLS], n: usize, a: usize, near: &mut [u8; CELLS])
 pub fn fill_near(p: &[u16; CELLS], n: usize, near: &mut [u8; CELLS])
     requires { n ≤ max_same }
 {
-    let mut a = 0;
-    while a < n {
+    for a in 0..n {
         list_near(p, n, a, near);
-        a += 1;
     }
 }

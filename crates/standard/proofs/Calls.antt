@@ -9,6 +9,7 @@ use lib.ListN.{length, take, replicate, length-replicate}
 use lib.IntN.{ℤ, pos}
 use lib.Dec.{eqb}
 use borrow.Author.Tests.{ne_eqb, lt-leb, le-leb}
+use Rattle.std.specs.Prelude.{Result, Ok, Err}
 use Rattle.loops.specs.Loop.{pick}
 use Rattle.refusal.specs.Code.{code_of}
 use Rattle.refusal.specs.declared.Refusal.{Refusal}
@@ -18,8 +19,6 @@ use Rattle.ids.specs.Small.{small}
 use Rattle.table.specs.Limits.{max_atoms, max_bonds, atom_cells, bond_cells}
 use Rattle.table.specs.Valid.{Valid, enough}
 use Rattle.table.specs.Sound.{none_unfit, sound}
-use Rattle.table.specs.declared.Check.{Check}
-use Rattle.table.specs.declared.Check.TheVariants as check
 use Rattle.table.proofs.Valid.{enough-facts}
 use Rattle.table.proofs.Sound.{sound-valid, sound-late, late-none}
 use Rattle.table_graph.specs.Graph.{matching_of}
@@ -34,20 +33,19 @@ use Rattle.reading_short.proofs.Cut.{few-read}
 use Rattle.reading_short.proofs.Short.{short-agree}
 use Rattle.reader.specs.Ending as reader
 use Rattle.reader.specs.Chosen.{ChosenBy, Chosen}
-use Rattle.reader.specs.declared.ending.ReadAnswer as reply
+use Rattle.std.proofs.Common.{Result, Ok, Err}
+use Rattle.reader.specs.declared.answer.Counts.{Counts}
+use Rattle.reader.specs.declared.answer.TextRefusal.{TextRefusal}
 use Rattle.reader.proofs.Ends.{cleared-blank, blank-ready, into-of}
 use Rattle.kekule.specs.First.{first_in}
 use Rattle.kekule.specs.Kekule.{CallReply, call_reply_of, out, tables}
 use Rattle.kekule.proofs.Kekule.{cleared}
-use Rattle.kekule_answers.specs.declared.Found.{Found}
 use Rattle.writing.specs.Write as write
 use Rattle.writer.specs.Told as writer
 use Rattle.writer.proofs.Answer.{told-valid}
-use Rattle.writer.specs.declared.Written.{Written}
-use Rattle.writer.specs.declared.Written.TheVariants as written
 use Rattle.standard.specs.Standard.{refused_as, zeroed, of_written, of_molecule, of_read, standard_of, told}
 use Rattle.standard.specs.Standing.{Writable, Standing, Readable, Held, first_of, HasFirst, kekule_by, KekulizedBy, by_tables, molecule_of}
-use Rattle.standard.specs.declared.Standardized.TheVariants.{Text, Refused}
+use Rattle.kekule_answers.specs.Answers.{Found}
 use Rattle.standard.proofs.Alike.{same_first, same-molecule}
 use Rattle.standard.proofs.Kekulized.{numbers-long, standing-held, standing-molecule}
 
@@ -55,7 +53,7 @@ pub code-not-zero : (r : Refusal) → eqb (code_of r) 0 ≡ false
 code-not-zero r = ne_eqb (code_of r) 0 (λ e. omega (arith, (code-range r).positive))
 
 -- a refusal
-pub refuses : (r : Refusal) (p : ℕ) (out after : List ℕ) → after ≡ take 0 out ++ replicate (length out - 0) 0 → told (Refused r p) after ≡ zeroed (code_of r) p out
+pub refuses : (r : Refusal) (p : ℕ) (out after : List ℕ) → after ≡ take 0 out ++ replicate (length out - 0) 0 → told (Err (record { refusal = r; at = p })) after ≡ zeroed (code_of r) p out
 refuses r p out after e = ap (refused_as (code_of r) p) (e ∙ cleared out)
 
 -- ---- writing
@@ -66,18 +64,18 @@ sound-facts {atoms} {bonds} {n} {m} s = (sound-valid atoms bonds n m s, (late-no
 pub writable-facts : {atoms bonds : List ℤ} {n m : ℕ} → Writable atoms bonds n m → Valid atoms bonds n m × (none_unfit atoms bonds n m ≡ true)
 writable-facts u = sound-facts u.is_sound
 
-module _ (atoms bonds : List ℤ) (n m k : ℕ) (out : List ℕ) (w : Written) (after numbers : List ℕ) (answer : writer.told w after numbers ≡ write.write_valid atoms bonds n m out (replicate max_atoms 0)) where
+module _ (atoms bonds : List ℤ) (n m k : ℕ) (out : List ℕ) (w : Result ℕ Refusal) (after numbers : List ℕ) (answer : writer.told w after numbers ≡ write.write_valid atoms bonds n m out (replicate max_atoms 0)) where
   -- into buffers that are long enough
   pub the-writing : Writable atoms bonds n m → max_text ≤ length out → writer.told w after numbers ≡ write.write_of atoms bonds n m out (replicate max_atoms 0)
   the-writing u long = answer ∙ told-valid atoms bonds n m out (replicate max_atoms 0) u.room long numbers-long u.is_sound
 
-  pub is-written : {size : ℕ} → w ≡ written.Text size → told (Text n m k size) after ≡ of_written n m k (write.write_valid atoms bonds n m out (replicate max_atoms 0))
-  is-written e = sym (ap (λ (y : Written). of_written n m k (writer.told y after numbers)) e) ∙ ap (of_written n m k) answer
+  pub is-written : {size : ℕ} → w ≡ Ok size → told (Ok (record { counts = record { atoms = n; bonds = m; overfull = k }; length = size })) after ≡ of_written n m k (write.write_valid atoms bonds n m out (replicate max_atoms 0))
+  is-written e = sym (ap (λ (y : Result ℕ Refusal). of_written n m k (writer.told y after numbers)) e) ∙ ap (of_written n m k) answer
 
-  pub not_written : {r : Refusal} → w ≡ written.Refused r → told (Refused r 0) after ≡ of_written n m k (write.write_valid atoms bonds n m out (replicate max_atoms 0))
+  pub not_written : {r : Refusal} → w ≡ Err r → told (Err (record { refusal = r; at = 0 })) after ≡ of_written n m k (write.write_valid atoms bonds n m out (replicate max_atoms 0))
   not_written {r} e =
       sym (ap (λ t. pick t (record { code = 0; place = 0; atoms = n; bonds = m; overfull = k; size = 0; output = after }) (refused_as (code_of r) 0 after)) (code-not-zero r))
-      ∙ sym (ap (λ (y : Written). of_written n m k (writer.told y after numbers)) e) ∙ ap (of_written n m k) answer
+      ∙ sym (ap (λ (y : Result ℕ Refusal). of_written n m k (writer.told y after numbers)) e) ∙ ap (of_written n m k) answer
 
 -- ---- kekulizing
 
@@ -97,15 +95,15 @@ first-called atoms bonds n m blank row f zero kept first =
     }
 
 -- the answer, by what kekulizing hands back
-module _ (atoms bonds : List ℤ) (n m k : ℕ) (row output : List ℕ) (a b : List ℤ) (c : Check) (f : HasFirst atoms bonds n m row) (settled : KekulizedBy atoms bonds n m row c a b) where
-  the-answer : {x : Check} → c ≡ x → by_tables n m k output (tables x a b) ≡ molecule_of atoms bonds n m k output
+module _ (atoms bonds : List ℤ) (n m k : ℕ) (row output : List ℕ) (a b : List ℤ) (c : Result (Unit {0}) Refusal) (f : HasFirst atoms bonds n m row) (settled : KekulizedBy atoms bonds n m row c a b) where
+  the-answer : {x : Result (Unit {0}) Refusal} → c ≡ x → by_tables n m k output (tables x a b) ≡ molecule_of atoms bonds n m k output
   unfolding molecule_of
-  the-answer e = sym (ap (λ (x : Check). by_tables n m k output (tables x a b)) e) ∙ ap (by_tables n m k output) (settled.done ∙ ap (kekule_by atoms bonds n m) f.first)
+  the-answer e = sym (ap (λ (x : Result (Unit {0}) Refusal). by_tables n m k output (tables x a b)) e) ∙ ap (by_tables n m k output) (settled.done ∙ ap (kekule_by atoms bonds n m) f.first)
 
-  pub is-settled : c ≡ check.Fine → of_written n m k (write.write_valid a b n m output (replicate max_atoms 0)) ≡ molecule_of atoms bonds n m k output
+  pub is-settled : c ≡ Ok tt → of_written n m k (write.write_valid a b n m output (replicate max_atoms 0)) ≡ molecule_of atoms bonds n m k output
   is-settled e = the-answer e
 
-  pub not-settled : {r : Refusal} → c ≡ check.Refused r → zeroed (code_of r) 0 output ≡ molecule_of atoms bonds n m k output
+  pub not-settled : {r : Refusal} → c ≡ Err r → zeroed (code_of r) 0 output ≡ molecule_of atoms bonds n m k output
   not-settled {r} e = sym (ap (λ t. pick t (of_written n m k (write.write_valid a b n m output (replicate max_atoms 0))) (zeroed (code_of r) 0 output)) (code-not-zero r)) ∙ the-answer e
 
 -- ---- reading
@@ -162,9 +160,9 @@ pub too_short : (s output : List ℕ) → length output < max_text → refused_a
 unfolding standard_of
 too_short s output l = sym (ap (λ t. pick t (of_read (read_blank s) output) (refused_as 1 0 output)) (lt-leb max_text (length output) l))
 
-pub read-standing : (s : List ℕ) (a b : List ℤ) (x : reply.ReadAnswer) → reader.told x a b ≡ read_blank s → {n m k : ℕ} → x ≡ reply.ReadAnswer.Molecule n m k → Standing a b n m
+pub read-standing : (s : List ℕ) (a b : List ℤ) (x : Result Counts TextRefusal) → reader.told x a b ≡ read_blank s → {n m k : ℕ} → x ≡ reader.counted n m k → Standing a b n m
 read-standing s a b x answer {n} {m} {k} e =
-    let same : reader.told (reply.ReadAnswer.Molecule n m k) a b ≡ read_blank s = ap (λ (y : reply.ReadAnswer). reader.told y a b) (sym e) ∙ answer in
+    let same : reader.told (reader.counted n m k) a b ≡ read_blank s = ap (λ (y : Result Counts TextRefusal). reader.told y a b) (sym e) ∙ answer in
     let fine : (read_blank s).code ≡ 0 = ap (λ (t : read.ReadResult). t.code) (sym same) in
     subst (λ (t : read.ReadResult). Standing t.atoms t.bonds t.atom_count t.bond_count) (sym same) (accepted-standing s fine)
 
@@ -204,13 +202,13 @@ few-accepted s e =
     (omega (arith, f.0, t.counts.0), omega (arith, f.1, t.counts.1))
 
 -- what reading into such tables leaves: z and w are the tables before, a and b after
-module _ (s : List ℕ) (z w a b : List ℤ) (x : reply.ReadAnswer) (readable : Readable s z w) (answer : reader.told x a b ≡ read_into s z w) where
+module _ (s : List ℕ) (z w a b : List ℤ) (x : Result Counts TextRefusal) (readable : Readable s z w) (answer : reader.told x a b ≡ read_into s z w) where
   agrees : Agree (reader.told x a b) (read_blank s)
   agrees = subst (λ (t : read.ReadResult). Agree t (read_blank s)) (sym answer) readable.agrees
 
-  module _ {n m k : ℕ} (e : x ≡ reply.ReadAnswer.Molecule n m k) where
-    same : Agree (reader.told (reply.ReadAnswer.Molecule n m k) a b) (read_blank s)
-    same = subst (λ (y : reply.ReadAnswer). Agree (reader.told y a b) (read_blank s)) e agrees
+  module _ {n m k : ℕ} (e : x ≡ reader.counted n m k) where
+    same : Agree (reader.told (reader.counted n m k) a b) (read_blank s)
+    same = subst (λ (y : Result Counts TextRefusal). Agree (reader.told y a b) (read_blank s)) e agrees
 
     stands : Standing (read_blank s).atoms (read_blank s).bonds n m
     stands = subst (λ (y : ℕ). Standing (read_blank s).atoms (read_blank s).bonds n y) (sym same.bonds_count) (subst (λ (y : ℕ). Standing (read_blank s).atoms (read_blank s).bonds y (read_blank s).bond_count) (sym same.atoms_count) (accepted-standing s (sym same.code)))
@@ -244,7 +242,7 @@ module _ (s : List ℕ) (z w a b : List ℤ) (x : reply.ReadAnswer) (readable : 
     read_first blank row c zero kept =
         record {
           long = kept ∙ ap length zero ∙ length-replicate {A = ℕ} max_bonds 0;
-          first = subst (λ (y : reply.ReadAnswer). ChosenBy y a b blank row) e c.is ∙ ap (first_in a b n m) zero;
+          first = subst (λ (y : Result Counts TextRefusal). ChosenBy y a b blank row) e c.is ∙ ap (first_in a b n m) zero;
         }
 
     pub read-accepted : (row output : List ℕ) → Held a b n m → HasFirst a b n m row → max_text ≤ length output → molecule_of a b n m k output ≡ standard_of s output
@@ -257,10 +255,10 @@ module _ (s : List ℕ) (z w a b : List ℤ) (x : reply.ReadAnswer) (readable : 
         ∙ (λ i. pick (eqb (same.code i) 0) (of_molecule (read_blank s).atoms (read_blank s).bonds (same.atoms_count i) (same.bonds_count i) (same.overfull i) output) (zeroed (same.code i) (same.offset i) output))
         ∙ sym (ap (λ t. pick t (of_read (read_blank s) output) (refused_as 1 0 output)) (le-leb max_text (length output) long))
 
-  pub read-refused : {r : Refusal} {p : ℕ} → x ≡ reply.ReadAnswer.Refused r p → (output : List ℕ) → max_text ≤ length output → zeroed (code_of r) p output ≡ standard_of s output
+  pub read-refused : {r : Refusal} {p : ℕ} → x ≡ reader.refused_text r p → (output : List ℕ) → max_text ≤ length output → zeroed (code_of r) p output ≡ standard_of s output
   unfolding standard_of
   read-refused {r} {p} e output long =
-      let same : Agree (reader.told (reply.ReadAnswer.Refused r p) a b) (read_blank s) = subst (λ (y : reply.ReadAnswer). Agree (reader.told y a b) (read_blank s)) e agrees in
+      let same : Agree (reader.told (reader.refused_text r p) a b) (read_blank s) = subst (λ (y : Result Counts TextRefusal). Agree (reader.told y a b) (read_blank s)) e agrees in
       sym (ap (λ t. pick t (of_molecule (read_blank s).atoms (read_blank s).bonds 0 0 0 output) (zeroed (code_of r) p output)) (code-not-zero r))
       ∙ (λ i. pick (eqb (same.code i) 0) (of_molecule (read_blank s).atoms (read_blank s).bonds (same.atoms_count i) (same.bonds_count i) (same.overfull i) output) (zeroed (same.code i) (same.offset i) output))
       ∙ sym (ap (λ t. pick t (of_read (read_blank s) output) (refused_as 1 0 output)) (le-leb max_text (length output) long))

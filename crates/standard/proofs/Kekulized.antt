@@ -7,6 +7,7 @@ use mathlib.Core.List.{List}
 use lib.ListN.{length, replicate, length-replicate}
 use lib.IntN.{ℤ}
 use lib.Dec.{eqb, leb}
+use Rattle.std.specs.Prelude.{Result, Ok, Err}
 use Rattle.loops.specs.Loop.{pick}
 use Rattle.refusal.specs.declared.Refusal.{Refusal}
 use Rattle.refusal.specs.declared.Refusal.TheVariants.{CrowdedEnd}
@@ -18,8 +19,6 @@ use Rattle.table.specs.Valid.{Valid, enough, check_code}
 use Rattle.table.specs.Sound.{sound}
 use Rattle.table.specs.Marks.{none_crowded}
 use Rattle.table.specs.Edits.{unselected_atoms, doubled_bonds}
-use Rattle.table.specs.declared.Check.{Check}
-use Rattle.table.specs.declared.Check.TheVariants as check
 use Rattle.table.proofs.Sound.{sound-valid, sound-late, late-none}
 use Rattle.table.proofs.Valid.{Enough, enough-facts}
 use Rattle.table_marks.specs.Chosen.{none_crowded_by}
@@ -43,7 +42,7 @@ pub numbers-long : max_atoms ≤ length {A = ℕ} (replicate max_atoms 0)
 numbers-long = omega (arith, length-replicate {A = ℕ} max_atoms 0)
 
 -- no refusal is an acceptance
-no-refusal : {P : Type 0} {r : Refusal} → check.Refused r ≡ check.Fine → P
+no-refusal : {P : Type 0} {r : Refusal} → ◌≡◌ {A = Result Unit Refusal} (Err r) (Ok tt) → P
 no-refusal {r = r} e =
     let z : code_of r ≡ 0 = ap check_code e in
     let p = code-range r in
@@ -92,11 +91,11 @@ module _ (atoms bonds : List ℤ) (n m : ℕ) (h : Held atoms bonds n m) where
       chosen_is : none_crowded (doubled_bonds row m bonds) m ≡ none_crowded_by bonds m row
       chosen_is = crowded-by bonds m row (λ b l. omega (arith, h.bond_rows)) (elides atoms bonds n m row matches) (late-none atoms bonds n m (sound-late atoms bonds n m h.is_sound)).uncrowded
 
-      pub crowded : none_crowded_by bonds m row ≡ false → KekulizedBy atoms bonds n m row (check.Refused CrowdedEnd) atoms bonds
+      pub crowded : none_crowded_by bonds m row ≡ false → KekulizedBy atoms bonds n m row (Err CrowdedEnd) atoms bonds
       unfolding kekule_by
       crowded d = record { done = sym (ap (λ (x : Bool). pick x (kekulized atoms bonds n m row) (kekulize_reply 20 atoms bonds)) (chosen_is ∙ d)); still_sound = λ e. no-refusal e }
 
-      pub settled : {a b : List ℤ} → none_crowded_by bonds m row ≡ true → tables check.Fine a b ≡ kekulized atoms bonds n m row → KekulizedBy atoms bonds n m row check.Fine a b
+      pub settled : {a b : List ℤ} → none_crowded_by bonds m row ≡ true → tables (Ok tt) a b ≡ kekulized atoms bonds n m row → KekulizedBy atoms bonds n m row (Ok tt) a b
       unfolding kekule_by
       settled d e =
           record {
@@ -130,7 +129,7 @@ module _ (atoms bonds : List ℤ) (n m : ℕ) (w : Standing atoms bonds n m) whe
 
   -- what the search hands back, as the definitions say it
   module _ (row : List ℕ) (f : HasFirst atoms bonds n m row) where
-    pub standing-settled : {r : Check} {a b : List ℤ} → KekulizedBy atoms bonds n m row r a b → length a ≡ length atoms → length b ≡ length bonds → Settled atoms bonds n m r a b row
+    pub standing-settled : {r : Result (Unit {0}) Refusal} {a b : List ℤ} → KekulizedBy atoms bonds n m row r a b → length a ≡ length atoms → length b ≡ length bonds → Settled atoms bonds n m r a b row
     unfolding enough
     standing-settled {r} {a} {b} k la lb =
         record {

@@ -1,5 +1,5 @@
 -- One call from a text to the text kekulized: 01's reading, first placement, settling and writing, by the definitions of these calls on zeroed tables of the sizes that 01 asks
-use Rattle.std.specs.Prelude.{ℕ, ◌*◌, List, length, replicate, ℤ, pos, eqb, leb}
+use Rattle.std.specs.Prelude.{ℕ, ◌*◌, List, length, replicate, ℤ, pos, eqb, leb, Result, Ok, Err}
 use Rattle.loops.specs.Loop.{pick}
 use Rattle.refusal.specs.Code.{code_of}
 use Rattle.table.specs.Limits.{max_atoms, max_bonds, atom_cells, bond_cells}
@@ -8,8 +8,8 @@ use Rattle.matching.specs.declared.Call.TheVariants.{First}
 use Rattle.reading.specs.Read as read
 use Rattle.kekule.specs.Kekule.{KekulizeReply, call_on, kekulized_of}
 use Rattle.writing.specs.Write as write
-use Rattle.standard.specs.declared.Standardized.{Standardized}
-use Rattle.standard.specs.declared.Standardized.TheVariants.{Text, Refused}
+use Rattle.reader.specs.declared.answer.TextRefusal.{TextRefusal}
+use Rattle.standard.specs.declared.Written.{Written}
 
 -- what the call hands back: 0 with the counts of atoms, bonds and over-full atoms and the length of the text, or a code with its place, the counts and the length being 0; and the output as it is then
 pub record StandardOut : Type 0 where
@@ -70,6 +70,6 @@ standard_of s out =
     (refused_as 1 0 out)
 
 -- an answer with the output as it is then
-abbrev pub told : Standardized → List ℕ → StandardOut
-told (Text n m k size) out = record { code = 0; place = 0; atoms = n; bonds = m; overfull = k; size = size; output = out }
-told (Refused r p) out = refused_as (code_of r) p out
+abbrev pub told : Result Written TextRefusal → List ℕ → StandardOut
+told (Ok w) out = record { code = 0; place = 0; atoms = w.counts.atoms; bonds = w.counts.bonds; overfull = w.counts.overfull; size = w.length; output = out }
+told (Err e) out = refused_as (code_of e.refusal) e.at out

@@ -1,13 +1,12 @@
 -- auxiliary: what an accepted text leaves in the tables, for a `requires`; and the definitions for tables of any length
-use Rattle.std.specs.Prelude.{ℕ, ◌*◌, ◌≤◌, ◌≡◌, List, true, length, replicate, ℤ, pos, eqb}
+use Rattle.std.specs.Prelude.{ℕ, ◌*◌, ◌≤◌, ◌≡◌, List, true, length, replicate, ℤ, pos, eqb, Result, Ok}
 use Rattle.loops.specs.Loop.{pick}
 use Rattle.table.specs.Limits.{max_atoms, max_bonds, atom_cells, bond_cells}
 use Rattle.table.specs.Valid.{enough}
 use Rattle.table.specs.Sound.{sound}
 use Rattle.table.specs.Marks.{none_crowded}
 use Rattle.table.specs.Edits.{doubled_bonds}
-use Rattle.table.specs.declared.Check.{Check}
-use Rattle.table.specs.declared.Check.TheVariants.{Fine}
+use Rattle.refusal.specs.declared.Refusal.{Refusal}
 use Rattle.table_graph.specs.Graph.{matchable}
 use Rattle.kekule.specs.First.{first_in}
 use Rattle.kekule.specs.Kekule.{KekulizeReply, kekulize_reply, tables, kekulized}
@@ -29,10 +28,10 @@ pub record Standing (atoms bonds : List ℤ) (n m : ℕ) : Type 0 where
   pub matched : matchable atoms bonds n m ≡ true
 
 -- the row has their first matching; the answer, and the tables kekulized by it
-pub record Settled (atoms bonds : List ℤ) (n m : ℕ) (r : Check) (atoms' bonds' : List ℤ) (row : List ℕ) : Type 0 where
+pub record Settled (atoms bonds : List ℤ) (n m : ℕ) (r : Result (Unit {0}) Refusal) (atoms' bonds' : List ℤ) (row : List ℕ) : Type 0 where
   pub first : row ≡ first_row atoms bonds n m
   pub done : tables r atoms' bonds' ≡ kekule_of atoms bonds n m
-  pub writable : r ≡ Fine → Writable atoms' bonds' n m
+  pub writable : r ≡ Ok tt → Writable atoms' bonds' n m
 
 -- ---- tables of any length
 
@@ -61,9 +60,9 @@ unfoldable pub kekule_by : List ℤ → List ℤ → ℕ → ℕ → List ℕ �
 kekule_by atoms bonds n m row = pick (none_crowded (doubled_bonds row m bonds) m) (kekulized atoms bonds n m row) (kekulize_reply 20 atoms bonds)
 
 -- the answer, and the tables kekulized by the row
-pub record KekulizedBy (atoms bonds : List ℤ) (n m : ℕ) (row : List ℕ) (r : Check) (atoms' bonds' : List ℤ) : Type 0 where
+pub record KekulizedBy (atoms bonds : List ℤ) (n m : ℕ) (row : List ℕ) (r : Result (Unit {0}) Refusal) (atoms' bonds' : List ℤ) : Type 0 where
   pub done : tables r atoms' bonds' ≡ kekule_by atoms bonds n m row
-  pub still_sound : r ≡ Fine → sound atoms' bonds' n m ≡ true
+  pub still_sound : r ≡ Ok tt → sound atoms' bonds' n m ≡ true
 
 -- `of_molecule` by what kekulizing hands back
 abbrev pub by_tables : ℕ → ℕ → ℕ → List ℕ → KekulizeReply → StandardOut

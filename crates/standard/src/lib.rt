@@ -12,67 +12,78 @@ ghost use Rattle.standard.specs.Standing.{Standing, Settled, Readable, Held, Has
 
 use ids::{MAX_TEXT, SMALL};
 use matching::Call;
-use reader::ending::ReadAnswer;
+use reader::answer::{Counts, TextRefusal};
 use refusal::Refusal;
-use table::{ATOM_CELLS, BOND_CELLS, Check, MAX_ATOMS, MAX_BONDS};
-use writer::Written;
+use table::{ATOM_CELLS, BOND_CELLS, MAX_ATOMS, MAX_BONDS, Tables};
 
-// A text, with the counts of atoms, bonds and over-full atoms and its length, or a refusal with its place.
+// A text that was written: the counts of its molecule, and its length.
 #[derive(Clone, Copy)]
-pub enum Standardized {
-    Text(usize, usize, usize, usize),
-    Refused(Refusal, usize),
+pub struct Written {
+    pub counts: Counts,
+    pub length: usize,
 }
 
 // A refusal; the output is zeroed.
-fn refuse(r: Refusal, p: usize, out: &mut [u8]) -> Standardized
-    ensures { told result out.new ≡ zeroed (code_of r) p out.old }
+fn refuse(refusal: Refusal, at: usize, out: &mut [u8]) -> Result<Written, TextRefusal>
+    ensures { told result out.new ≡ zeroed (code_of refusal) at out.old }
 {
     buffer::clear_from(out, 0);
-    Standardized::Refused(r, p)
+    Err(TextRefusal { refusal, at })
 }
 
 // The text of a kekulized molecule.
-fn write_kekulized(
-    atoms: &[i32],
-    bonds: &[i32],
-    n: usize,
-    m: usize,
-    overfull: usize,
-    out: &mut [u8],
-) -> Standardized
-    requires m_value { sound atoms.now bonds.now n m ≡ true }
+fn write_kekulized(tables: Tables, overfull: usize, out: &mut [u8]) -> Result<Written, TextRefusal>
+    requires m_value { sound tables.atoms.now tables.bonds.now tables.n tables.m ≡ true }
     requires max_text_in_bounds { max_text ≤ length out.old }
-    ensures { told result out.new ≡ of_written n m overfull (write_valid atoms.now bonds.now n m out.old (replicate max_atoms 0)) }
+    ensures { told result out.new ≡ of_written tables.entry.n tables.entry.m overfull (write_valid tables.entry.atoms.now tables.entry.bonds.now tables.entry.n tables.entry.m out.old (replicate max_atoms 0)) }
 {
+    let Tables { n, m, .. } = tables;
     let mut numbers = [0u16; MAX_ATOMS];
-    let w = writer::write_valid(atoms, bonds, n, m, out, &mut numbers);
-    match w {
-        Written::Text(size) => Standardized::Text(n, m, overfull, size),
-        Written::Refused(r) => Standardized::Refused(r, 0),
+    match writer::write_valid(tables, out, &mut numbers) {
+        Ok(length) => {
+            let counts = Counts {
+                atoms: n,
+                bonds: m,
+                overfull,
+            };
+            Ok(Written { counts, length })
+        }
+        Err(refusal) => Err(TextRefusal { refusal, at: 0 }),
     }
 }
 
 // Kekulizes the tables of an accepted text by their first matching, which the row has; or 20, which changes neither table.
-fn settle_by(atoms: &mut [i32], bonds: &mut [i32], n: usize, m: usize, row: &[u8]) -> Check
+fn settle_by(
+    atoms: &mut [i32],
+    bonds: &mut [i32],
+    n: usize,
+    m: usize,
+    row: &[u8],
+) -> Result<(), Refusal>
     requires held { Held atoms.old bonds.old n m }
     requires has_first { HasFirst atoms.old bonds.old n m row.now }
     ensures { KekulizedBy atoms.old bonds.old n m row.now result atoms.new bonds.new }
 {
     if !table_marks::none_crowded_by(bonds, m, row) {
-        return Check::Refused(Refusal::CrowdedEnd);
+        return Err(Refusal::CrowdedEnd);
     }
     kekule::kekulize_valid(atoms, bonds, n, m, row);
-    Check::Fine
+    Ok(())
 }
 
 // internal: kekulizes the tables of an accepted text by their first matching, which a zeroed row gets; or 20, which changes neither table.
-pub fn settle(atoms: &mut [i32], bonds: &mut [i32], n: usize, m: usize, row: &mut [u8]) -> Check
+pub fn settle(
+    atoms: &mut [i32],
+    bonds: &mut [i32],
+    n: usize,
+    m: usize,
+    row: &mut [u8],
+) -> Result<(), Refusal>
     requires standing { Standing atoms.old bonds.old n m }
     requires row_value { row.old ≡ replicate max_bonds 0 }
     ensures { Settled atoms.old bonds.old n m result atoms.new bonds.new row.new }
 {
-    kekule::call_valid(Call::First, atoms, bonds, n, m, row);
+    let _ = kekule::call_valid(Call::First, Tables { atoms, bonds, n, m }, row);
     settle_by(atoms, bonds, n, m, row)
 }
 
@@ -80,26 +91,34 @@ pub fn settle(atoms: &mut [i32], bonds: &mut [i32], n: usize, m: usize, row: &mu
 fn kekulize_first(
     atoms: &mut [i32],
     bonds: &mut [i32],
-    n: usize,
-    m: usize,
-    overfull: usize,
+    counts: Counts,
     row: &[u8],
     out: &mut [u8],
-) -> Standardized
-    requires held { Held atoms.old bonds.old n m }
-    requires has_first { HasFirst atoms.old bonds.old n m row.now }
+) -> Result<Written, TextRefusal>
+    requires held { Held atoms.old bonds.old counts.atoms counts.bonds }
+    requires has_first { HasFirst atoms.old bonds.old counts.atoms counts.bonds row.now }
     requires max_text_in_bounds { max_text ≤ length out.old }
-    ensures { told result out.new ≡ molecule_of atoms.old bonds.old n m overfull out.old }
+    ensures { told result out.new ≡ molecule_of atoms.old bonds.old counts.atoms counts.bonds counts.overfull out.old }
 {
+    let Counts {
+        atoms: n,
+        bonds: m,
+        overfull,
+    } = counts;
     let c = settle_by(atoms, bonds, n, m, row);
     match c {
-        Check::Fine => write_kekulized(atoms, bonds, n, m, overfull, out),
-        Check::Refused(r) => refuse(r, 0, out),
+        Ok(()) => write_kekulized(Tables { atoms, bonds, n, m }, overfull, out),
+        Err(r) => refuse(r, 0, out),
     }
 }
 
 // The text of a text, by way of zeroed tables that are long enough for it.
-fn standardize_in(text: &[u8], atoms: &mut [i32], bonds: &mut [i32], out: &mut [u8]) -> Standardized
+fn standardize_in(
+    text: &[u8],
+    atoms: &mut [i32],
+    bonds: &mut [i32],
+    out: &mut [u8],
+) -> Result<Written, TextRefusal>
     requires readable { Readable text.now atoms.old bonds.old }
     requires max_text_in_bounds { max_text ≤ length out.old }
     ensures { told result out.new ≡ standard_of text.now out.old }
@@ -107,15 +126,13 @@ fn standardize_in(text: &[u8], atoms: &mut [i32], bonds: &mut [i32], out: &mut [
     let mut row = [0u8; MAX_BONDS];
     let a = reader::read_row(text, atoms, bonds, &mut row);
     match a {
-        ReadAnswer::Refused(r, p) => refuse(r, p, out),
-        ReadAnswer::Molecule(n, m, overfull) => {
-            kekulize_first(atoms, bonds, n, m, overfull, &row, out)
-        }
+        Err(e) => refuse(e.refusal, e.at, out),
+        Ok(counts) => kekulize_first(atoms, bonds, counts, &row, out),
     }
 }
 
 // The same with tables that are long enough for any text.
-fn standardize_long(text: &[u8], out: &mut [u8]) -> Standardized
+fn standardize_long(text: &[u8], out: &mut [u8]) -> Result<Written, TextRefusal>
     requires { max_text ≤ length out.old }
     ensures { told result out.new ≡ standard_of text.now out.old }
 {
@@ -127,11 +144,14 @@ fn standardize_long(text: &[u8], out: &mut [u8]) -> Standardized
 // Reads a text, kekulizes it by its first matching and writes it: the counts of atoms, of bonds and of over-full atoms outside brackets, and the
 // length of the text, whose bytes the output holds, and zeros after them; or the first refusal among these, with its place, which is 0 after reading.
 // An output that is too short (1) stays as it was; every other refusal leaves it zeroed. A short text has no more atoms and bonds than bytes.
-pub fn standardize(text: &[u8], out: &mut [u8]) -> Standardized
+pub fn standardize(text: &[u8], out: &mut [u8]) -> Result<Written, TextRefusal>
     ensures { told result out.new ≡ standard_of text.now out.old }
 {
     if out.len() < MAX_TEXT {
-        return Standardized::Refused(Refusal::Short, 0);
+        return Err(TextRefusal {
+            refusal: Refusal::Short,
+            at: 0,
+        });
     }
     if SMALL < text.len() {
         return standardize_long(text, out);

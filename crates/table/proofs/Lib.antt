@@ -7,3 +7,4 @@ pub mod Checks
 pub mod Marks
 pub mod Sound
 pub mod Orders
+pub mod Ranges

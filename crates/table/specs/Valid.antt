@@ -1,11 +1,10 @@
 -- 01, The tables: when tables with their two counts are valid, a test for each condition: the part of "sound" that also holds between the bytes of a text
-use Rattle.std.specs.Prelude.{ℕ, ◌*◌, ◌≤◌, ◌≡◌, List, Bool, true, ◌&&◌, ◌||◌, not, length, ℤ, pos, negsuc, eqb, leb, ltb}
+use Rattle.std.specs.Prelude.{ℕ, ◌*◌, ◌≤◌, ◌≡◌, List, Bool, true, ◌&&◌, ◌||◌, not, length, ℤ, pos, negsuc, eqb, leb, ltb, Result, Ok, Err}
 use Rattle.std.specs.Int.Signed.{le_z}
 use Rattle.loops.specs.Loop.{each}
 use Rattle.kinds.specs.Kind.{elided, max_kind}
 use Rattle.refusal.specs.Code.{code_of}
-use Rattle.table.specs.declared.Check.{Check}
-use Rattle.table.specs.declared.Check.TheVariants.{Fine, Refused}
+use Rattle.refusal.specs.declared.Refusal.{Refusal}
 use Rattle.table.specs.Limits.{max_atoms, max_bonds, atom_cells, bond_cells, ELEMENT, SELECTED, ISOTOPE, HYDROGENS, CHARGE, EXTENSION, MARK, FIRST, KIND}
 use Rattle.table.specs.Cells.{number, in_range, atom_cell, bond_cell, element, selected, end1, end2}
 
@@ -99,6 +98,6 @@ unfoldable pub enough : List ℤ → List ℤ → Bool
 enough atoms bonds = leb (atom_cells * max_atoms) (length atoms) && leb (bond_cells * max_bonds) (length bonds)
 
 -- 01's number for each answer of a check: 0, or the refusal's
-abbrev pub check_code : Check → ℕ
-check_code Fine = 0
-check_code (Refused r) = code_of r
+abbrev pub check_code : Result (Unit {0}) Refusal → ℕ
+check_code (Ok _) = 0
+check_code (Err r) = code_of r

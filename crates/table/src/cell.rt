@@ -57,6 +57,9 @@ pub fn cell_number(t: &[i32], i: usize) -> usize
     number(cell(t, i))
 }
 
+// Stays: a function for atoms and one for bonds where the row's width differs, below. What they share stands above, by the place of a cell; a
+// generic one would take a trait with the width and the number, and say no more than these lines.
+
 // internal: the place of a field of an atom's row.
 pub fn atom_place(a: AtomId, f: usize) -> usize
     requires { (a.0 < max_atoms) × (f < atom_cells) }

@@ -1,15 +1,11 @@
 // Atom and bond tables of signed cells: the only crate that knows cells, signs and row widths.
 #![tactic(auto)]
 
-use refusal::Refusal;
-
 pub mod cell;
 pub mod row;
 
 // The limits of a molecule.
-pub const MAX_ATOMS: usize = ids::MAX_ATOMS;
-
-pub const MAX_BONDS: usize = ids::MAX_BONDS;
+pub use ids::{MAX_ATOMS, MAX_BONDS};
 
 // The cells of an atom row and of a bond row.
 pub const ATOM_CELLS: usize = 7;
@@ -58,9 +54,11 @@ pub struct Bond {
     pub kind: i32,
 }
 
-// Whether tables can be worked with.
+// The two tables of a molecule, of which the first n atom rows and the first m bond rows count.
 #[derive(Clone, Copy)]
-pub enum Check {
-    Fine,
-    Refused(Refusal),
+pub struct Tables<'a> {
+    pub atoms: &'a [i32],
+    pub bonds: &'a [i32],
+    pub n: usize,
+    pub m: usize,
 }

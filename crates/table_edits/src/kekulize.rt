@@ -23,10 +23,8 @@ pub fn double_bonds(bonds: &mut [i32], m: usize, row: &[u8])
     requires m_in_bounds { m ≤ length row.now }
     ensures { bonds.new ≡ doubled_bonds row.now m bonds.old }
 {
-    let mut i = 0;
-    while i < m {
+    for i in 0..m {
         double_bond(bonds, BondId(i), row[i]);
-        i += 1;
     }
 }
 
@@ -35,9 +33,7 @@ pub fn unselect_atoms(atoms: &mut [i32], n: usize)
     requires { n ≤ max_atoms }
     ensures { atoms.new ≡ unselected_atoms n atoms.old }
 {
-    let mut i = 0;
-    while i < n {
+    for i in 0..n {
         cell::put_atom_cell(atoms, AtomId(i), SELECTED, 0);
-        i += 1;
     }
 }

@@ -15,28 +15,18 @@ use table::{
 pub mod kekulize;
 
 // Writes the cells of an atom's row that lies in the table.
-fn lay_atom(
-    t: &mut [i32],
-    a: AtomId,
-    element: i32,
-    selected: i32,
-    isotope: i32,
-    hydrogens: i32,
-    charge: i32,
-    extension: i32,
-    mark: i32,
-)
+fn lay_atom(t: &mut [i32], a: AtomId, x: Atom)
     requires { (a.0 < max_atoms) × (atom_place a.0 MARK < length t.old) }
-    ensures { t.new ≡ with_atom t.old a.0 (record { element = element; selected = selected; isotope = isotope; hydrogens = hydrogens; charge = charge; extension = extension; mark = mark }) }
+    ensures { t.new ≡ with_atom t.old a.0 x }
 {
     let p = ATOM_CELLS * a.0;
-    t[p + ELEMENT] = element;
-    t[p + SELECTED] = selected;
-    t[p + ISOTOPE] = isotope;
-    t[p + HYDROGENS] = hydrogens;
-    t[p + CHARGE] = charge;
-    t[p + EXTENSION] = extension;
-    t[p + MARK] = mark;
+    t[p + ELEMENT] = x.element;
+    t[p + SELECTED] = x.selected;
+    t[p + ISOTOPE] = x.isotope;
+    t[p + HYDROGENS] = x.hydrogens;
+    t[p + CHARGE] = x.charge;
+    t[p + EXTENSION] = x.extension;
+    t[p + MARK] = x.mark;
 }
 
 // Writes the row of an atom that the table may end before: no cell past the end.
@@ -64,28 +54,18 @@ pub fn put_atom(t: &mut [i32], a: AtomId, x: Atom)
         put_atom_beyond(t, a, x);
         return;
     }
-    lay_atom(
-        t,
-        a,
-        x.element,
-        x.selected,
-        x.isotope,
-        x.hydrogens,
-        x.charge,
-        x.extension,
-        x.mark,
-    );
+    lay_atom(t, a, x);
 }
 
 // Writes the three cells of a bond's row that lies in the table.
-fn lay_bond(t: &mut [i32], b: BondId, first: i32, second: i32, kind: i32)
+fn lay_bond(t: &mut [i32], b: BondId, x: Bond)
     requires { (b.0 < max_bonds) × (bond_place b.0 KIND < length t.old) }
-    ensures { t.new ≡ with_bond t.old b.0 (record { first = first; second = second; kind = kind }) }
+    ensures { t.new ≡ with_bond t.old b.0 x }
 {
     let p = BOND_CELLS * b.0;
-    t[p + FIRST] = first;
-    t[p + SECOND] = second;
-    t[p + KIND] = kind;
+    t[p + FIRST] = x.first;
+    t[p + SECOND] = x.second;
+    t[p + KIND] = x.kind;
 }
 
 // Writes the row of a bond that the table may end before: no cell past the end.
@@ -109,16 +89,12 @@ pub fn put_bond(t: &mut [i32], b: BondId, x: Bond)
         put_bond_beyond(t, b, x);
         return;
     }
-    lay_bond(t, b, x.first, x.second, x.kind);
+    lay_bond(t, b, x);
 }
 
 // internal: zeroes a whole table.
 pub fn clear(t: &mut [i32])
     ensures { t.new ≡ replicate (length t.old) (pos 0) }
 {
-    let mut i = 0;
-    while i < t.len() {
-        t[i] = 0;
-        i += 1;
-    }
+    t.fill(0);
 }

@@ -7,6 +7,7 @@ use mathlib.Core.List.{List, ◌++◌}
 use lib.ListN.{length, take, drop, get_or}
 use lib.IntN.{ℤ}
 use lib.Dec.{eqb}
+use mir.Val.{bool_byte}
 use Rattle.loops.specs.Loop.{up_to}
 use Rattle.loops.proofs.Loops.{length-up_to, up_to-at, filled-part}
 use Rattle.table.specs.Limits.{CHARGE}
@@ -18,6 +19,11 @@ use Rattle.matching.specs.Model.{bonds_of, Shape}
 use Rattle.table_graph.specs.Graph.{bond_sum, flag, elided_flag, delocalized_flag, delocalized_flags, bond_of, graph_of}
 use Rattle.table_graph.specs.Built.{sum_flag, Wide, Wired, Prepared, Built}
 use Rattle.table_graph.proofs.Sums.{sums_to}
+
+-- a flag is the bool as a byte
+pub byte_flag : (b : Bool) → bool_byte b ≡ flag b
+byte_flag true = refl
+byte_flag false = refl
 
 -- the bonds of valid tables have what one pass over them asks
 pub wide : {atoms bonds : List ℤ} {n m : ℕ} {ea eb el sums : List ℕ} → Valid atoms bonds n m → m ≤ length ea → m ≤ length eb → m ≤ length el → n ≤ length sums → Wide bonds m ea eb el sums

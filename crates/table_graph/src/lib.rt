@@ -7,25 +7,18 @@ ghost use Rattle.table.specs.Limits.{max_atoms, max_bonds, CHARGE};
 ghost use Rattle.table.specs.Cells.{atom_cell, element, selected, hydrogens};
 ghost use Rattle.table.specs.Valid.{Valid};
 ghost use Rattle.valence.specs.Valence.{delocalized};
-ghost use Rattle.table_graph.specs.Graph.{bond_sum, flag, none_selected};
+ghost use Rattle.table_graph.specs.Graph.{bond_sum, none_selected};
 ghost use Rattle.table_graph.specs.Built.{sum_flag, Summed, Wide, Wired, Built, Room};
 
 use ids::{AtomId, BondId};
-use table::{CHARGE, ELEMENT, HYDROGENS, SELECTED, cell, row};
+use table::{CHARGE, ELEMENT, HYDROGENS, SELECTED, Tables, cell, row};
 
 // internal: whether none of n atoms is selected.
 pub fn none_selected(atoms: &[i32], n: usize) -> bool
     requires { n ≤ max_atoms }
     ensures { result ≡ none_selected atoms.now n }
 {
-    let mut i = 0;
-    while i < n {
-        if cell::atom_number(atoms, AtomId(i), SELECTED) == 1 {
-            return false;
-        }
-        i += 1;
-    }
-    true
+    (0..n).all(|i| cell::atom_number(atoms, AtomId(i), SELECTED) != 1)
 }
 
 // Whether an atom is delocalized, by its bond sum.
@@ -43,22 +36,13 @@ fn is_delocalized(atoms: &[i32], a: AtomId, sum: u16) -> bool
     valence::delocalized(e, s, c, sum as u32, cell::number(h) as u32)
 }
 
-// 0 or 1.
-fn flag(b: bool) -> u8
-    ensures { result ≡ flag b }
-{
-    if b { 1 } else { 0 }
-}
-
 // internal: 1 for each delocalized atom, from the bond sums.
 pub fn fill_flags(atoms: &[i32], sums: &[u16], n: usize, flags: &mut [u8])
     requires { Summed sums.now n flags.old }
     ensures { flags.new ≡ up_to (sum_flag atoms.now sums.now) 0 n ++ drop n flags.old }
 {
-    let mut i = 0;
-    while i < n {
-        flags[i] = flag(is_delocalized(atoms, AtomId(i), sums[i]));
-        i += 1;
+    for i in 0..n {
+        flags[i] = u8::from(is_delocalized(atoms, AtomId(i), sums[i]));
     }
 }
 
@@ -76,8 +60,7 @@ pub fn wire(
     ensures wired { Wired bonds.now m ea.new eb.new el.new }
     ensures sums_after { sums.new ≡ up_to (bond_sum bonds.now m) 0 (length sums.old) }
 {
-    let mut i = 0;
-    while i < m {
+    for i in 0..m {
         let row = row::get_bond(bonds, BondId(i));
         let first = cell::number(row.first);
         let second = cell::number(row.second);
@@ -85,30 +68,27 @@ pub fn wire(
         let x = kinds::order(kind) as u16;
         ea[i] = first as u16;
         eb[i] = second as u16;
-        el[i] = flag(kind == 0);
+        el[i] = u8::from(kind == 0);
         sums[first] += x;
         sums[second] += x;
-        i += 1;
     }
 }
 
 // internal: the graph of a molecule, into four buffers, with one of zeros for the bond sums.
 pub fn build(
-    atoms: &[i32],
-    bonds: &[i32],
-    n: usize,
-    m: usize,
+    tables: Tables,
     flags: &mut [u8],
     ea: &mut [u16],
     eb: &mut [u16],
     el: &mut [u8],
     sums: &mut [u16],
 )
-    requires valid { Valid atoms.now bonds.now n m }
-    requires room { Room n m flags.old ea.old eb.old el.old sums.old }
+    requires valid { Valid tables.atoms.now tables.bonds.now tables.n tables.m }
+    requires room { Room tables.n tables.m flags.old ea.old eb.old el.old sums.old }
     requires sums_value { sums.old ≡ replicate (length sums.old) 0 }
-    ensures { Built atoms.now bonds.now n m flags.new ea.new eb.new el.new }
+    ensures { Built tables.entry.atoms.now tables.entry.bonds.now tables.entry.n tables.entry.m flags.new ea.new eb.new el.new }
 {
+    let Tables { atoms, bonds, n, m } = tables;
     wire(bonds, m, ea, eb, el, sums);
     fill_flags(atoms, sums, n, flags);
 }

@@ -2,7 +2,7 @@
 #![tactic(auto)]
 
 ghost use Rattle.std.specs.Prelude.{◌≡◌, ◌&&◌, not, ◌<◌, ◌≤◌, eqb, length};
-ghost use Rattle.loops.specs.Loop.{pick};
+ghost use Rattle.kinds.specs.Kind.{given};
 ghost use Rattle.table.specs.Limits.{max_bonds};
 ghost use Rattle.table.specs.Marks.{side, double_at, double_count, crowded, crowded_ends, crowded_bond, none_crowded, stray, none_stray, unmarked};
 ghost use Rattle.table_marks.specs.Chosen.{none_crowded_by};
@@ -10,27 +10,20 @@ ghost use Rattle.table_marks.specs.Chosen.{none_crowded_by};
 use ids::{AtomId, BondId};
 use table::{FIRST, KIND, SECOND, cell};
 
-// internal: the side of an atom on which a bond places its neighbour, as a mark: `/` is above; 0 where it places none.
-pub fn side(bonds: &[i32], a: AtomId, b: BondId) -> u8
+// internal: the side of an atom on which a bond places its neighbour, as a mark: `/` is above; none where it places none.
+pub fn side(bonds: &[i32], a: AtomId, b: BondId) -> Option<u8>
     requires { b.0 < max_bonds }
-    ensures { result ≡ side bonds.now a.0 b.0 }
+    ensures { result ≡ given (side bonds.now a.0 b.0) }
 {
     let mark = kinds::mark(cell::bond_number(bonds, b, KIND));
     if cell::bond_number(bonds, b, FIRST) == a.0 {
         return mark;
     }
     if cell::bond_number(bonds, b, SECOND) == a.0 {
-        let back = kinds::turned(mark);
-        return back;
+        let back = kinds::turned(mark?);
+        return Some(back);
     }
-    0
-}
-
-// 1 for yes.
-fn one_if(b: bool) -> usize
-    ensures { (result ≡ pick b 1 0) × (result ≤ 1) }
-{
-    if b { 1 } else { 0 }
+    None
 }
 
 // Whether two of m bonds place neighbours of an atom on the same side.
@@ -38,14 +31,12 @@ fn crowded(bonds: &[i32], m: usize, a: AtomId) -> bool
     requires { m ≤ max_bonds }
     ensures { result ≡ crowded bonds.now m a.0 }
 {
-    let mut above = 0;
-    let mut below = 0;
-    let mut i = 0;
-    while i < m {
+    let mut above = 0usize;
+    let mut below = 0usize;
+    for i in 0..m {
         let s = side(bonds, a, BondId(i));
-        above += one_if(s == kinds::UP);
-        below += one_if(s == kinds::DOWN);
-        i += 1;
+        above += usize::from(s == Some(kinds::UP));
+        below += usize::from(s == Some(kinds::DOWN));
     }
     (1 < above) | (1 < below)
 }
@@ -74,34 +65,12 @@ fn crowded_bond(bonds: &[i32], m: usize, b: BondId) -> bool
     crowded_end(bonds, m, b)
 }
 
-// No end of a double bond is crowded, each double bond looked at.
-fn all_uncrowded(bonds: &[i32], m: usize) -> bool
-    requires { m ≤ max_bonds }
-    ensures { result ≡ none_crowded bonds.now m }
-{
-    let mut i = 0;
-    while i < m {
-        if crowded_bond(bonds, m, BondId(i)) {
-            return false;
-        }
-        i += 1;
-    }
-    true
-}
-
-// No bond has a mark.
-fn unmarked(bonds: &[i32], m: usize) -> bool
+// internal: no bond has a mark.
+pub fn unmarked(bonds: &[i32], m: usize) -> bool
     requires { m ≤ max_bonds }
     ensures { result ≡ unmarked bonds.now m }
 {
-    let mut i = 0;
-    while i < m {
-        if kinds::mark(cell::bond_number(bonds, BondId(i), KIND)) != 0 {
-            return false;
-        }
-        i += 1;
-    }
-    true
+    (0..m).all(|i| !kinds::is_mark(cell::bond_number(bonds, BondId(i), KIND)))
 }
 
 // internal: no end of a double bond is crowded: 20 is not given.
@@ -109,10 +78,7 @@ pub fn none_crowded(bonds: &[i32], m: usize) -> bool
     requires { m ≤ max_bonds }
     ensures { result ≡ none_crowded bonds.now m }
 {
-    if unmarked(bonds, m) {
-        return true;
-    }
-    all_uncrowded(bonds, m)
+    unmarked(bonds, m) || (0..m).all(|i| !crowded_bond(bonds, m, BondId(i)))
 }
 
 // Whether an atom has a double bond.
@@ -120,14 +86,7 @@ fn has_double(bonds: &[i32], m: usize, a: AtomId) -> bool
     requires { m ≤ max_bonds }
     ensures { result ≡ not (eqb (double_count bonds.now m a.0) 0) }
 {
-    let mut i = 0;
-    while i < m {
-        if is_double_at(bonds, a, BondId(i)) {
-            return true;
-        }
-        i += 1;
-    }
-    false
+    (0..m).any(|i| is_double_at(bonds, a, BondId(i)))
 }
 
 // Whether a bond is a double bond at an atom.
@@ -146,7 +105,7 @@ fn stray(bonds: &[i32], m: usize, b: BondId) -> bool
     requires { (m ≤ max_bonds) × (b.0 < m) }
     ensures { result ≡ stray bonds.now m b.0 }
 {
-    if kinds::mark(cell::bond_number(bonds, b, KIND)) == 0 {
+    if !kinds::is_mark(cell::bond_number(bonds, b, KIND)) {
         return false;
     }
     let first = cell::bond_number(bonds, b, FIRST);
@@ -159,14 +118,7 @@ pub fn none_stray(bonds: &[i32], m: usize) -> bool
     requires { m ≤ max_bonds }
     ensures { result ≡ none_stray bonds.now m }
 {
-    let mut i = 0;
-    while i < m {
-        if stray(bonds, m, BondId(i)) {
-            return false;
-        }
-        i += 1;
-    }
-    true
+    (0..m).all(|i| !stray(bonds, m, BondId(i)))
 }
 
 // Whether a row chooses a bond, x being its cell, and an end of the bond is crowded.
@@ -180,28 +132,10 @@ fn crowded_choice(bonds: &[i32], m: usize, b: BondId, x: u8) -> bool
     crowded_end(bonds, m, b)
 }
 
-// No end of a bond that a row chooses is crowded, each such bond looked at.
-fn chosen_uncrowded(bonds: &[i32], m: usize, row: &[u8]) -> bool
-    requires { (m ≤ max_bonds) × (m ≤ length row.now) }
-    ensures { result ≡ none_crowded_by bonds.now m row.now }
-{
-    let mut i = 0;
-    while i < m {
-        if crowded_choice(bonds, m, BondId(i), row[i]) {
-            return false;
-        }
-        i += 1;
-    }
-    true
-}
-
 // internal: no end of a bond that a row chooses is crowded: where these become double, 20 is not given.
 pub fn none_crowded_by(bonds: &[i32], m: usize, row: &[u8]) -> bool
     requires { (m ≤ max_bonds) × (m ≤ length row.now) }
     ensures { result ≡ none_crowded_by bonds.now m row.now }
 {
-    if unmarked(bonds, m) {
-        return true;
-    }
-    chosen_uncrowded(bonds, m, row)
+    unmarked(bonds, m) || (0..m).all(|i| !crowded_choice(bonds, m, BondId(i), row[i]))
 }

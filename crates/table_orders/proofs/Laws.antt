@@ -11,6 +11,7 @@ use lib.Seq.{take-suc-set, take_all}
 use lib.IntN.{ℤ, pos}
 use lib.Dec.{eqb, ltb}
 use borrow.Author.Tests.{eq-eqb, ne_eqb, eqb-true, eqb-false, ltb-true, ltb-false}
+use mir.Val.{bool_byte}
 use Rattle.loops.specs.Loop.{pick, run}
 use Rattle.parity.specs.Parity.{flip_if, oddly, odd_pairs, odd}
 use Rattle.parity.specs.Mark.{other_mark, mark_if}
@@ -55,6 +56,11 @@ pub record Filling (rank : ℕ → ℕ) (bonds : List ℤ) (a m : ℕ) (l four :
   pub few : k ≤ 4
   pub same : take k four ++ map rank (bonds_from bonds a i (m - i)) ≡ l
   pub total : length l ≡ 4
+
+-- a bool as a number
+pub byte_one : (b : Bool) → bool_byte b ≡ pick b 1 0
+byte_one true = refl
+byte_one false = refl
 
 pub filling-start : {rank : ℕ → ℕ} {bonds : List ℤ} {a m : ℕ} (h : ℕ) {k : ℕ} → k ≡ pick (eqb h 1) 1 0 → length (hydrogen_rank h ++ map rank (bonds_at bonds m a)) ≡ 4
     → Filling rank bonds a m (hydrogen_rank h ++ map rank (bonds_at bonds m a)) (replicate 4 1) k 0

@@ -2,7 +2,6 @@
 #![tactic(auto)]
 
 ghost use Rattle.std.specs.Prelude.{◌≡◌, true, false, [], ◌∷◌, ◌++◌, map, ◌+◌, ◌*◌, ◌<◌, ◌≤◌, length};
-ghost use Rattle.loops.specs.Loop.{pick};
 ghost use Rattle.parity.specs.Parity.{flip_if, odd};
 ghost use Rattle.parity.specs.Mark.{other_mark};
 ghost use Rattle.table.specs.Limits.{max_atoms, max_bonds};
@@ -44,13 +43,6 @@ fn other_mark(k: u8) -> u8
     }
 }
 
-// 1 for yes.
-fn one_if(b: bool) -> usize
-    ensures { result ≡ pick b 1 0 }
-{
-    if b { 1 } else { 0 }
-}
-
 // Whether an atom is an end of a bond.
 fn touches(bonds: &[i32], a: AtomId, b: BondId) -> bool
     requires { b.0 < max_bonds }
@@ -80,8 +72,9 @@ fn ranks_at(bonds: &[i32], m: usize, a: AtomId, h: usize, ranks: &[u16]) -> [u16
     ensures { result ≡ hydrogen_rank h ++ map (at_end ranks.now bonds.now a.0) (bonds_at bonds.now m a.0) }
 {
     let mut four = [1u16; FOUR];
-    let mut k = one_if(h == 1);
+    let mut k = usize::from(h == 1);
     let mut i = 0;
+    // Stays: it goes on until four are found, which is known to be before the bonds end; a range of bonds would ask for them once more.
     while k < FOUR {
         if touches(bonds, a, BondId(i)) {
             four[k] = rank_of(bonds, a, BondId(i), ranks);
@@ -116,12 +109,10 @@ pub fn turn_marks(atoms: &mut [i32], bonds: &[i32], n: usize, m: usize, ranks: &
     requires m_value { (none_unfit atoms.old bonds.now n m ≡ true) × (2 * m ≤ length ranks.now) }
     ensures { atoms.new ≡ turn_marks (at_end ranks.now bonds.now) bonds.now m n atoms.old }
 {
-    let mut i = 0;
-    while i < n {
+    for i in 0..n {
         let k = turned_mark(atoms, bonds, m, AtomId(i), ranks);
         if k != 0 {
             cell::put_atom_cell(atoms, AtomId(i), MARK, k as i32);
         }
-        i += 1;
     }
 }

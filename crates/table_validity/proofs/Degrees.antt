@@ -11,12 +11,13 @@ use lib.Seq.{get_or-set_same, get_or-set_other, ext_get_or}
 use lib.IntN.{ℤ}
 use lib.Dec.{eqb, ltb}
 use borrow.Author.Tests.{not-true, eqb-true, eqb-false, ltb-true, ltb-false, lt-ltb, le-leb, lt-leb}
+use Rattle.std.specs.Prelude.{Result, Ok, Err}
+use Rattle.std.specs.Result.{is_ok}
 use Rattle.loops.specs.Loop.{pick, each, up_to}
 use Rattle.loops.proofs.Loops.{Left, left-start, left-pass, left-fail, left_end, length-up_to, up_to-at, each_at, each_all, each_same}
 use Rattle.refusal.proofs.Codes.{code-range}
 use Rattle.table.specs.Cells.{selected, hydrogens, mark, end1, end2, touches, kind}
-use Rattle.table.specs.declared.Check.{Check}
-use Rattle.table.specs.declared.Check.TheVariants.{Fine, Refused}
+use Rattle.refusal.specs.declared.Refusal.{Refusal}
 use Rattle.table.specs.Valid.{valid, Valid, check_code}
 use Rattle.kinds.specs.Kind.{is_mark}
 use Rattle.table.specs.Marks.{none_crowded, none_stray, stray, unmarked}
@@ -184,18 +185,14 @@ module _ {atoms : List ℤ} {s : List ℕ} {n : ℕ} where
         rw (left_end w.loose h, u)
 
 -- what a late check says of tables found valid
-abbrev pub passes : Check → Bool
-passes Fine = true
-passes (Refused r) = false
-
 module _ (atoms bonds : List ℤ) (n m : ℕ) where
   pub unsound : valid atoms bonds n m ≡ false → false ≡ sound atoms bonds n m
   unfolding sound
   unsound e = rw e
 
-  pub sound-told : (k : Check) → valid atoms bonds n m ≡ true → check_code k ≡ late_code atoms bonds n m → passes k ≡ sound atoms bonds n m
-  sound-told Fine v e = sym (sound_back atoms bonds n m (facts atoms bonds n m v) (sym e))
-  sound-told (Refused r) v e = go (sound atoms bonds n m) refl
+  pub sound-told : (k : Result (Unit {0}) Refusal) → valid atoms bonds n m ≡ true → check_code k ≡ late_code atoms bonds n m → is_ok k ≡ sound atoms bonds n m
+  sound-told (Ok _) v e = sym (sound_back atoms bonds n m (facts atoms bonds n m v) (sym e))
+  sound-told (Err r) v e = go (sound atoms bonds n m) refl
     where
       go : (x : Bool) → sound atoms bonds n m ≡ x → false ≡ x
       go true h = absurd (omega (arith, (code-range r).positive, e, sound-late atoms bonds n m h))

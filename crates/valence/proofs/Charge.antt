@@ -3,10 +3,10 @@ use mathlib.Core.Path.{◌≡◌, refl, ap, ◌∙◌}
 use mathlib.Core.Bool.{Bool, true, false, ◌&&◌, cond}
 use Prim.Native.Nat.{ℕ, zero, suc, ◌+◌, ◌-◌, ◌≤◌}
 use native.Mathlib.Omega.{arith}
-use borrow.Author.Tests.{eq-eqb, ne_eqb, ltb-true}
+use borrow.Author.Tests.{eq-eqb, ne_eqb}
 use lib.Dec.{eqb, leb, ltb}
-use lib.IntN.{ℤ, pos, negsuc, nat_abs, neg_ℤ, sub_ℕ, ◌+ℤ◌, ◌-ℤ◌, +ℤ_idl, +ℤ_idr}
-use lib.Signed.{mag, lt_z, le_z}
+use lib.IntN.{ℤ, pos, negsuc, nat_abs, neg_ℤ, sub_ℕ, ◌+ℤ◌, ◌-ℤ◌, +ℤ_idr}
+use lib.Signed.{mag, le_z}
 use mir.Syntax.{w32, w64}
 use mir.Val.{Fits, SFits, to_z, of_z}
 use mir.Facts.{to_z-of_z, to_z_pos, sfits_widen}
@@ -57,15 +57,6 @@ module _ {z : ℤ} (f : SFits w32 z) where
   small : mag z ≤ 4294967296
   small = omega (arith, f.sfits)
 
--- ---- one law for each return of `size`
-size_below : (z : ℤ) → lt_z z (pos 0) ≡ true → pos 0 -ℤ z ≡ pos (nat_abs z)
-size_below (pos n) e = absurd (omega (arith, ltb-true n 0 e))
-size_below (negsuc n) e = +ℤ_idl (pos (suc n))
-
-size_above : (z : ℤ) → lt_z z (pos 0) ≡ false → z ≡ pos (nat_abs z)
-size_above (pos n) e = refl
-size_above (negsuc n) e = absurd (let q : ◌≡◌ {A = ℕ} 0 1 = cc in omega arith)
-
 mag-size : (z : ℤ) → nat_abs z ≤ mag z + 1
 mag-size (pos n) = omega arith
 mag-size (negsuc n) = omega arith
@@ -73,16 +64,6 @@ mag-size (negsuc n) = omega arith
 -- a size that is told, and that it fits
 abbrev Told : ℤ → ℤ → Type 0
 Told r x = (r ≡ x) × SFits w64 r
-
-module _ (z : ℤ) (f : SFits w32 z) where
-  pub negated_fits : SFits w64 (pos 0 -ℤ widened z)
-  negated_fits = rw (widened_is f) (difference-fits (pos 0) z (omega arith) (small f))
-
-  pub size-negated : lt_z (widened z) (pos 0) ≡ true → Told (to_z w64 (of_z w64 (pos 0 -ℤ widened z))) (pos (nat_abs z))
-  size-negated e = rw (to_z-of_z negated_fits) (ap (λ (x : ℤ). pos 0 -ℤ x) (widened_is f) ∙ size_below z (rw (widened_is f) at e), negated_fits)
-
-  pub size-itself : lt_z (widened z) (pos 0) ≡ false → Told (widened z) (pos (nat_abs z))
-  size-itself e = rw (widened_is f) (size_above z (rw (widened_is f) at e), sfits_widen tt f)
 
 -- ---- one law for each return of `shifted_target`
 -- a small number read as signed
@@ -99,16 +80,19 @@ module _ (e : ℕ) {z : ℤ} (f : SFits w32 z) {t : ℕ} (i : t ≡ first_target
   first_signed : to_z w64 t ≡ pos t
   first_signed = unsigned t (omega (arith, first_small))
 
-  module _ {s : ℤ} (g : Told s (pos (nat_abs (handed z)))) where
-    lessened : to_z w64 t -ℤ to_z w64 (of_z w64 s) ≡ pos (first_target e) -ℤ pos (nat_abs z)
-    lessened = rw (first_signed, to_z-of_z g.1, g.0, i, to_z-of_z f)
+  module _ {s : ℕ} (q : s ≡ nat_abs (handed z)) where
+    g : s ≡ nat_abs z
+    g = rw (to_z-of_z f) at q
 
-    pub lessened-fits : SFits w64 (to_z w64 t -ℤ to_z w64 (of_z w64 s))
+    lessened : to_z w64 t -ℤ to_z w64 s ≡ pos (first_target e) -ℤ pos (nat_abs z)
+    lessened = rw (first_signed, unsigned s (omega (arith, g, mag-size z, f.sfits)), g, i)
+
+    pub lessened-fits : SFits w64 (to_z w64 t -ℤ to_z w64 s)
     lessened-fits = rw lessened (difference-fits (pos (first_target e)) (pos (nat_abs z)) (omega (arith, first-within e)) (omega (arith, mag-size z, f.sfits)))
 
-    pub shifted-carbon : e ≡ 6 → Told (to_z w64 (of_z w64 (to_z w64 t -ℤ to_z w64 (of_z w64 s)))) (shifted_target e z)
+    pub shifted-carbon : e ≡ 6 → to_z w64 (of_z w64 (to_z w64 t -ℤ to_z w64 s)) ≡ shifted_target e z
     unfolding shifted_target
-    shifted-carbon h = rw (to_z-of_z lessened-fits) (lessened ∙ simp (eq-eqb e 6 h), lessened-fits)
+    shifted-carbon h = rw (to_z-of_z lessened-fits) (lessened ∙ simp (eq-eqb e 6 h))
 
   raised : to_z w64 t +ℤ widened z ≡ pos (first_target e) +ℤ z
   raised = rw (first_signed, widened_is f, i)
@@ -116,9 +100,9 @@ module _ (e : ℕ) {z : ℤ} (f : SFits w32 z) {t : ℕ} (i : t ≡ first_target
   pub raised-fits : SFits w64 (to_z w64 t +ℤ widened z)
   raised-fits = rw raised (sum_fits (pos (first_target e)) z (omega (arith, first-within e)) (small f))
 
-  pub shifted-other : (e ≡ 6 → ⊥) → Told (to_z w64 (of_z w64 (to_z w64 t +ℤ widened z))) (shifted_target e z)
+  pub shifted-other : (e ≡ 6 → ⊥) → to_z w64 (of_z w64 (to_z w64 t +ℤ widened z)) ≡ shifted_target e z
   unfolding shifted_target
-  shifted-other h = rw (to_z-of_z raised-fits) (raised ∙ simp (ne_eqb e 6 h), raised-fits)
+  shifted-other h = rw (to_z-of_z raised-fits) (raised ∙ simp (ne_eqb e 6 h))
 
 -- ---- one law for each return of `delocalized`
 pub not_selected : (e selected : ℕ) (z : ℤ) (s h : ℕ) → (selected ≡ 1 → ⊥) → false ≡ delocalized e selected z s h

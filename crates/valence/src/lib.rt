@@ -1,17 +1,19 @@
 // Valence: target valences, implied hydrogens, and the delocalization rule.
 #![tactic(auto)]
 
-ghost use Rattle.std.specs.Prelude.{◌≡◌, ◌+◌, ◌-◌, ◌<◌, ◌≤◌, eqb, pos, nat_abs};
+ghost use Rattle.std.specs.Prelude.{◌≡◌, ◌+◌, ◌-◌, ◌<◌, ◌≤◌, eqb};
 ghost use Rattle.std.specs.Int.{w64};
 ghost use Rattle.std.proofs.Common.{SFits};
 ghost use Rattle.loops.specs.Loop.{pick};
 ghost use Rattle.valence.specs.Valence.{targets, target_row, first_target, targets_for, first_fitting, reached_in, values_of, hydrogens_of, shifted_target, delocalized};
 
 // The target valences of an element in their order; 0 for each that it lacks.
+// Stays: a target of 0 is below every sum that is held against it, so one that is lacking needs no case.
 #[derive(Clone, Copy)]
 struct Targets(usize, usize, usize);
 
 // What a bond sum meets: the target valence reached, no target (as `*`), or above all targets (an over-full atom).
+// Stays: two answers without a target mean different things, and the report tells them apart; a Result of an Option says no more.
 #[derive(Clone, Copy)]
 pub enum Reached {
     Target(usize),
@@ -27,6 +29,7 @@ pub struct Hydrogens {
 }
 
 // The target valences of an element.
+#[tactic(auto, unfolding(crate::specs::Valence::first_target, crate::specs::Valence::targets))]
 fn target_row(e: usize) -> Targets
     ensures { result ≡ target_row e }
 {
@@ -40,6 +43,7 @@ fn target_row(e: usize) -> Targets
 }
 
 // The first target valence of an element above chlorine; 0 where it has none.
+#[tactic(auto, unfolding(crate::specs::Valence::first_target, crate::specs::Valence::targets))]
 fn heavy_target(e: usize) -> usize
     requires { 17 < e }
     ensures { result ≡ first_target e }
@@ -51,6 +55,8 @@ fn heavy_target(e: usize) -> usize
 }
 
 // The first target valence of an element; 0 where it has none.
+// Stays: the rule of delocalization counts from 0 there, as its definition does.
+#[tactic(auto, unfolding(crate::specs::Valence::first_target, crate::specs::Valence::targets))]
 pub fn first_target(e: usize) -> usize
     ensures { result ≡ first_target e }
 {
@@ -69,6 +75,7 @@ pub fn first_target(e: usize) -> usize
 }
 
 // The target reached where the sum is above the first one.
+#[tactic(auto, unfolding(crate::specs::Valence::first_target, crate::specs::Valence::targets, crate::specs::Valence::first_fitting))]
 fn reach_further(e: usize, sum: usize) -> Reached
     requires { first_target e < sum }
     ensures { result ≡ first_fitting (targets e) sum }
@@ -84,6 +91,7 @@ fn reach_further(e: usize, sum: usize) -> Reached
 }
 
 // The target that the bond sum of an atom outside brackets reaches, from its element's first.
+#[tactic(auto, unfolding(crate::specs::Valence::first_target, crate::specs::Valence::targets, crate::specs::Valence::first_fitting, crate::specs::Valence::reached_in))]
 fn reach(e: usize, selected: usize, sum: usize, first: usize) -> Reached
     requires { first ≡ first_target e }
     ensures { result ≡ reached_in (targets_for e selected) sum }
@@ -105,14 +113,8 @@ fn room(reached: Reached, sum: usize) -> usize
     ensures { result ≡ (values_of reached).target - sum }
 {
     match reached {
-        Reached::Target(t) => {
-            if sum <= t {
-                return t - sum;
-            }
-            0
-        }
-        Reached::NoTarget => 0,
-        Reached::AboveAll => 0,
+        Reached::Target(t) => t.saturating_sub(sum),
+        Reached::NoTarget | Reached::AboveAll => 0,
     }
 }
 
@@ -143,15 +145,6 @@ pub fn implied(e: usize, selected: usize, sum: usize) -> Hydrogens
     Hydrogens { count, reached }
 }
 
-// The size of a charge.
-fn size(charge: i32) -> i64
-    ensures value { result ≡ pos (nat_abs charge) }
-    ensures sfits { SFits w64 result }
-{
-    let c = charge as i64;
-    if c < 0 { 0 - c } else { c }
-}
-
 // The first target valence of an element at a charge, as the delocalization rule looks at it; it may be below zero.
 pub fn shifted_target(e: usize, charge: i32) -> i64
     ensures value { result ≡ shifted_target e charge }
@@ -159,7 +152,7 @@ pub fn shifted_target(e: usize, charge: i32) -> i64
 {
     let first = first_target(e) as i64;
     if e == 6 {
-        return first - size(charge);
+        return first - charge.unsigned_abs() as i64;
     }
     first + charge as i64
 }

@@ -14,10 +14,11 @@ use Rattle.refusal.specs.declared.Refusal.{Refusal}
 use Rattle.refusal.specs.Code.{code_of}
 use Rattle.table.specs.Limits.{max_atoms, max_bonds, atom_cells, bond_cells}
 use Rattle.reading.specs.Read.{ReadResult, read_of}
-use Rattle.reader.specs.declared.ending.ReadAnswer as reply
-use Rattle.reader.specs.Ending.{told}
+use Rattle.std.proofs.Common.{Result}
+use Rattle.reader.specs.declared.answer.Counts.{Counts}
+use Rattle.reader.specs.declared.answer.TextRefusal.{TextRefusal}
+use Rattle.reader.specs.Ending.{told, counted, refused_text}
 use Rattle.register.specs.Layout.{size}
-use Rattle.register.specs.declared.RegisterAnswer.{RegisterAnswer}
 use Rattle.register.specs.Answers as register
 use Rattle.withdrawal.specs.Withdrawal.{WithdrawOut, read_text, withdrew, withdraw_of}
 
@@ -33,17 +34,17 @@ module _ (r : List ℕ) (t : ℕ) (s : List ℕ) where
   unfolding withdraw_of
   short-register l = rw (lt-ltb (length r) size l)
 
-  module _ (l : size ≤ length r) (a b : List ℤ) (x : reply.ReadAnswer) (read : told x a b ≡ read_blank s) where
+  module _ (l : size ≤ length r) (a b : List ℤ) (x : Result Counts TextRefusal) (read : told x a b ≡ read_blank s) where
     -- the answer by what reading hands back
     abbrev by_read : ReadResult → WithdrawOut
     by_read q = pick (eqb q.code 0) (withdrew (register.added_of r t s).code 0 (register.added_of r t s).register) (withdrew q.code q.offset r)
 
-    by_read_lem : {y : reply.ReadAnswer} → x ≡ y → by_read (told y a b) ≡ withdraw_of r t s
+    by_read_lem : {y : Result Counts TextRefusal} → x ≡ y → by_read (told y a b) ≡ withdraw_of r t s
     unfolding withdraw_of read_text
-    by_read_lem e = sym (ap (λ (y : reply.ReadAnswer). by_read (told y a b)) e) ∙ ap by_read read ∙ rw (le-ltb (length r) size l)
+    by_read_lem e = sym (ap (λ (y : Result Counts TextRefusal). by_read (told y a b)) e) ∙ ap by_read read ∙ rw (le-ltb (length r) size l)
 
-    pub unread-text : {c : Refusal} {p z : ℕ} → x ≡ reply.ReadAnswer.Refused c p → z ≡ code_of c → withdrew z p r ≡ withdraw_of r t s
-    unread-text {c} {p} e d = ap (λ (z : ℕ). withdrew z p r) d ∙ sym (ap (λ (z : Bool). pick z (withdrew (register.added_of r t s).code 0 (register.added_of r t s).register) (withdrew (code_of c) p r)) (code-not-zero c)) ∙ by_read_lem e
+    pub unread-text : {c : Refusal} {p : ℕ} → x ≡ refused_text c p → withdrew (code_of c) p r ≡ withdraw_of r t s
+    unread-text {c} {p} e = sym (ap (λ (z : Bool). pick z (withdrew (register.added_of r t s).code 0 (register.added_of r t s).register) (withdrew (code_of c) p r)) (code-not-zero c)) ∙ by_read_lem e
 
-    pub added-text : {n m k : ℕ} → x ≡ reply.ReadAnswer.Molecule n m k → (o : RegisterAnswer) {q : List ℕ} {c : ℕ} → register.out o q ≡ register.added_of r t s → c ≡ register.code_of o → withdrew c 0 q ≡ withdraw_of r t s
-    added-text e o {q} {c} w d = ap (λ (z : ℕ). withdrew z 0 q) d ∙ ap (λ (z : register.RegisterResult). withdrew z.code 0 z.register) w ∙ by_read_lem e
+    pub added-text : {n m k : ℕ} → x ≡ counted n m k → {q : List ℕ} {c : ℕ} → register.told c q ≡ register.added_of r t s → withdrew c 0 q ≡ withdraw_of r t s
+    added-text e {q} {c} w = ap (λ (z : register.RegisterResult). withdrew z.code 0 z.register) w ∙ by_read_lem e

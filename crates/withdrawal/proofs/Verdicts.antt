@@ -14,8 +14,10 @@ use Rattle.table.specs.Limits.{max_atoms, max_bonds, atom_cells, bond_cells}
 use Rattle.table.specs.Valid.{Valid}
 use Rattle.reading.specs.Read.{ReadResult, read_of}
 use Rattle.reading.proofs.Accepted.{read-valid, read-accepted}
-use Rattle.reader.specs.declared.ending.ReadAnswer as reply
-use Rattle.reader.specs.Ending.{told}
+use Rattle.std.proofs.Common.{Result}
+use Rattle.reader.specs.declared.answer.Counts.{Counts}
+use Rattle.reader.specs.declared.answer.TextRefusal.{TextRefusal}
+use Rattle.reader.specs.Ending.{told, counted, refused_text}
 use Rattle.same_model.specs.Same.{Molecule, molecule}
 use Rattle.folding.specs.Folding.{folded, Complete}
 use Rattle.folding.proofs.Claims.{folded-complete}
@@ -39,18 +41,18 @@ abbrev bond_zeros : List ℤ
 bond_zeros = replicate (bond_cells * max_bonds) (pos 0)
 
 -- that is refused
-module _ (s : List ℕ) (a b : List ℤ) (x : reply.ReadAnswer) (read : told x a b ≡ read_of s atom_zeros bond_zeros) {c : Refusal} {p : ℕ} (e : x ≡ reply.ReadAnswer.Refused c p) where
+module _ (s : List ℕ) (a b : List ℤ) (x : Result Counts TextRefusal) (read : told x a b ≡ read_of s atom_zeros bond_zeros) {c : Refusal} {p : ℕ} (e : x ≡ refused_text c p) where
   pub text-refused : accepted s ≡ false
   unfolding read_text
-  text-refused = sym (ap (λ (t : ReadResult). eqb t.code 0) (sym (ap (λ (y : reply.ReadAnswer). told y a b) e) ∙ read)) ∙ code-not-zero c
+  text-refused = sym (ap (λ (t : ReadResult). eqb t.code 0) (sym (ap (λ (y : Result Counts TextRefusal). told y a b) e) ∙ read)) ∙ code-not-zero c
 
   pub refused_says : (y : Molecule) → Says s y Verdict.Unsure
   refused_says y = inl text-refused
 
 -- that is accepted
-module _ (s : List ℕ) (a b : List ℤ) (x : reply.ReadAnswer) (read : told x a b ≡ read_of s atom_zeros bond_zeros) {n m k : ℕ} (e : x ≡ reply.ReadAnswer.Molecule n m k) where
-  same : told (reply.ReadAnswer.Molecule n m k) a b ≡ read_of s atom_zeros bond_zeros
-  same = sym (ap (λ (y : reply.ReadAnswer). told y a b) e) ∙ read
+module _ (s : List ℕ) (a b : List ℤ) (x : Result Counts TextRefusal) (read : told x a b ≡ read_of s atom_zeros bond_zeros) {n m k : ℕ} (e : x ≡ counted n m k) where
+  same : told (counted n m k) a b ≡ read_of s atom_zeros bond_zeros
+  same = sym (ap (λ (y : Result Counts TextRefusal). told y a b) e) ∙ read
 
   fine : (read_of s atom_zeros bond_zeros).code ≡ 0
   fine = sym (ap (λ (t : ReadResult). t.code) same)

@@ -19,8 +19,10 @@ use Rattle.withdrawal.specs.declared.verdict.Verdict.{Verdict}
 use Rattle.withdrawal.specs.declared.walk.Withdrawn.{Withdrawn}
 use Rattle.withdrawal.specs.Withdrawal.{is_listed, is_unsure, Place, nowhere, at, or_else, first_of, answers, of_unsure, of_listed, judged_by}
 use Rattle.withdrawal.specs.Verdict.{Says, Holds}
-use Rattle.withdrawal.specs.Answer.{out_of}
-use Rattle.withdrawal.specs.Walk.{place_of, Seen, Walked}
+use Rattle.withdrawal.specs.Answer.{said_of}
+use Rattle.std.specs.Prelude.{Option, None, Some}
+use Rattle.std.specs.Option.{option_or}
+use Rattle.withdrawal.specs.Walk.{place_of, left_of, Seen, Walked}
 
 -- what is said of a body by a verdict, under other names of both
 pub said : {b d : List ℕ} (y : Molecule) {v w : Verdict} → b ≡ d → v ≡ w → Says b y v → Says d y w
@@ -59,14 +61,14 @@ more-after : (v : ℕ → Verdict) (p : ℕ) (w rest : Verdict) (q : ℕ) → p 
 more-after v p w rest q l = rw (ne_eqb q p (λ e. omega arith), le-ltb q p (omega arith))
 
 module _ (r : List ℕ) (y : Molecule) where
-  pub seen_start : Seen r y max_entries 0
+  pub seen_start : Seen r y None 0
   unfolding first_of
-  seen_start = record { verdict = λ q. Verdict.Unsure; within = omega arith; says = λ q l. absurd (omega arith); none_listed = refl; first_unsure = refl; reason = λ e. never (sym e) }
+  seen_start = record { verdict = λ q. Verdict.Unsure; within = omega arith; says = λ q l. absurd (omega arith); none_listed = refl; first_unsure = refl; reason = λ q e. cc }
 
-  pub seen_same : {u v p : ℕ} → v ≡ u → Seen r y u p → Seen r y v p
-  seen_same {u} {v} {p} e s = subst (λ (z : ℕ). Seen r y z p) (sym e) s
+  pub seen_same : {u v : Option ℕ} {p : ℕ} → v ≡ u → Seen r y u p → Seen r y v p
+  seen_same {u} {v} {p} e s = subst (λ (z : Option ℕ). Seen r y z p) (sym e) s
 
-  module _ {u p : ℕ} (s : Seen r y u p) where
+  module _ {u : Option ℕ} {p : ℕ} (s : Seen r y u p) where
     -- what is said of the entries up to this one
     up_to : (w rest : Verdict) → Holds (body_of r p) y w → (q : ℕ) → q < p + 1 → Holds (body_of r q) y (more s.verdict p w rest q)
     up_to w rest z q l = go (ℕ_discrete q p)
@@ -82,8 +84,8 @@ module _ (r : List ℕ) (y : Molecule) where
         ∙ ap (λ (z : Place). or_else z (pick (t (more s.verdict p w rest p)) (at p) nowhere)) (first-same (λ q. t (more s.verdict p w rest q)) (λ q. t (s.verdict q)) p (λ q l. ap t (more-before s.verdict p w rest q l)))
         ∙ ap (λ (z : Verdict). or_else (first_of (λ q. t (s.verdict q)) p) (pick (t z) (at p) nowhere)) (more-at s.verdict p w rest)
 
-    seen_more : (w : Verdict) → is_listed w ≡ false → p < count r → Holds (body_of r p) y w → (u' : ℕ) → or_else (place_of u) (pick (is_unsure w) (at p) nowhere) ≡ place_of u'
-        → (eqb u' max_entries ≡ false → (u' < p + 1) × Says (body_of r u') y Verdict.Unsure) → Seen r y u' (p + 1)
+    seen_more : (w : Verdict) → is_listed w ≡ false → p < count r → Holds (body_of r p) y w → (u' : Option ℕ) → or_else (place_of u) (pick (is_unsure w) (at p) nowhere) ≡ place_of u'
+        → ((q : ℕ) → u' ≡ Some q → (q < p + 1) × Says (body_of r q) y Verdict.Unsure) → Seen r y u' (p + 1)
     seen_more w h l z u' e g =
         record {
           verdict = more s.verdict p w Verdict.Unsure;
@@ -94,25 +96,25 @@ module _ (r : List ℕ) (y : Molecule) where
           reason = g;
         }
 
-    earlier : eqb u max_entries ≡ false → (u < p + 1) × Says (body_of r u) y Verdict.Unsure
-    earlier f = (omega (arith, (s.reason f).0), (s.reason f).1)
+    earlier : (q : ℕ) → u ≡ Some q → (q < p + 1) × Says (body_of r q) y Verdict.Unsure
+    earlier q f = (omega (arith, (s.reason q f).0), (s.reason q f).1)
 
     pub seen_other : p < count r → Says (body_of r p) y Verdict.Other → Seen r y u (p + 1)
     seen_other l z = seen_more Verdict.Other refl l z u (or-nowhere (place_of u)) earlier
 
-    pub seen-unsure : p < count r → p < max_entries → Says (body_of r p) y Verdict.Unsure → {u' : ℕ} → u' ≡ pick (eqb u max_entries) p u → Seen r y u' (p + 1)
-    seen-unsure l k z {u'} e = seen_more Verdict.Unsure refl l tt u' (go (eqb u max_entries) refl ∙ ap place_of (sym e)) (why (eqb u max_entries) refl)
+    pub seen-unsure : p < count r → Says (body_of r p) y Verdict.Unsure → {u' : Option ℕ} → u' ≡ option_or u (Some p) → Seen r y u' (p + 1)
+    seen-unsure l z {u'} e = subst (λ (k : Option ℕ). Seen r y k (p + 1)) (sym e) (seen_more Verdict.Unsure refl l tt (option_or u (Some p)) (go u) (why u refl))
       where
-        go : (b : Bool) → eqb u max_entries ≡ b → or_else (place_of u) (at p) ≡ place_of (pick (eqb u max_entries) p u)
-        go true d = rw d (sym (ap (λ (z : Bool). pick z nowhere (at p)) (ne_eqb p max_entries (λ x. omega arith))))
-        go false d = rw d (sym (ap (λ (z : Bool). pick z nowhere (at u)) d))
+        go : (k : Option ℕ) → or_else (place_of k) (at p) ≡ place_of (option_or k (Some p))
+        go None = refl
+        go (Some q) = refl
 
-        why : (b : Bool) → eqb u max_entries ≡ b → eqb u' max_entries ≡ false → (u' < p + 1) × Says (body_of r u') y Verdict.Unsure
-        why true d f = let x : u' ≡ p = e ∙ ap (λ (c : Bool). pick c p u) d in subst (λ (n : ℕ). (n < p + 1) × Says (body_of r n) y Verdict.Unsure) (sym x) (omega arith, z)
-        why false d f = let x : u' ≡ u = e ∙ ap (λ (c : Bool). pick c p u) d in subst (λ (n : ℕ). (n < p + 1) × Says (body_of r n) y Verdict.Unsure) (sym x) (earlier d)
+        why : (k : Option ℕ) → u ≡ k → (q : ℕ) → option_or k (Some p) ≡ Some q → (q < p + 1) × Says (body_of r q) y Verdict.Unsure
+        why None d q f = let x : p ≡ q = cc in subst (λ (n : ℕ). (n < p + 1) × Says (body_of r n) y Verdict.Unsure) x (omega arith, z)
+        why (Some k) d q f = earlier q (d ∙ f)
 
     -- the end of the register
-    pub walked_end : count r ≤ p → {x : Withdrawn} → x ≡ pick (eqb u max_entries) Withdrawn.Clear (Withdrawn.Undecided u) → Walked r y x
+    pub walked_end : count r ≤ p → {x : Withdrawn} → x ≡ left_of u → Walked r y x
     unfolding judged_by
     walked_end l {x} e =
         let d : p ≡ count r = omega (arith, s.within) in
@@ -120,21 +122,19 @@ module _ (r : List ℕ) (y : Molecule) where
           verdict = s.verdict;
           says = λ q k. s.says q (omega arith);
           is =
-              ap out_of e ∙ go (eqb u max_entries)
+              ap said_of e ∙ go u
               ∙ sym (ap (λ (k : Place). of_listed r k (place_of u)) s.none_listed) ∙ ap (λ (k : Place). of_listed r (first_of (λ q. is_listed (s.verdict q)) p) k) (sym s.first_unsure)
               ∙ ap (λ (z : ℕ). of_listed r (first_of (λ q. is_listed (s.verdict q)) z) (first_of (λ q. is_unsure (s.verdict q)) z)) d;
-          undecided = subst (λ (x : Withdrawn). (out_of x).answer ≡ 2 → ((out_of x).entry < count r) × Says (body_of r (out_of x).entry) y Verdict.Unsure) (sym e) (why (eqb u max_entries) refl);
+          undecided = subst (λ (x : Withdrawn). (said_of x).answer ≡ 2 → ((said_of x).entry < count r) × Says (body_of r (said_of x).entry) y Verdict.Unsure) (sym e) (why u refl);
         }
       where
-        why : (b : Bool) → eqb u max_entries ≡ b
-            → (out_of (pick b Withdrawn.Clear (Withdrawn.Undecided u))).answer ≡ 2
-            → ((out_of (pick b Withdrawn.Clear (Withdrawn.Undecided u))).entry < count r) × Says (body_of r (out_of (pick b Withdrawn.Clear (Withdrawn.Undecided u))).entry) y Verdict.Unsure
-        why true d f = absurd (omega (arith, f))
-        why false d f = (omega (arith, (s.reason d).0, s.within), (s.reason d).1)
+        why : (k : Option ℕ) → u ≡ k → (said_of (left_of k)).answer ≡ 2 → ((said_of (left_of k)).entry < count r) × Says (body_of r (said_of (left_of k)).entry) y Verdict.Unsure
+        why None d f = absurd (omega (arith, f))
+        why (Some q) d f = (omega (arith, (s.reason q d).0, s.within), (s.reason q d).1)
 
-        go : (b : Bool) → out_of (pick b Withdrawn.Clear (Withdrawn.Undecided u)) ≡ of_unsure (pick b nowhere (at u))
-        go true = refl
-        go false = refl
+        go : (k : Option ℕ) → said_of (left_of k) ≡ of_unsure (place_of k)
+        go None = refl
+        go (Some q) = refl
 
     -- an entry that is listed: those after it are not asked
     pub walked-listed : p < count r → {t : ℕ} → t ≡ tag_of r p → Says (body_of r p) y Verdict.Listed → Walked r y (Withdrawn.Listed t p)
@@ -157,11 +157,6 @@ module _ (r : List ℕ) (y : Molecule) where
 
         all : first_of (λ q. is_listed (more s.verdict p Verdict.Listed Verdict.Unsure q)) (p + 1) ≡ at p → first_of (λ q. is_listed (more s.verdict p Verdict.Listed Verdict.Unsure q)) (count r) ≡ at p
         all f = subst (λ (n : ℕ). first_of (λ q. is_listed (more s.verdict p Verdict.Listed Verdict.Unsure q)) n ≡ at p) (omega arith) (first-stays (λ q. is_listed (more s.verdict p Verdict.Listed Verdict.Unsure q)) (p + 1) p (count r - (p + 1)) f)
-
--- a register of right layout has at most 64 entries
-pub few-entries : (r : List ℕ) → valid r ≡ true → count r ≤ max_entries
-unfolding valid
-few-entries r e = leb-true (count r) max_entries (and_left (leb (count r) max_entries) (each (valid_entry r) 0 (count r)) (and_right (eqb (get_or r 0 0) 1) (leb (count r) max_entries && each (valid_entry r) 0 (count r)) e))
 
 -- a walk against what a molecule folds to
 pub walked-folded : {r : List ℕ} {z : Molecule} (x : Molecule) {w : Withdrawn} → z ≡ folded x → Walked r z w → Walked r (folded x) w

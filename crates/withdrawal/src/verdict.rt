@@ -6,8 +6,7 @@ ghost use Rattle.folding.specs.Folding.{folded, Complete};
 ghost use Rattle.drawing_key.specs.Key.{key_of};
 ghost use Rattle.withdrawal.specs.Verdict.{Tells, Says};
 
-use reader::ending::ReadAnswer;
-use table::{ATOM_CELLS, BOND_CELLS, MAX_ATOMS, MAX_BONDS};
+use table::{ATOM_CELLS, BOND_CELLS, MAX_ATOMS, MAX_BONDS, Tables};
 
 // An entry's compound is a redrawing of the text's, it is none, or neither could be told.
 #[derive(Clone, Copy)]
@@ -21,34 +20,23 @@ pub enum Verdict {
 const BUDGET: usize = 8000;
 
 // Whether two folded molecules are redrawings; of the second, the key and those of its atoms are known.
-fn decide(
-    atoms1: &[i32],
-    bonds1: &[i32],
-    n1: usize,
-    m1: usize,
-    atoms2: &[i32],
-    bonds2: &[i32],
-    n2: usize,
-    m2: usize,
-    key2: u64,
-    keys2: &[u64],
-) -> Verdict
-    requires valid { Valid atoms1.now bonds1.now n1 m1 }
-    requires valid_2 { Valid atoms2.now bonds2.now n2 m2 }
-    requires key2_value { key2 ≡ key_of (molecule atoms2.now bonds2.now n2 m2) }
-    ensures { Tells (molecule atoms1.now bonds1.now n1 m1) (molecule atoms2.now bonds2.now n2 m2) result }
+fn decide(tables1: Tables, tables2: Tables, key2: u64, keys2: &[u64]) -> Verdict
+    requires valid { Valid tables1.atoms.now tables1.bonds.now tables1.n tables1.m }
+    requires valid_2 { Valid tables2.atoms.now tables2.bonds.now tables2.n tables2.m }
+    requires key2_value { key2 ≡ key_of (molecule tables2.atoms.now tables2.bonds.now tables2.n tables2.m) }
+    ensures { Tells (molecule tables1.entry.atoms.now tables1.entry.bonds.now tables1.entry.n tables1.entry.m) (molecule tables2.entry.atoms.now tables2.entry.bonds.now tables2.entry.n tables2.entry.m) result }
 {
+    let Tables { n: n1, .. } = tables1;
+    let Tables { n: n2, .. } = tables2;
     if n1 != n2 {
         return Verdict::Other;
     }
-    if drawing_key::key(atoms1, bonds1, n1, m1) != key2 {
+    if drawing_key::key(tables1) != key2 {
         return Verdict::Other;
     }
     let mut keys1 = [0u64; MAX_ATOMS];
-    drawing_key::fill_atom_keys(atoms1, bonds1, n1, m1, &mut keys1);
-    if redrawing_guess::shows_redrawing(
-        atoms1, bonds1, n1, m1, &keys1, atoms2, bonds2, n2, m2, keys2, BUDGET,
-    ) {
+    drawing_key::fill_atom_keys(tables1, &mut keys1);
+    if redrawing_guess::shows_redrawing(tables1, &keys1, tables2, keys2, BUDGET) {
         return Verdict::Listed;
     }
     Verdict::Unsure
@@ -60,21 +48,26 @@ fn compare(
     bonds1: &mut [i32],
     n1: usize,
     m1: usize,
-    atoms2: &[i32],
-    bonds2: &[i32],
-    n2: usize,
-    m2: usize,
+    tables2: Tables,
     key2: u64,
     keys2: &[u64],
 ) -> Verdict
     requires complete { Complete (molecule atoms1.old bonds1.old n1 m1) }
-    requires valid { Valid atoms2.now bonds2.now n2 m2 }
-    requires key2_value { key2 ≡ key_of (molecule atoms2.now bonds2.now n2 m2) }
-    ensures { Tells (folded (molecule atoms1.old bonds1.old n1 m1)) (molecule atoms2.now bonds2.now n2 m2) result }
+    requires valid { Valid tables2.atoms.now tables2.bonds.now tables2.n tables2.m }
+    requires key2_value { key2 ≡ key_of (molecule tables2.atoms.now tables2.bonds.now tables2.n tables2.m) }
+    ensures { Tells (folded (molecule atoms1.old bonds1.old n1 m1)) (molecule tables2.entry.atoms.now tables2.entry.bonds.now tables2.entry.n tables2.entry.m) result }
 {
     let c = folding::fold(atoms1, bonds1, n1, m1);
     decide(
-        atoms1, bonds1, c.atoms, c.bonds, atoms2, bonds2, n2, m2, key2, keys2,
+        Tables {
+            atoms: atoms1,
+            bonds: bonds1,
+            n: c.atoms,
+            m: c.bonds,
+        },
+        tables2,
+        key2,
+        keys2,
     )
 }
 
@@ -83,22 +76,17 @@ pub fn judge(
     body: &[u8],
     atoms1: &mut [i32; ATOM_CELLS * MAX_ATOMS],
     bonds1: &mut [i32; BOND_CELLS * MAX_BONDS],
-    atoms2: &[i32],
-    bonds2: &[i32],
-    n2: usize,
-    m2: usize,
+    tables2: Tables,
     key2: u64,
     keys2: &[u64],
 ) -> Verdict
-    requires valid { Valid atoms2.now bonds2.now n2 m2 }
-    requires key2_value { key2 ≡ key_of (molecule atoms2.now bonds2.now n2 m2) }
-    ensures { Says body.now (molecule atoms2.now bonds2.now n2 m2) result }
+    requires valid { Valid tables2.atoms.now tables2.bonds.now tables2.n tables2.m }
+    requires key2_value { key2 ≡ key_of (molecule tables2.atoms.now tables2.bonds.now tables2.n tables2.m) }
+    ensures { Says body.now (molecule tables2.entry.atoms.now tables2.entry.bonds.now tables2.entry.n tables2.entry.m) result }
 {
     let a = reader::read(body, atoms1, bonds1);
     match a {
-        ReadAnswer::Refused(_, _) => Verdict::Unsure,
-        ReadAnswer::Molecule(n1, m1, _) => compare(
-            atoms1, bonds1, n1, m1, atoms2, bonds2, n2, m2, key2, keys2,
-        ),
+        Err(_) => Verdict::Unsure,
+        Ok(t) => compare(atoms1, bonds1, t.atoms, t.bonds, tables2, key2, keys2),
     }
 }

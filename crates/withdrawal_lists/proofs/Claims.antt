@@ -12,7 +12,8 @@ use borrow.Author.Tests.{le-ltb}
 use Rattle.loops.specs.Loop.{pick}
 use Rattle.register.specs.Layout.{size, count, invalid, listed, Listed, Entry, body_of, listed_of}
 use Rattle.register.specs.Adding.{new_entry}
-use Rattle.register.specs.declared.RegisterAnswer.TheVariants.{Done, Full}
+use Rattle.std.specs.Prelude.{Ok, Err}
+use Rattle.register.specs.declared.RegisterError.TheVariants.{Full}
 use Rattle.register.specs.Answers.{code_of, emptied_of, added_of}
 use Rattle.register.specs.Calls.{room_for, add_to, add_told}
 use Rattle.register.proofs.Plain.{empty-is, empty-length, told_is}
@@ -123,7 +124,7 @@ done-has-by : (t : ℕ) (s : List ℕ) (l : Listed) → code_of (add_told l (len
 done-has-by t s invalid e = absurd (omega (arith, e))
 done-has-by t s (listed es) e = go (room_for es (length s)) e
   where
-    go : (b : Bool) → code_of (pick b Done Full) ≡ 0 → (p : ℕ) × Has p (new_entry t s) (pick b (listed (es ++ (new_entry t s ∷ []))) (listed es))
+    go : (b : Bool) → code_of (pick b (Ok tt) (Err Full)) ≡ 0 → (p : ℕ) × Has p (new_entry t s) (pick b (listed (es ++ (new_entry t s ∷ []))) (listed es))
     go true d = (length es, (omega (arith, length-append es (new_entry t s ∷ [])), get_or-append_seam es (new_entry t s) [] no_entry))
     go false d = absurd (omega (arith, d))
 

@@ -12,15 +12,18 @@ use borrow.Author.Tests.{le-leb, lt-leb, leb-true, leb-false}
 use Rattle.loops.specs.Loop.{up_to}
 use Rattle.loops.proofs.Loops.{length-up_to}
 use Rattle.table.specs.Limits.{max_atoms}
+use Rattle.refusal.specs.Code.{code_of}
+use Rattle.refusal.specs.declared.Refusal.{Refusal}
+use Rattle.refusal.specs.declared.Refusal.TheVariants.{ManyBridges, DeepWriting}
 use Rattle.table.specs.Valid.{enough}
 use Rattle.table.specs.Sound.{sound}
 use Rattle.ids.specs.Limits.{max_text}
 use Rattle.writing_walk.specs.Emit.{pre}
 use Rattle.writing_walk.specs.Walk.{forest_of, place}
-use Rattle.writing.specs.Write.{WriteResult, bond_list, text_of, renumbering, write_refused, write_short, filled, write_accepted, write_valid, write_of}
+use Rattle.writing.specs.Write.{WriteResult, bond_list, tokens, few_bridges, shallow, text_of, renumbering, write_refused, write_short, filled, write_accepted, write_valid, write_of}
 use Rattle.buffer.specs.Buffer.{BufferAt, buffer_at, Wrote}
 use Rattle.buffer.proofs.Laws.{Laid, laid, over}
-use Rattle.writer.specs.Told.{Said}
+use Rattle.writer.specs.Told.{Said, Unsaid}
 
 -- ---- clearing
 pub cleared-all : (r row : List ℕ) → row ≡ take 0 r ++ replicate (length r - 0) 0 → row ≡ replicate (length r) 0
@@ -75,15 +78,23 @@ unfolding renumbering
 renumbering-is bonds n m = refl
 
 -- ---- the answers
+pub unsaid-many : {atoms bonds : List ℤ} {n m : ℕ} {flat : Bool} {p q : BufferAt} → Said atoms bonds n m false flat p q → Unsaid bonds n m ManyBridges
+unsaid-many s = record { refused = rw (sym s.numbers); code = rw (sym s.numbers) }
+
+pub unsaid-deep : {atoms bonds : List ℤ} {n m : ℕ} {p q : BufferAt} → Said atoms bonds n m true false p q → Unsaid bonds n m DeepWriting
+unsaid-deep s = record { refused = rw (sym s.numbers, sym s.depth); code = rw (sym s.numbers) }
+
+-- 14 or 15
+pub tells-refused : {bonds : List ℤ} {n m : ℕ} {r : Refusal} → Unsaid bonds n m r → (atoms : List ℤ) (out ren : List ℕ) → write_refused (code_of r) out ren ≡ write_valid atoms bonds n m out ren
+unfolding write_valid
+tells-refused {bonds} {n} {m} {r} u atoms out ren = go (few_bridges (tokens bonds n m)) refl (shallow (tokens bonds n m)) refl
+  where
+    go : (a : Bool) → few_bridges (tokens bonds n m) ≡ a → (b : Bool) → shallow (tokens bonds n m) ≡ b → write_refused (code_of r) out ren ≡ write_valid atoms bonds n m out ren
+    go false e b f = rw (u.code, e)
+    go true e false f = rw (u.code, e, f)
+    go true e true f = absurd (let z : true ≡ false = rw (e, f) at u.refused in cc)
+
 module _ {atoms bonds : List ℤ} {n m : ℕ} {few flat : Bool} {p q : BufferAt} (s : Said atoms bonds n m few flat p q) (out ren : List ℕ) where
-  pub tells14 : few ≡ false → write_refused 14 out ren ≡ write_valid atoms bonds n m out ren
-  unfolding write_valid
-  tells14 e = sym (rw (sym s.numbers ∙ e))
-
-  pub tells15 : few ≡ true → flat ≡ false → write_refused 15 out ren ≡ write_valid atoms bonds n m out ren
-  unfolding write_valid
-  tells15 e f = sym (rw (sym s.numbers ∙ e, sym s.depth ∙ f))
-
   pub tells16 : few ≡ true → flat ≡ true → leb (length (text_of atoms bonds n m)) max_text ≡ false → write_refused 16 out ren ≡ write_valid atoms bonds n m out ren
   unfolding write_valid
   tells16 e f g = sym (rw (sym s.numbers ∙ e, sym s.depth ∙ f, g))

@@ -1,4 +1,5 @@
 // The bytes of a walk, one atom after the other.
+ghost use Rattle.std.specs.Option.{is_some, unwrap_or};
 ghost use Rattle.std.specs.Prelude.{true, ℕ, ◌<◌, ◌≤◌, length, replicate};
 ghost use Rattle.buffer.specs.Buffer.{buffer_at, Wrote};
 ghost use Rattle.ids.specs.Limits.{bridges};
@@ -7,8 +8,9 @@ ghost use Rattle.writing_bridges.specs.Unused.{Marked};
 ghost use Rattle.writer.specs.Emit.{leave_bytes, enter_bytes, lead_bytes, head_bytes, Ready, Emitted, Texted};
 
 use ids::AtomId;
-use writing_bridges::{SLOTS, Spot};
-use writing_visit::WalkNumber;
+use writing_bridges::SLOTS;
+use writing_bridges::unused::UnusedBonds;
+use writing_visit::{Trail, WalkNumber};
 
 // A branch is left before a child that is not the first.
 fn leave(out: &mut [u8], at: usize, up: usize, x: WalkNumber) -> usize
@@ -45,89 +47,70 @@ fn lead(out: &mut [u8], at: usize, x: WalkNumber, up: usize, more: bool, kind: u
     buffer::put(out, at, b'.')
 }
 
-// The atom x: what stands before it, its bytes, what closes there and what opens there.
+// The atom x: what stands before it, its bytes, what closes there and what opens there. The place after it; None where the bridge numbers do not suffice.
 fn emit_atom(
     atoms: &[i32],
-    order: &[u16],
-    up: &[u16],
-    kind: &[u8],
+    trail: Trail,
     last: &[u16],
     sums: &[u16],
     written: &[u8],
-    los: &[u16],
-    his: &[u16],
-    kinds: &[u8],
-    marks: &[u16],
-    k: usize,
+    bonds: UnusedBonds,
     slots: &mut [u16],
     x: WalkNumber,
     out: &mut [u8],
     at: usize,
-) -> Spot
-    requires ready { Ready atoms.now order.now up.now kind.now last.now sums.now written.now los.now his.now kinds.now k x.0 }
-    requires marked { Marked marks.now los.now his.now k }
-    requires slots_len_bound { (length slots.old < bridges) × (x.0 < length marks.now) }
-    ensures { Emitted atoms.now order.now up.now kind.now last.now sums.now written.now los.now his.now kinds.now k x.0 slots.old slots.new result.few (buffer_at out.old at) (buffer_at out.new result.at) }
+) -> Option<usize>
+    requires ready { Ready atoms.now trail.order.now trail.up.now trail.kind.now last.now sums.now written.now bonds.los.now bonds.his.now bonds.kinds.now bonds.count x.0 }
+    requires marked { Marked bonds.marks.now bonds.los.now bonds.his.now bonds.count }
+    requires slots_len_bound { (length slots.old < bridges) × (x.0 < length bonds.marks.now) }
+    ensures { Emitted atoms.now trail.entry.order.now trail.entry.up.now trail.entry.kind.now last.now sums.now written.now bonds.entry.los.now bonds.entry.his.now bonds.entry.kinds.now bonds.entry.count x.0 slots.old slots.new (is_some result) (buffer_at out.old at) (buffer_at out.new (unwrap_or result 0)) }
 {
+    let Trail {
+        order,
+        up,
+        kind,
+        ..
+    } = trail;
     let i = x.0;
     let a = order[i] as usize;
     let u = up[i] as usize;
     let more = last[u] as usize != i;
     let at = lead(out, at, x, u, more, kind[i] as usize);
     let at = writing_atoms::fields::atom(atoms, AtomId(a), written[a], sums[a] as usize, out, at);
-    writing_bridges::ring_ends(los, his, kinds, marks, k, x, slots, out, at)
+    writing_bridges::ring_ends(bonds, x, slots, out, at)
 }
 
-// internal: the atoms of a walk in order, into the buffer from its start.
+// internal: the atoms of a walk in order, into the buffer from its start. The place after them; None where the bridge numbers do not suffice.
 pub fn emit(
     atoms: &[i32],
     n: usize,
-    order: &[u16],
-    up: &[u16],
-    kind: &[u8],
+    trail: Trail,
     last: &[u16],
     sums: &[u16],
     written: &[u8],
-    los: &[u16],
-    his: &[u16],
-    kinds: &[u8],
-    marks: &[u16],
-    k: usize,
+    bonds: UnusedBonds,
     out: &mut [u8],
-) -> Spot
-    requires by_index { (x : ℕ) → x < n → Ready atoms.now order.now up.now kind.now last.now sums.now written.now los.now his.now kinds.now k x }
-    requires marked { Marked marks.now los.now his.now k }
-    requires n_in_bounds { n ≤ length marks.now }
-    ensures { Texted (head_bytes atoms.now order.now up.now kind.now last.now sums.now written.now) los.now his.now kinds.now n k (replicate slot_count 0) result.few (buffer_at out.old 0) (buffer_at out.new result.at) }
+) -> Option<usize>
+    requires by_index { (x : ℕ) → x < n → Ready atoms.now trail.order.now trail.up.now trail.kind.now last.now sums.now written.now bonds.los.now bonds.his.now bonds.kinds.now bonds.count x }
+    requires marked { Marked bonds.marks.now bonds.los.now bonds.his.now bonds.count }
+    requires n_in_bounds { n ≤ length bonds.marks.now }
+    ensures { Texted (head_bytes atoms.now trail.entry.order.now trail.entry.up.now trail.entry.kind.now last.now sums.now written.now) bonds.entry.los.now bonds.entry.his.now bonds.entry.kinds.now n bonds.entry.count (replicate slot_count 0) (is_some result) (buffer_at out.old 0) (buffer_at out.new (unwrap_or result 0)) }
 {
     let mut slots = [0u16; SLOTS];
     let mut at = 0;
-    let mut x = 0;
-    while x < n {
-        let spot = emit_atom(
+    for x in 0..n {
+        at = emit_atom(
             atoms,
-            order,
-            up,
-            kind,
+            trail,
             last,
             sums,
             written,
-            los,
-            his,
-            kinds,
-            marks,
-            k,
+            bonds,
             &mut slots,
             WalkNumber(x),
             out,
             at,
-        );
-        let few = spot.few;
-        if !few {
-            return spot;
-        }
-        at = spot.at;
-        x += 1;
+        )?;
     }
-    Spot { few: true, at }
+    Some(at)
 }

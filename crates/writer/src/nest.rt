@@ -14,11 +14,9 @@ pub fn last_children(up: &[u16], n: usize, last: &mut [u16])
     requires by_index { (x : ℕ) → x < n → get_or up.now x 0 < length last.old }
     ensures { last.new ≡ run (λ x l. set l (get_or up.now x 0) x) 0 n last.old }
 {
-    let mut x = 0;
-    while x < n {
+    for x in 0..n {
         let u = up[x] as usize;
         last[u] = x as u16;
-        x += 1;
     }
 }
 
@@ -65,14 +63,12 @@ pub fn is_shallow(up: &[u16], last: &[u16], n: usize) -> bool
         return true;
     }
     let mut depth = 0;
-    let mut x = 0;
-    while x < n {
+    for x in 0..n {
         let u = up[x] as usize;
         depth = depth_after(depth, u, last[u] as usize != x, WalkNumber(x));
         if MAX_DEPTH < depth {
             return false;
         }
-        x += 1;
     }
     true
 }

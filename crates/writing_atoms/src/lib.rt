@@ -43,11 +43,10 @@ pub fn decimal(out: &mut [u8], at: usize, x: usize) -> usize
 pub fn bond_symbol(out: &mut [u8], at: usize, k: usize) -> usize
     ensures { Wrote (kind_bytes k) (buffer_at out.old at) (buffer_at out.new result) }
 {
-    let b = kinds::symbol(k);
-    if b == 0 {
-        return at;
+    match kinds::symbol(k) {
+        None => at,
+        Some(b) => buffer::put(out, at, b),
     }
-    buffer::put(out, at, b)
 }
 
 // internal: the number of a bridge; r is the number less one.

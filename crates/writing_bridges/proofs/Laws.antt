@@ -142,8 +142,8 @@ released i a c p q r e g w =
           (as_is (ap bridge_bytes (sym z)) w, subst (λ l. Slots f k l (release (f i) t)) (sym (g ∙ ap (λ (j : ℕ). set a j 0) z)) (slots-release f k (same_number b) i h s o));
     }
 
-pub inserted-full : (i kd : ℕ) (a : List ℕ) (p : BufferAt) (r : ℕ) → r ≡ index_of 0 a → length a ≤ r → Inserted i kd a a false p p
-inserted-full i kd a p r e g =
+pub inserted-full : (i kd : ℕ) (a : List ℕ) (p q : BufferAt) (r : ℕ) → r ≡ index_of 0 a → length a ≤ r → Inserted i kd a a false p q
+inserted-full i kd a p q r e g =
     record {
       told = λ f k t h s.
           let z : r ≡ lowest t = e ∙ lowest-index f k s in

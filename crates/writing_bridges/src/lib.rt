@@ -1,6 +1,7 @@
 // Bridges: the bonds that the walk does not use, the numbers that are open, and what is written of them at an atom.
 #![tactic(auto)]
 
+ghost use Rattle.std.specs.Option.{is_some, unwrap_or};
 ghost use Rattle.std.specs.Prelude.{◌≡◌, ◌++◌, ◌+◌, ◌<◌, ◌≤◌, length, set};
 ghost use Rattle.table.specs.Limits.{max_bonds};
 ghost use Rattle.ids.specs.Limits.{bridges};
@@ -10,7 +11,7 @@ ghost use Rattle.writing_bridges.specs.Slots.{index_of, Looked, Near, Released, 
 ghost use Rattle.writing_bridges.specs.Unused.{Marked};
 
 use ids::BRIDGES;
-use unused::{MANY, UnusedId};
+use unused::{MANY, UnusedBonds, UnusedId};
 use writing_visit::WalkNumber;
 
 pub mod unused;
@@ -18,26 +19,17 @@ pub mod unused;
 // How many bridge numbers there are: a slot for each, 0 where it is free, else the number of its bond plus 1.
 pub const SLOTS: usize = BRIDGES - 1;
 
-// Whether the bridge numbers sufficed, and the place after the last byte.
-#[derive(Clone, Copy)]
-pub struct Spot {
-    pub few: bool,
-    pub at: usize,
-}
-
 // The first slot with a content from a slot on; the number of slots where there is none.
 fn slot_from(slots: &[u16], x: usize, from: usize) -> usize
     requires { Looked x slots.now from }
     ensures { result ≡ index_of x slots.now }
 {
-    let mut i = from;
-    while i < slots.len() {
+    for i in from..slots.len() {
         if slots[i] as usize == x {
             return i;
         }
-        i += 1;
     }
-    i
+    slots.len()
 }
 
 // The first slot with a content; the number of slots where there is none. It is mostly one of the first two.
@@ -94,10 +86,8 @@ fn nearest(ends: &[u16], keys: &[u16], k: usize, x: WalkNumber, from: WalkNumber
     ensures { Near ends.now keys.now x.0 from.0 k k result.0 }
 {
     let mut best = UnusedId(k);
-    let mut i = 0;
-    while i < k {
+    for i in 0..k {
         best = nearer(ends, keys, k, x, from, UnusedId(i), best);
-        i += 1;
     }
     best
 }
@@ -133,34 +123,43 @@ fn close_bond(slots: &mut [u16], out: &mut [u8], at: usize, i: UnusedId) -> usiz
     write_slot(slots, out, at, 0, r, 0)
 }
 
-// The bond i opens: the lowest free bridge number is written after its symbol, if there is one.
-fn open_bond(slots: &mut [u16], out: &mut [u8], at: usize, kind: usize, i: UnusedId) -> Spot
+// The bond i opens: the lowest free bridge number is written after its symbol. The place after it; None where no number is free.
+fn open_bond(
+    slots: &mut [u16],
+    out: &mut [u8],
+    at: usize,
+    kind: usize,
+    i: UnusedId,
+) -> Option<usize>
     requires { (length slots.old < bridges) × (i.0 < max_bonds) }
-    ensures { Inserted i.0 kind slots.old slots.new result.few (buffer_at out.old at) (buffer_at out.new result.at) }
+    ensures { Inserted i.0 kind slots.old slots.new (is_some result) (buffer_at out.old at) (buffer_at out.new (unwrap_or result 0)) }
 {
     let r = slot_of(slots, 0);
     if slots.len() <= r {
-        return Spot { few: false, at };
+        return None;
     }
-    let at = write_slot(slots, out, at, kind, r, i.0 + 1);
-    Spot { few: true, at }
+    Some(write_slot(slots, out, at, kind, r, i.0 + 1))
 }
 
 // What closes at the atom x, by ascending other end from a bound on.
 fn close_from(
-    los: &[u16],
-    his: &[u16],
-    k: usize,
+    bonds: UnusedBonds,
     x: WalkNumber,
     from: WalkNumber,
     slots: &mut [u16],
     out: &mut [u8],
     at: usize,
 ) -> usize
-    requires k_in_bounds { (k ≤ length los.now) × (k ≤ length his.now) }
-    requires k_le_max_bonds { (k ≤ max_bonds) × (length slots.old < bridges) }
-    ensures { Closed los.now his.now k x.0 from.0 slots.old slots.new (buffer_at out.old at) (buffer_at out.new result) }
+    requires k_in_bounds { (bonds.count ≤ length bonds.los.now) × (bonds.count ≤ length bonds.his.now) }
+    requires k_le_max_bonds { (bonds.count ≤ max_bonds) × (length slots.old < bridges) }
+    ensures { Closed bonds.entry.los.now bonds.entry.his.now bonds.entry.count x.0 from.0 slots.old slots.new (buffer_at out.old at) (buffer_at out.new result) }
 {
+    let UnusedBonds {
+        los,
+        his,
+        count: k,
+        ..
+    } = bonds;
     let bond = nearest(his, los, k, x, from);
     let i = bond.0;
     if k <= i {
@@ -168,73 +167,73 @@ fn close_from(
     }
     let at = close_bond(slots, out, at, bond);
     let next = los[i] as usize + 1;
-    close_from(los, his, k, x, WalkNumber(next), slots, out, at)
+    close_from(bonds, x, WalkNumber(next), slots, out, at)
 }
 
-// What opens at the atom x, by ascending other end from a bound on.
+// What opens at the atom x, by ascending other end from a bound on. None where the bridge numbers do not suffice.
 fn open_from(
-    los: &[u16],
-    his: &[u16],
-    kinds: &[u8],
-    k: usize,
+    bonds: UnusedBonds,
     x: WalkNumber,
     from: WalkNumber,
     slots: &mut [u16],
     out: &mut [u8],
     at: usize,
-) -> Spot
-    requires k_in_bounds { (k ≤ length los.now) × (k ≤ length his.now) }
-    requires k_le_max_bonds { (k ≤ max_bonds) × (length slots.old < bridges) }
-    requires k_in_bounds_2 { k ≤ length kinds.now }
-    ensures { Opened los.now his.now kinds.now k x.0 from.0 slots.old slots.new result.few (buffer_at out.old at) (buffer_at out.new result.at) }
+) -> Option<usize>
+    requires k_in_bounds { (bonds.count ≤ length bonds.los.now) × (bonds.count ≤ length bonds.his.now) }
+    requires k_le_max_bonds { (bonds.count ≤ max_bonds) × (length slots.old < bridges) }
+    requires k_in_bounds_2 { bonds.count ≤ length bonds.kinds.now }
+    ensures { Opened bonds.entry.los.now bonds.entry.his.now bonds.entry.kinds.now bonds.entry.count x.0 from.0 slots.old slots.new (is_some result) (buffer_at out.old at) (buffer_at out.new (unwrap_or result 0)) }
 {
+    let UnusedBonds {
+        los,
+        his,
+        kinds,
+        count: k,
+        ..
+    } = bonds;
     let bond = nearest(los, his, k, x, from);
     let i = bond.0;
     if k <= i {
-        return Spot { few: true, at };
+        return Some(at);
     }
-    let spot = open_bond(slots, out, at, kinds[i] as usize, bond);
-    let few = spot.few;
-    if !few {
-        return spot;
-    }
+    let at = open_bond(slots, out, at, kinds[i] as usize, bond)?;
     let next = his[i] as usize + 1;
-    let at = spot.at;
-    open_from(los, his, kinds, k, x, WalkNumber(next), slots, out, at)
+    open_from(bonds, x, WalkNumber(next), slots, out, at)
 }
 
-// internal: what closes at the atom x, and then what opens there.
+// internal: what closes at the atom x, and then what opens there. The place after the last byte; None where the bridge numbers do not suffice.
 pub fn ring_ends(
-    los: &[u16],
-    his: &[u16],
-    kinds: &[u8],
-    marks: &[u16],
-    k: usize,
+    bonds: UnusedBonds,
     x: WalkNumber,
     slots: &mut [u16],
     out: &mut [u8],
     at: usize,
-) -> Spot
-    requires k_in_bounds { (k ≤ length los.now) × (k ≤ length his.now) }
-    requires k_le_max_bonds { (k ≤ max_bonds) × (length slots.old < bridges) }
-    requires k_in_bounds_2 { k ≤ length kinds.now }
-    requires marked { Marked marks.now los.now his.now k }
-    requires x_in_bounds { x.0 < length marks.now }
-    ensures { Ended los.now his.now kinds.now k x.0 slots.old slots.new result.few (buffer_at out.old at) (buffer_at out.new result.at) }
+) -> Option<usize>
+    requires k_in_bounds { (bonds.count ≤ length bonds.los.now) × (bonds.count ≤ length bonds.his.now) }
+    requires k_le_max_bonds { (bonds.count ≤ max_bonds) × (length slots.old < bridges) }
+    requires k_in_bounds_2 { bonds.count ≤ length bonds.kinds.now }
+    requires marked { Marked bonds.marks.now bonds.los.now bonds.his.now bonds.count }
+    requires x_in_bounds { x.0 < length bonds.marks.now }
+    ensures { Ended bonds.entry.los.now bonds.entry.his.now bonds.entry.kinds.now bonds.entry.count x.0 slots.old slots.new (is_some result) (buffer_at out.old at) (buffer_at out.new (unwrap_or result 0)) }
 {
+    let UnusedBonds {
+        his,
+        kinds,
+        marks,
+        ..
+    } = bonds;
     let here = x.0;
     let mark = marks[here];
     if mark == 0 {
-        return Spot { few: true, at };
+        return Some(at);
     }
     if mark < MANY {
         let i = mark as usize - 1;
         if his[i] as usize == here {
-            let at = close_bond(slots, out, at, UnusedId(i));
-            return Spot { few: true, at };
+            return Some(close_bond(slots, out, at, UnusedId(i)));
         }
         return open_bond(slots, out, at, kinds[i] as usize, UnusedId(i));
     }
-    let at = close_from(los, his, k, x, WalkNumber(0), slots, out, at);
-    open_from(los, his, kinds, k, x, WalkNumber(0), slots, out, at)
+    let at = close_from(bonds, x, WalkNumber(0), slots, out, at);
+    open_from(bonds, x, WalkNumber(0), slots, out, at)
 }

@@ -8,10 +8,21 @@ ghost use Rattle.writing_visit.specs.Wires.{wires};
 ghost use Rattle.writing_bridges.specs.Unused.{bond_arrays, add_bond, in_walk, Numbered, BondRoom, end_mark, Marked};
 
 use ids::BondId;
+use writing_visit::{Trail, Wiring};
 
 // The number of a bond among those that the walk does not use.
 #[derive(Clone, Copy)]
 pub struct UnusedId(pub usize);
+
+// The bonds that the walk does not use, and how many they are: their ends in walk numbers, their kinds, and the marks of the walk numbers.
+#[derive(Clone, Copy)]
+pub struct UnusedBonds<'a> {
+    pub los: &'a [u16],
+    pub his: &'a [u16],
+    pub kinds: &'a [u8],
+    pub marks: &'a [u16],
+    pub count: usize,
+}
 
 // The mark of a walk number that is an end of several unused bonds.
 pub const MANY: u16 = 65535;
@@ -59,13 +70,10 @@ fn add_bond(
 
 // A bond, in walk numbers, is added unless the walk uses it.
 fn add_unused(
-    ea: &[u16],
-    eb: &[u16],
-    ks: &[u8],
+    wiring: Wiring,
     n: usize,
     m: usize,
-    number: &[u16],
-    up: &[u16],
+    trail: Trail,
     los: &mut [u16],
     his: &mut [u16],
     kinds: &mut [u8],
@@ -73,20 +81,21 @@ fn add_unused(
     b: BondId,
     used: usize,
 ) -> usize
-    requires bonds_fit { BondsFit (wires ea.now eb.now ks.now) n m }
-    requires numbered { Numbered (up_to (wires ea.now eb.now ks.now) 0 m) n number.now up.now }
+    requires bonds_fit { BondsFit (wires wiring.first.now wiring.second.now wiring.kinds.now) n m }
+    requires numbered { Numbered (up_to (wires wiring.first.now wiring.second.now wiring.kinds.now) 0 m) n trail.number.now trail.up.now }
     requires bond_room { BondRoom m los.old his.old kinds.old }
     requires marked { Marked marks.old los.old his.old used }
     requires b_lt_m { (b.0 < m) × (used < m) }
-    requires m_in_bounds { (m ≤ length ea.now) × (m ≤ length eb.now) }
-    requires m_in_bounds_2 { (m ≤ length ks.now) × (n ≤ length marks.old) }
-    ensures result_after { bond_arrays los.new his.new kinds.new result ≡ add_bond up.now (in_walk (wires ea.now eb.now ks.now) n m b.0) (bond_arrays los.old his.old kinds.old used) }
+    requires m_in_bounds { (m ≤ length wiring.first.now) × (m ≤ length wiring.second.now) }
+    requires m_in_bounds_2 { (m ≤ length wiring.kinds.now) × (n ≤ length marks.old) }
+    ensures result_after { bond_arrays los.new his.new kinds.new result ≡ add_bond trail.entry.up.now (in_walk (wires wiring.entry.first.now wiring.entry.second.now wiring.entry.kinds.now) n m b.0) (bond_arrays los.old his.old kinds.old used) }
     ensures marked_2 { Marked marks.new los.new his.new result }
 {
+    let Trail { number, up, .. } = trail;
     let i = b.0;
-    let e = ea[i] as usize;
-    let f = eb[i] as usize;
-    let kind = ks[i];
+    let e = wiring.first[i] as usize;
+    let f = wiring.second[i] as usize;
+    let kind = wiring.kinds[i];
     let p = number[e] as usize;
     let q = number[f] as usize;
     if p < q {
@@ -98,46 +107,27 @@ fn add_unused(
 
 // internal: the bonds that the walk does not use, in walk numbers, by ascending number, and at each walk number a mark: 0 where it is an end of none, the number plus 1 of the only one, or MANY. How many there are.
 pub fn unused(
-    ea: &[u16],
-    eb: &[u16],
-    ks: &[u8],
+    wiring: Wiring,
     n: usize,
     m: usize,
-    number: &[u16],
-    up: &[u16],
+    trail: Trail,
     los: &mut [u16],
     his: &mut [u16],
     kinds: &mut [u8],
     marks: &mut [u16],
 ) -> usize
-    requires bonds_fit { BondsFit (wires ea.now eb.now ks.now) n m }
-    requires numbered { Numbered (up_to (wires ea.now eb.now ks.now) 0 m) n number.now up.now }
+    requires bonds_fit { BondsFit (wires wiring.first.now wiring.second.now wiring.kinds.now) n m }
+    requires numbered { Numbered (up_to (wires wiring.first.now wiring.second.now wiring.kinds.now) 0 m) n trail.number.now trail.up.now }
     requires bond_room { BondRoom m los.old his.old kinds.old }
     requires marks_value { marks.old ≡ replicate (length marks.old) 0 }
-    requires m_in_bounds { (m ≤ length ea.now) × (m ≤ length eb.now) }
-    requires m_in_bounds_2 { (m ≤ length ks.now) × (n ≤ length marks.old) }
-    ensures result_after { bond_arrays los.new his.new kinds.new result ≡ run (λ b. add_bond up.now (in_walk (wires ea.now eb.now ks.now) n m b)) 0 m (bond_arrays los.old his.old kinds.old 0) }
+    requires m_in_bounds { (m ≤ length wiring.first.now) × (m ≤ length wiring.second.now) }
+    requires m_in_bounds_2 { (m ≤ length wiring.kinds.now) × (n ≤ length marks.old) }
+    ensures result_after { bond_arrays los.new his.new kinds.new result ≡ run (λ b. add_bond trail.entry.up.now (in_walk (wires wiring.entry.first.now wiring.entry.second.now wiring.entry.kinds.now) n m b)) 0 m (bond_arrays los.old his.old kinds.old 0) }
     ensures marked { Marked marks.new los.new his.new result }
 {
     let mut used = 0;
-    let mut b = 0;
-    while b < m {
-        used = add_unused(
-            ea,
-            eb,
-            ks,
-            n,
-            m,
-            number,
-            up,
-            los,
-            his,
-            kinds,
-            marks,
-            BondId(b),
-            used,
-        );
-        b += 1;
+    for b in 0..m {
+        used = add_unused(wiring, n, m, trail, los, his, kinds, marks, BondId(b), used);
     }
     used
 }

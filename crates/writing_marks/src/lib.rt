@@ -15,20 +15,18 @@ ghost use Rattle.writing_bridges.specs.Unused.{Numbered};
 ghost use Rattle.writing_marks.specs.Marks.{unmarked, with_ranks, Ranked, Turned};
 
 use ids::{AtomId, BondId};
-use table::{FIRST, MARK, MAX_BONDS, SECOND, cell};
-use writing_visit::WalkNumber;
+use table::{FIRST, MARK, MAX_BONDS, SECOND, Tables, cell};
+use writing_visit::{Trail, WalkNumber};
 
 // Whether no atom has a mark.
 fn none_marked(atoms: &[i32], n: usize) -> bool
     requires { n ≤ max_atoms }
     ensures { result ≡ each (unmarked atoms.now) 0 n }
 {
-    let mut a = 0;
-    while a < n {
+    for a in 0..n {
         if cell::atom_number(atoms, AtomId(a), MARK) != 0 {
             return false;
         }
-        a += 1;
     }
     true
 }
@@ -73,94 +71,70 @@ fn put_ranks(up: &[u16], n: usize, x: WalkNumber, y: WalkNumber, b: BondId, rank
 }
 
 // The ranks of a bond of the table.
-fn bond_ranks(
-    bonds: &[i32],
-    n: usize,
-    m: usize,
-    number: &[u16],
-    up: &[u16],
-    b: BondId,
-    ranks: &mut [u16],
-)
+fn bond_ranks(bonds: &[i32], n: usize, m: usize, trail: Trail, b: BondId, ranks: &mut [u16])
     requires bonds_fit { BondsFit (walk_bond bonds.now) n m }
-    requires numbered { Numbered (bond_list bonds.now m) n number.now up.now }
+    requires numbered { Numbered (bond_list bonds.now m) n trail.number.now trail.up.now }
     requires b_lt_m { (b.0 < m) × (2 * m ≤ length ranks.old) }
-    ensures { ranks.new ≡ with_ranks n up.now (get_or number.now (end1 bonds.now b.0) 0 - 1) (get_or number.now (end2 bonds.now b.0) 0 - 1) b.0 ranks.old }
+    ensures { ranks.new ≡ with_ranks n trail.entry.up.now (get_or trail.entry.number.now (end1 bonds.now b.0) 0 - 1) (get_or trail.entry.number.now (end2 bonds.now b.0) 0 - 1) b.0 ranks.old }
 {
+    let Trail { number, up, .. } = trail;
     let x = walk_number(number, AtomId(cell::bond_number(bonds, b, FIRST)));
     let y = walk_number(number, AtomId(cell::bond_number(bonds, b, SECOND)));
     put_ranks(up, n, x, y, b, ranks);
 }
 
 // The ranks of m bonds.
-fn fill_ranks(bonds: &[i32], n: usize, m: usize, number: &[u16], up: &[u16], ranks: &mut [u16])
+fn fill_ranks(bonds: &[i32], n: usize, m: usize, trail: Trail, ranks: &mut [u16])
     requires bonds_fit { BondsFit (walk_bond bonds.now) n m }
-    requires numbered { Numbered (bond_list bonds.now m) n number.now up.now }
+    requires numbered { Numbered (bond_list bonds.now m) n trail.number.now trail.up.now }
     requires m_in_bounds { 2 * m ≤ length ranks.old }
     ensures { Ranked bonds.now n m m ranks.new }
 {
-    let mut b = 0;
-    while b < m {
-        bond_ranks(bonds, n, m, number, up, BondId(b), ranks);
-        b += 1;
+    for b in 0..m {
+        bond_ranks(bonds, n, m, trail, BondId(b), ranks);
     }
 }
 
 // The marks of n atoms, turned by ranks.
-fn fill_marks(atoms: &[i32], bonds: &[i32], n: usize, m: usize, ranks: &[u16], written: &mut [u8])
-    requires valid { Valid atoms.now bonds.now n m }
-    requires m_value { none_unfit atoms.now bonds.now n m ≡ true }
-    requires m_in_bounds { (2 * m ≤ length ranks.now) × (n ≤ length written.old) }
-    ensures { written.new ≡ up_to (turned_mark (at_end ranks.now bonds.now) atoms.now bonds.now m) 0 n ++ drop n written.old }
+fn fill_marks(tables: Tables, ranks: &[u16], written: &mut [u8])
+    requires valid { Valid tables.atoms.now tables.bonds.now tables.n tables.m }
+    requires m_value { none_unfit tables.atoms.now tables.bonds.now tables.n tables.m ≡ true }
+    requires m_in_bounds { (2 * tables.m ≤ length ranks.now) × (tables.n ≤ length written.old) }
+    ensures { written.new ≡ up_to (turned_mark (at_end ranks.now tables.entry.bonds.now) tables.entry.atoms.now tables.entry.bonds.now tables.entry.m) 0 tables.entry.n ++ drop tables.entry.n written.old }
 {
-    let mut a = 0;
-    while a < n {
+    let Tables { atoms, bonds, n, m } = tables;
+    for a in 0..n {
         written[a] = table_orders::turned_mark(atoms, bonds, m, AtomId(a), ranks);
-        a += 1;
     }
 }
 
 // The marks of a molecule that has some, as they are written.
-fn turn_marked(
-    atoms: &[i32],
-    bonds: &[i32],
-    n: usize,
-    m: usize,
-    number: &[u16],
-    up: &[u16],
-    written: &mut [u8],
-)
-    requires valid { Valid atoms.now bonds.now n m }
-    requires m_value { none_unfit atoms.now bonds.now n m ≡ true }
-    requires bonds_fit { BondsFit (walk_bond bonds.now) n m }
-    requires numbered { Numbered (bond_list bonds.now m) n number.now up.now }
-    requires n_in_bounds { n ≤ length written.old }
-    ensures { Turned atoms.now bonds.now n m written.new }
+fn turn_marked(tables: Tables, trail: Trail, written: &mut [u8])
+    requires valid { Valid tables.atoms.now tables.bonds.now tables.n tables.m }
+    requires m_value { none_unfit tables.atoms.now tables.bonds.now tables.n tables.m ≡ true }
+    requires bonds_fit { BondsFit (walk_bond tables.bonds.now) tables.n tables.m }
+    requires numbered { Numbered (bond_list tables.bonds.now tables.m) tables.n trail.number.now trail.up.now }
+    requires n_in_bounds { tables.n ≤ length written.old }
+    ensures { Turned tables.entry.atoms.now tables.entry.bonds.now tables.entry.n tables.entry.m written.new }
 {
+    let Tables { bonds, n, m, .. } = tables;
     let mut ranks = [0u16; 2 * MAX_BONDS];
-    fill_ranks(bonds, n, m, number, up, &mut ranks);
-    fill_marks(atoms, bonds, n, m, &ranks, written);
+    fill_ranks(bonds, n, m, trail, &mut ranks);
+    fill_marks(tables, &ranks, written);
 }
 
 // internal: each atom's mark as it is written, in an array of zeros.
-pub fn turn(
-    atoms: &[i32],
-    bonds: &[i32],
-    n: usize,
-    m: usize,
-    number: &[u16],
-    up: &[u16],
-    written: &mut [u8],
-)
-    requires valid { Valid atoms.now bonds.now n m }
-    requires m_value { none_unfit atoms.now bonds.now n m ≡ true }
-    requires bonds_fit { BondsFit (walk_bond bonds.now) n m }
-    requires numbered { Numbered (bond_list bonds.now m) n number.now up.now }
-    requires written_value { (written.old ≡ replicate (length written.old) 0) × (n ≤ length written.old) }
-    ensures { Turned atoms.now bonds.now n m written.new }
+pub fn turn(tables: Tables, trail: Trail, written: &mut [u8])
+    requires valid { Valid tables.atoms.now tables.bonds.now tables.n tables.m }
+    requires m_value { none_unfit tables.atoms.now tables.bonds.now tables.n tables.m ≡ true }
+    requires bonds_fit { BondsFit (walk_bond tables.bonds.now) tables.n tables.m }
+    requires numbered { Numbered (bond_list tables.bonds.now tables.m) tables.n trail.number.now trail.up.now }
+    requires written_value { (written.old ≡ replicate (length written.old) 0) × (tables.n ≤ length written.old) }
+    ensures { Turned tables.entry.atoms.now tables.entry.bonds.now tables.entry.n tables.entry.m written.new }
 {
+    let Tables { atoms, n, .. } = tables;
     if none_marked(atoms, n) {
         return;
     }
-    turn_marked(atoms, bonds, n, m, number, up, written);
+    turn_marked(tables, trail, written);
 }

@@ -19,6 +19,31 @@ use ids::{AtomId, BondId};
 #[derive(Clone, Copy)]
 pub struct WalkNumber(pub usize);
 
+// The bonds of a molecule by number: their ends and their kinds.
+#[derive(Clone, Copy)]
+pub struct Wiring<'a> {
+    pub first: &'a [u16],
+    pub second: &'a [u16],
+    pub kinds: &'a [u8],
+}
+
+// The bonds at each atom as lists: the first one of each atom, and behind each bond the next one at either end.
+#[derive(Clone, Copy)]
+struct Chains<'a> {
+    head: &'a [u16],
+    after: &'a [u16],
+    behind: &'a [u16],
+}
+
+// The walk of a molecule: by walk number the atom, its parent's walk number plus 1 and the kind of the bond to it; and each atom's walk number plus 1.
+#[derive(Clone, Copy)]
+pub struct Trail<'a> {
+    pub order: &'a [u16],
+    pub number: &'a [u16],
+    pub up: &'a [u16],
+    pub kind: &'a [u8],
+}
+
 // A bond: its ends and its kind.
 #[derive(Clone, Copy)]
 struct Wire {
@@ -72,9 +97,7 @@ fn note(bonds: &[i32], m: usize, ea: &mut [u16], eb: &mut [u16], ks: &mut [u8], 
     ensures wired { Wired bonds.now m 0 ea.new eb.new ks.new }
     ensures sums_after { sums.new ≡ up_to (bond_sum bonds.now m) 0 (length sums.old) }
 {
-    let mut b = m;
-    while 0 < b {
-        b -= 1;
+    for b in (0..m).rev() {
         let x = read_bond(bonds, BondId(b));
         note_bond(BondId(b), x, ea, eb, ks, sums);
     }
@@ -105,9 +128,7 @@ fn link(bonds: &[i32], m: usize, head: &mut [u16], after: &mut [u16], behind: &m
     requires link_room { LinkRoom bonds.now m head.old after.old behind.old }
     ensures { Linked (walk_bond bonds.now) m 0 head.new after.new behind.new }
 {
-    let mut b = m;
-    while 0 < b {
-        b -= 1;
+    for b in (0..m).rev() {
         let x = read_bond(bonds, BondId(b));
         link_bond(BondId(b), x, head, after, behind);
     }
@@ -122,29 +143,22 @@ struct Step {
 }
 
 // The other end of a bond at an atom, its kind as seen from there, and the next bond at the atom behind it; m where there is none.
-fn follow(
-    ea: &[u16],
-    eb: &[u16],
-    ks: &[u8],
-    after: &[u16],
-    behind: &[u16],
-    b: BondId,
-    v: AtomId,
-) -> Step
-    requires b_in_bounds { (b.0 < length ea.now) × (b.0 < length eb.now) }
-    requires b_in_bounds_2 { (b.0 < length after.now) × (b.0 < length behind.now) }
-    requires b_in_bounds_3 { b.0 < length ks.now }
-    requires b_bound { (get_or ea.now b.0 0 < max_atoms) × (get_or eb.now b.0 0 < max_atoms) }
-    requires b_bound_2 { (get_or after.now b.0 0 ≤ max_bonds) × (get_or behind.now b.0 0 ≤ max_bonds) }
-    ensures other_value { result.other.0 ≡ pick (eqb (get_or ea.now b.0 0) v.0) (get_or eb.now b.0 0) (get_or ea.now b.0 0) }
-    ensures kind_value { result.kind ≡ pick (eqb (get_or ea.now b.0 0) v.0) (get_or ks.now b.0 0) (turned (get_or ks.now b.0 0)) }
-    ensures next_value { result.next.0 ≡ pick (eqb (get_or ea.now b.0 0) v.0) (get_or after.now b.0 0) (get_or behind.now b.0 0) }
+fn follow(wiring: Wiring, chains: Chains, b: BondId, v: AtomId) -> Step
+    requires b_in_bounds { (b.0 < length wiring.first.now) × (b.0 < length wiring.second.now) }
+    requires b_in_bounds_2 { (b.0 < length chains.after.now) × (b.0 < length chains.behind.now) }
+    requires b_in_bounds_3 { b.0 < length wiring.kinds.now }
+    requires b_bound { (get_or wiring.first.now b.0 0 < max_atoms) × (get_or wiring.second.now b.0 0 < max_atoms) }
+    requires b_bound_2 { (get_or chains.after.now b.0 0 ≤ max_bonds) × (get_or chains.behind.now b.0 0 ≤ max_bonds) }
+    ensures other_value { result.other.0 ≡ pick (eqb (get_or wiring.entry.first.now b.0 0) v.0) (get_or wiring.entry.second.now b.0 0) (get_or wiring.entry.first.now b.0 0) }
+    ensures kind_value { result.kind ≡ pick (eqb (get_or wiring.entry.first.now b.0 0) v.0) (get_or wiring.entry.kinds.now b.0 0) (turned (get_or wiring.entry.kinds.now b.0 0)) }
+    ensures next_value { result.next.0 ≡ pick (eqb (get_or wiring.entry.first.now b.0 0) v.0) (get_or chains.entry.after.now b.0 0) (get_or chains.entry.behind.now b.0 0) }
 {
+    let Chains { after, behind, .. } = chains;
     let i = b.0;
-    let first = ea[i] as usize;
-    let kind = ks[i];
+    let first = wiring.first[i] as usize;
+    let kind = wiring.kinds[i];
     if first == v.0 {
-        let second = eb[i] as usize;
+        let second = wiring.second[i] as usize;
         let next = after[i] as usize;
         return Step {
             other: AtomId(second),
@@ -190,14 +204,10 @@ fn add(
 
 // The part of the walk at an atom, from one of its bonds on (m for none): each atom not yet visited, with all that is reached from it first. The number of atoms visited then. Behind the last bond of an atom the walk goes on in the same turn, so that it calls itself only where it comes back.
 fn visit(
-    ea: &[u16],
-    eb: &[u16],
-    ks: &[u8],
+    wiring: Wiring,
     n: usize,
     m: usize,
-    head: &[u16],
-    after: &[u16],
-    behind: &[u16],
+    chains: Chains,
     order: &mut [u16],
     number: &mut [u16],
     up: &mut [u16],
@@ -207,22 +217,23 @@ fn visit(
     from: BondId,
     count: usize,
 ) -> usize
-    requires bonds_fit { BondsFit (wires ea.now eb.now ks.now) n m }
-    requires places { Places n m head.now after.now behind.now ea.now eb.now ks.now }
-    requires linked { Linked (wires ea.now eb.now ks.now) m 0 head.now after.now behind.now }
+    requires bonds_fit { BondsFit (wires wiring.first.now wiring.second.now wiring.kinds.now) n m }
+    requires places { Places n m chains.head.now chains.after.now chains.behind.now wiring.first.now wiring.second.now wiring.kinds.now }
+    requires linked { Linked (wires wiring.first.now wiring.second.now wiring.kinds.now) m 0 chains.head.now chains.after.now chains.behind.now }
     requires room { Room n order.old number.old up.old kind.old }
     requires hub_lt_max_atoms { (hub.0 < max_atoms) × (from.0 ≤ m) }
-    requires from_value { from.0 < m → touching (wires ea.now eb.now ks.now) v.0 from.0 ≡ true }
-    ensures grown { Grown n (suc hub.0) (grow (wires ea.now eb.now ks.now) n m v.0 from.0) (walk_arrays order.old number.old up.old kind.old count) (walk_arrays order.new number.new up.new kind.new result) }
+    requires from_value { from.0 < m → touching (wires wiring.first.now wiring.second.now wiring.kinds.now) v.0 from.0 ≡ true }
+    ensures grown { Grown n (suc hub.0) (grow (wires wiring.entry.first.now wiring.entry.second.now wiring.entry.kinds.now) n m v.0 from.0) (walk_arrays order.old number.old up.old kind.old count) (walk_arrays order.new number.new up.new kind.new result) }
     ensures kept { Kept order.old number.old up.old kind.old order.new number.new up.new kind.new }
 {
+    let Chains { head, .. } = chains;
     let mut here = v.0;
     let mut parent = hub.0;
     let mut b = from.0;
     let mut next = count;
     while b < m {
         let i = b;
-        let seen = follow(ea, eb, ks, after, behind, BondId(i), AtomId(here));
+        let seen = follow(wiring, chains, BondId(i), AtomId(here));
         let a = seen.other.0;
         b = seen.next.0;
         if number[a] != 0 {
@@ -250,14 +261,10 @@ fn visit(
             continue;
         }
         next = visit(
-            ea,
-            eb,
-            ks,
+            wiring,
             n,
             m,
-            head,
-            after,
-            behind,
+            chains,
             order,
             number,
             up,
@@ -273,14 +280,10 @@ fn visit(
 
 // A root of the walk, if the atom was not visited, with all that is reached from it. The number of atoms visited then.
 fn root(
-    ea: &[u16],
-    eb: &[u16],
-    ks: &[u8],
+    wiring: Wiring,
     n: usize,
     m: usize,
-    head: &[u16],
-    after: &[u16],
-    behind: &[u16],
+    chains: Chains,
     order: &mut [u16],
     number: &mut [u16],
     up: &mut [u16],
@@ -288,14 +291,15 @@ fn root(
     a: AtomId,
     count: usize,
 ) -> usize
-    requires bonds_fit { BondsFit (wires ea.now eb.now ks.now) n m }
-    requires places { Places n m head.now after.now behind.now ea.now eb.now ks.now }
-    requires linked { Linked (wires ea.now eb.now ks.now) m 0 head.now after.now behind.now }
+    requires bonds_fit { BondsFit (wires wiring.first.now wiring.second.now wiring.kinds.now) n m }
+    requires places { Places n m chains.head.now chains.after.now chains.behind.now wiring.first.now wiring.second.now wiring.kinds.now }
+    requires linked { Linked (wires wiring.first.now wiring.second.now wiring.kinds.now) m 0 chains.head.now chains.after.now chains.behind.now }
     requires room { Room n order.old number.old up.old kind.old }
     requires a_lt_n { a.0 < n }
-    ensures grown { Grown n 0 (root_forest (wires ea.now eb.now ks.now) n m a.0) (walk_arrays order.old number.old up.old kind.old count) (walk_arrays order.new number.new up.new kind.new result) }
+    ensures grown { Grown n 0 (root_forest (wires wiring.entry.first.now wiring.entry.second.now wiring.entry.kinds.now) n m a.0) (walk_arrays order.old number.old up.old kind.old count) (walk_arrays order.new number.new up.new kind.new result) }
     ensures kept { Kept order.old number.old up.old kind.old order.new number.new up.new kind.new }
 {
+    let Chains { head, .. } = chains;
     let v = a.0;
     if number[v] != 0 {
         return count;
@@ -306,14 +310,10 @@ fn root(
     add(order, number, up, kind, a, 0, 0, count);
     let start = head[v] as usize;
     visit(
-        ea,
-        eb,
-        ks,
+        wiring,
         n,
         m,
-        head,
-        after,
-        behind,
+        chains,
         order,
         number,
         up,
@@ -331,15 +331,13 @@ fn clear(up: &mut [u16], kind: &mut [u8], from: usize, to: usize)
     ensures cleared { Cleared from to up.old up.new }
     ensures cleared_2 { Cleared from to kind.old kind.new }
 {
-    let mut a = from;
-    while a < to {
+    for a in from..to {
         up[a] = 0;
         kind[a] = 0;
-        a += 1;
     }
 }
 
-// The most steps up from an atom in search of another: rings that are longer are left to the walk by lists.
+// The most steps up from an atom in search of another: rings that are longer are left to the walk by chains.
 const REACH: usize = 64;
 
 // Whether an atom is found on the way up from another; both are given by their numbers plus 1.
@@ -349,45 +347,35 @@ fn is_above(up: &[u16], from: usize, to: usize) -> bool
     ensures { result ≡ true → Held up.now to from }
 {
     let mut a = from;
-    let mut left = REACH;
-    while to < a {
-        if left == 0 {
-            return false;
+    for _ in 0..REACH {
+        if a <= to {
+            break;
         }
-        left -= 1;
         a = up[a - 1] as usize;
     }
     a == to
 }
 
 // One more bond of a straight walk, with the number of atoms that have their parents: that number then, 0 where the walk is not seen to be straight. A new atom is entered, those skipped are roots; a further bond of the last atom comes from above it.
-fn pass(
-    ea: &[u16],
-    eb: &[u16],
-    ks: &[u8],
-    b: BondId,
-    next: usize,
-    up: &mut [u16],
-    kind: &mut [u8],
-) -> usize
-    requires b_in_bounds { (b.0 < length ea.now) × (b.0 < length eb.now) }
-    requires b_in_bounds_2 { b.0 < length ks.now }
-    requires b_bound { get_or ea.now b.0 0 < get_or eb.now b.0 0 }
-    requires b_in_bounds_3 { (get_or eb.now b.0 0 < length up.old) × (get_or eb.now b.0 0 < length kind.old) }
-    requires b_bound_2 { (get_or eb.now b.0 0 < max_atoms) × (next ≤ length up.old) }
+fn pass(wiring: Wiring, b: BondId, next: usize, up: &mut [u16], kind: &mut [u8]) -> usize
+    requires b_in_bounds { (b.0 < length wiring.first.now) × (b.0 < length wiring.second.now) }
+    requires b_in_bounds_2 { b.0 < length wiring.kinds.now }
+    requires b_bound { get_or wiring.first.now b.0 0 < get_or wiring.second.now b.0 0 }
+    requires b_in_bounds_3 { (get_or wiring.second.now b.0 0 < length up.old) × (get_or wiring.second.now b.0 0 < length kind.old) }
+    requires b_bound_2 { (get_or wiring.second.now b.0 0 < max_atoms) × (next ≤ length up.old) }
     requires nested { Nested up.old next }
-    requires passed { Passed (wires ea.now eb.now ks.now) b.0 next up.old kind.old }
-    ensures passed_2 { 0 < result → Passed (wires ea.now eb.now ks.now) (suc b.0) result up.new kind.new }
-    ensures by_index { (n : ℕ) → next ≤ n → get_or eb.now b.0 0 < n → result ≤ n }
+    requires passed { Passed (wires wiring.first.now wiring.second.now wiring.kinds.now) b.0 next up.old kind.old }
+    ensures passed_2 { 0 < result → Passed (wires wiring.entry.first.now wiring.entry.second.now wiring.entry.kinds.now) (suc b.0) result up.new kind.new }
+    ensures by_index { (n : ℕ) → next ≤ n → get_or wiring.entry.second.now b.0 0 < n → result ≤ n }
 {
     let i = b.0;
-    let parent = ea[i] as usize + 1;
-    let a = eb[i] as usize;
+    let parent = wiring.first[i] as usize + 1;
+    let a = wiring.second[i] as usize;
     if next <= a {
         clear(up, kind, next, a);
         if is_above(up, a, parent) {
             up[a] = parent as u16;
-            kind[a] = ks[i];
+            kind[a] = wiring.kinds[i];
             return a + 1;
         }
         return 0;
@@ -402,29 +390,19 @@ fn pass(
 }
 
 // Whether the walk is seen to be straight, with each atom's parent plus 1 and the kind of the bond to it.
-fn is_straight(
-    ea: &[u16],
-    eb: &[u16],
-    ks: &[u8],
-    n: usize,
-    m: usize,
-    up: &mut [u16],
-    kind: &mut [u8],
-) -> bool
-    requires bonds_fit { BondsFit (wires ea.now eb.now ks.now) n m }
-    requires m_in_bounds { (m ≤ length ea.now) × (m ≤ length eb.now) }
-    requires m_in_bounds_2 { m ≤ length ks.now }
+fn is_straight(wiring: Wiring, n: usize, m: usize, up: &mut [u16], kind: &mut [u8]) -> bool
+    requires bonds_fit { BondsFit (wires wiring.first.now wiring.second.now wiring.kinds.now) n m }
+    requires m_in_bounds { (m ≤ length wiring.first.now) × (m ≤ length wiring.second.now) }
+    requires m_in_bounds_2 { m ≤ length wiring.kinds.now }
     requires n_in_bounds { (n ≤ length up.old) × (n ≤ length kind.old) }
-    ensures { result ≡ true → Passed (wires ea.now eb.now ks.now) m n up.new kind.new }
+    ensures { result ≡ true → Passed (wires wiring.entry.first.now wiring.entry.second.now wiring.entry.kinds.now) m n up.new kind.new }
 {
     let mut next = 0;
-    let mut b = 0;
-    while b < m {
-        next = pass(ea, eb, ks, BondId(b), next, up, kind);
+    for b in 0..m {
+        next = pass(wiring, BondId(b), next, up, kind);
         if next == 0 {
             return false;
         }
-        b += 1;
     }
     clear(up, kind, next, n);
     true
@@ -436,11 +414,9 @@ fn number_in_turn(order: &mut [u16], number: &mut [u16], n: usize)
     requires n_le_max_atoms { n ≤ max_atoms }
     ensures { InTurn n order.new number.new }
 {
-    let mut a = 0;
-    while a < n {
+    for a in 0..n {
         order[a] = a as u16;
         number[a] = (a + 1) as u16;
-        a += 1;
     }
 }
 
@@ -453,35 +429,33 @@ fn walk_lists(
     number: &mut [u16],
     up: &mut [u16],
     kind: &mut [u8],
-    ea: &[u16],
-    eb: &[u16],
-    ks: &[u8],
+    wiring: Wiring,
     head: &mut [u16],
     after: &mut [u16],
     behind: &mut [u16],
 )
     requires bonds_fit { BondsFit (walk_bond bonds.now) n m }
-    requires wired { Wired bonds.now m 0 ea.now eb.now ks.now }
+    requires wired { Wired bonds.now m 0 wiring.first.now wiring.second.now wiring.kinds.now }
     requires room { Room n order.old number.old up.old kind.old }
     requires number_value { number.old ≡ replicate (length number.old) 0 }
     requires head_value { head.old ≡ replicate (length head.old) m }
-    requires places { Places n m head.old after.old behind.old ea.now eb.now ks.now }
+    requires places { Places n m head.old after.old behind.old wiring.first.now wiring.second.now wiring.kinds.now }
     ensures walked { Walked (bond_list bonds.now m) n order.new number.new up.new kind.new }
     ensures kept { Kept order.old number.old up.old kind.old order.new number.new up.new kind.new }
 {
     link(bonds, m, head, after, behind);
+    let chains = Chains {
+        head,
+        after,
+        behind,
+    };
     let mut count = 0;
-    let mut a = 0;
-    while a < n {
+    for a in 0..n {
         count = root(
-            ea,
-            eb,
-            ks,
+            wiring,
             n,
             m,
-            head,
-            after,
-            behind,
+            chains,
             order,
             number,
             up,
@@ -489,7 +463,6 @@ fn walk_lists(
             AtomId(a),
             count,
         );
-        a += 1;
     }
 }
 
@@ -522,11 +495,16 @@ pub fn walk(
     ensures sums_after { sums.new ≡ up_to (bond_sum bonds.now m) 0 (length sums.old) }
 {
     note(bonds, m, ea, eb, ks, sums);
-    if is_straight(ea, eb, ks, n, m, up, kind) {
+    let wiring = Wiring {
+        first: ea,
+        second: eb,
+        kinds: ks,
+    };
+    if is_straight(wiring, n, m, up, kind) {
         number_in_turn(order, number, n);
         return;
     }
     walk_lists(
-        bonds, n, m, order, number, up, kind, ea, eb, ks, head, after, behind,
+        bonds, n, m, order, number, up, kind, wiring, head, after, behind,
     );
 }

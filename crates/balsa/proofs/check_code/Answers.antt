@@ -2,5 +2,5 @@ use mathlib.Core.Path.{sym, ap, ◌∙◌}
 use Rattle.table.specs.Valid.{check_code}
 use Rattle.balsa.proofs.check_code.Goals as goal
 
-pub returns-in-Refused : goal.returns-in-Refused
-returns-in-Refused c = c.code.ensures ∙ ap check_code (sym c.in-Refused.is)
+pub returns-in-Err : goal.returns-in-Err
+returns-in-Err c = c.code.ensures ∙ ap check_code (sym c.in-Err.is)

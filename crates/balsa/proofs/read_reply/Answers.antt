@@ -1,7 +1,7 @@
 use Rattle.balsa.proofs.read_reply.Goals as goal
 
-pub returns-in-Molecule : goal.returns-in-Molecule
-returns-in-Molecule c = simp c.in-Molecule.is
+pub returns-in-Ok : goal.returns-in-Ok
+returns-in-Ok c = simp c.in-Ok.is
 
-pub returns-in-Refused : goal.returns-in-Refused
-returns-in-Refused c = simp (c.in-Refused.is, c.code.ensures)
+pub returns-in-Err : goal.returns-in-Err
+returns-in-Err c = simp (c.in-Err.is, c.code.ensures)

@@ -5,6 +5,3 @@ use Rattle.conformation.proofs.fill.Given as goal
 
 abbrev pub invariant-loop-i : goal.invariant-loop-i
 invariant-loop-i l = Edited (fills (side_of l.bonds l.m)) l.initial.row l.m l.i l.row
-
-abbrev pub decreases-loop-i : goal.decreases-loop-i
-decreases-loop-i l = l.m - l.i

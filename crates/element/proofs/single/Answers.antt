@@ -1,8 +1,8 @@
 use Prim.Native.Nat.{ℕ, ◌+◌, ◌-◌, ◌<◌}
-use mathlib.Core.Path.{◌≡◌, sym, ap}
+use mathlib.Core.Path.{◌≡◌, ap}
 use native.Mathlib.Omega.{arith}
 use Rattle.element.specs.Symbols.{symbols, same_bytes, listed, starts}
-use Rattle.element.specs.Lookup.{number_of, index_from, single_of}
+use Rattle.element.specs.Lookup.{number_of, index_from, single_of, symbol_alone}
 use Rattle.element.proofs.Table.{rule}
 use Rattle.element.proofs.Symbols.{no-single, capital, Capital}
 use Rattle.element.proofs.single.Goals as goal
@@ -16,13 +16,13 @@ unfolding single_at
 entry a l = ap single_of (omega (arith, l.low))
 
 pub returns-then-a : goal.returns-then-a
-returns-then-a c = sym (no-single c.args.a c.if-a.true)
+returns-then-a c = rw (no-single c.args.a c.if-a.true)
 
-pub overflow_sub-result : goal.overflow_sub-result
-overflow_sub-result c = (capital c.args.a c.if-a.false).low
+pub overflow_sub-a : goal.overflow_sub-a
+overflow_sub-a c = (capital c.args.a c.if-a.false).low
 
 pub returns : goal.returns
 unfolding single_at single_of number_of index_from symbols same_bytes listed starts
 returns c = let l : Capital c.args.a = capital c.args.a c.if-a.false in
     let h : c.args.a - 65 < 26 = omega (arith, l.high) in
-    rw (rule single_at 26) (entry c.args.a l)
+    rw (c.meaning.ensures, rule single_at 26) (ap symbol_alone (entry c.args.a l))

@@ -1,10 +1,6 @@
-use Prim.Native.Nat.{◌-◌}
 use Rattle.loops.proofs.Loops.{Edited}
 use Rattle.folding.specs.Folding.{bare_atom}
 use Rattle.folding.proofs.bare_atoms.Given as goal
 
 abbrev pub invariant-loop-i : goal.invariant-loop-i
 invariant-loop-i l = Edited bare_atom l.initial.atoms l.n l.i l.atoms
-
-abbrev pub decreases-loop-i : goal.decreases-loop-i
-decreases-loop-i l = l.n - l.i

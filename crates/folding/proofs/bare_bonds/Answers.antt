@@ -1,15 +1,9 @@
-use Rattle.loops.proofs.Loops.{edited-start, edited-step, edited-end}
+use Rattle.loops.proofs.Loops.{edited-step, edited-end}
 use Rattle.folding.specs.Folding.{bared_bonds}
 use Rattle.folding.proofs.bare_bonds.Goals as goal
 
-pub loop-i-init : goal.loop-i-init
-loop-i-init c = edited-start
-
 pub loop-i-preserved : goal.loop-i-preserved
 loop-i-preserved c = edited-step c.loop-i.invariant _ c.loop-i-test.true c.bare_bond.ensures c.bare_bond.auto.bonds
-
-pub shape_of-bonds : goal.shape_of-bonds
-shape_of-bonds c = c.loop-i.invariant.room
 
 pub returns : goal.returns
 unfolding bared_bonds

@@ -1,5 +1,5 @@
 use mathlib.Core.Path.{sym, ◌∙◌}
-use Rattle.folding.proofs.Paths.{bare-room, fold-none, fold-some}
+use Rattle.folding.proofs.Paths.{bare-room, fold-none}
 use Rattle.folding.proofs.fold.Goals as goal
 
 pub returns-then-no_hydrogen : goal.returns-then-no_hydrogen
@@ -7,6 +7,3 @@ returns-then-no_hydrogen c = fold-none c.args.atoms.now c.args.bonds.now c.args.
 
 pub merge-requires : goal.merge-requires
 merge-requires c = bare-room c.args.atoms.now c.args.bonds.now c.args.n c.args.m c.requires c.bare_atoms.ensures c.bare_bonds.ensures
-
-pub returns : goal.returns
-returns c = fold-some c.args.atoms.now c.args.bonds.now c.args.n c.args.m c.requires c.bare_atoms.ensures c.bare_bonds.ensures c.merge.ensures

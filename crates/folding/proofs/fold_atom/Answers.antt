@@ -4,12 +4,9 @@ use mir.Val.{SFits}
 use mir.Syntax.{w32}
 use mir.Facts.{to_z-of_z}
 use native.Mathlib.Omega.{arith}
-use Rattle.table.proofs.Keys.{held, failed}
-use Rattle.folding.proofs.Paths.{fold-no, going, fold-yes}
+use Rattle.table.proofs.Keys.{held}
+use Rattle.folding.proofs.Paths.{going, fold-yes}
 use Rattle.folding.proofs.fold_atom.Goals as goal
-
-pub returns-then-not-folds : goal.returns-then-not-folds
-returns-then-not-folds c = record { value = (fold-no c.args.link c.args.a.0 c.args.atoms.now (failed c.folds.ensures c.if-not-folds.true-raw)).0; atoms_after = (fold-no c.args.link c.args.a.0 c.args.atoms.now (failed c.folds.ensures c.if-not-folds.true-raw)).1 }
 
 pub overflow_sub-p : goal.overflow_sub-p
 overflow_sub-p c = let g = going c.args.link c.args.a.0 c.args.atoms.now (held c.folds.ensures c.if-not-folds.false-raw) in omega (arith, g.linked)

@@ -20,12 +20,6 @@ loop-i-preserved c = (
   c.fold_atom-gone.auto.atoms ∙ c.loop-i.invariant.2,
 )
 
-pub shape_of-atoms : goal.shape_of-atoms
-shape_of-atoms c = c.loop-i.invariant.2
-
-pub shape_of-numbers : goal.shape_of-numbers
-shape_of-numbers c = c.loop-i.invariant.1.room
-
 pub returns : goal.returns
 returns c = let e = turned-end c.loop-i.invariant.0 c.loop-i-test.false in
     record { value = e.0; atoms_after = e.1; numbers_after = filled-end c.loop-i.invariant.1 c.requires.2 c.loop-i-test.false }

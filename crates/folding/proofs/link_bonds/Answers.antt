@@ -1,5 +1,5 @@
 use native.Mathlib.Omega.{arith}
-use mathlib.Core.Path.{◌≡◌, refl, ap, ◌∙◌}
+use mathlib.Core.Path.{refl, ap, ◌∙◌}
 use lib.ListN.{length, length-set}
 use Rattle.kinds.specs.Kind.{order}
 use Rattle.table_graph.proofs.Sums.{row-cells}
@@ -55,10 +55,3 @@ loop-i-preserved c = let r = row-cells c.args.bonds.now c.loop-i.i c.get_bond-ro
     let pf = c.number-second.ensures ∙ r.1 in
     let po = c.order-order.ensures ∙ ap order (c.number.ensures ∙ r.2) in
     (omega arith, links-step c.args.bonds.now c.loop-i.i (length c.args.links.now) c.loop-i.invariant.1 pe pf po (omega (arith, pe, pf, c.requires.ends.order c.loop-i.i c.loop-i-test.true)) (omega (arith, pf, c.requires.ends.second c.loop-i.i c.loop-i-test.true)) c.linked.ensures refl c.linked-in-loop-i.ensures refl)
-
-pub shape_of-links : goal.shape_of-links
-shape_of-links c = links-length c.args.bonds.now c.loop-i.i _ c.loop-i.invariant.1
-
-pub returns : goal.returns
-returns c = let d : c.loop-i.i ≡ c.args.m = omega (arith, c.loop-i.invariant.0) in
-    c.loop-i.invariant.1 ∙ simp d

@@ -1,4 +1,3 @@
-use Prim.Native.Nat.{◌-◌}
 use lib.ListN.{get_or}
 use Rattle.loops.proofs.Loops.{Edited}
 use Rattle.folding.specs.Links.{none, move_atom}
@@ -6,6 +5,3 @@ use Rattle.folding.proofs.move_atoms.Given as goal
 
 abbrev pub invariant-loop-i : goal.invariant-loop-i
 invariant-loop-i l = Edited (λ a. move_atom (get_or l.numbers a none) a) l.initial.atoms l.n l.i l.atoms
-
-abbrev pub decreases-loop-i : goal.decreases-loop-i
-decreases-loop-i l = l.n - l.i

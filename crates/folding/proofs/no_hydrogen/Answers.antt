@@ -1,15 +1,8 @@
-use native.Mathlib.Omega.{arith}
 use mathlib.Core.Path.{sym, ◌∙◌}
 use borrow.Author.Tests.{eq-eqb, ne_eqb}
-use Rattle.loops.proofs.Loops.{left-start, left-pass, left-fail, left_end}
+use Rattle.loops.proofs.Loops.{left-pass, left-fail, left_end}
 use Rattle.folding.specs.Links.{no_hydrogen}
 use Rattle.folding.proofs.no_hydrogen.Goals as goal
-
-pub loop-i-init : goal.loop-i-init
-loop-i-init c = left-start
-
-pub atom_number-requires : goal.atom_number-requires
-atom_number-requires c = (omega arith, omega arith)
 
 pub returns-then-atom_number-eq1 : goal.returns-then-atom_number-eq1
 unfolding no_hydrogen

@@ -14,8 +14,8 @@ returns-then-not-sound c = simp (held c.roomy.ensures c.if-not-roomy.false-raw, 
 
 pub is_matching_valid-requires : goal.is_matching_valid-requires
 is_matching_valid-requires c = let a = c.args in
-    let v = sound-valid a.atoms.now a.bonds.now a.n a.m (held c.sound.ensures c.if-not-sound.false-raw) in
-    record { valid = v; m_in_bounds = row_room a.atoms.now a.bonds.now a.n a.m _ (held c.roomy.ensures c.if-not-roomy.false-raw) v }
+    let v = sound-valid a.tables.atoms.now a.tables.bonds.now a.tables.n a.tables.m (held c.sound.ensures c.if-not-sound.false-raw) in
+    record { valid = v; m_in_bounds = row_room a.tables.atoms.now a.tables.bonds.now a.tables.n a.tables.m _ (held c.roomy.ensures c.if-not-roomy.false-raw) v }
 
 pub returns-then-is_matching_valid : goal.returns-then-is_matching_valid
 unfolding asked_of

@@ -1,4 +1,4 @@
-use Prim.Native.Nat.{◌≤◌, ◌-◌}
+use Prim.Native.Nat.{◌≤◌}
 use mathlib.Core.Path.{◌≡◌}
 use lib.ListN.{length}
 use Rattle.matching.specs.Limits.{max_atoms}
@@ -6,6 +6,3 @@ use Rattle.matching_blossom.proofs.grow.Given as goal
 
 abbrev pub invariant-loop-at : goal.invariant-loop-at
 invariant-loop-at l = (l.at ≤ max_atoms) × ((length l.up ≡ length l.initial.up) × ((length l.base ≡ length l.initial.base) × (length l.outer ≡ length l.initial.outer)))
-
-abbrev pub decreases-loop-at : goal.decreases-loop-at
-decreases-loop-at l = max_atoms - l.at

@@ -34,9 +34,6 @@ mark-requires t c = ends-here c.loop-at.invariant.shape (inside c.loop-at-test.t
 pub bounds-row-at : goal.bounds-row-at
 bounds-row-at t c = in_row c.loop-at.invariant.shape (inside c.loop-at-test.true)
 
-pub overflow_add-at : goal.overflow_add-at
-overflow_add-at t c = omega (arith, c.well_formed.0.0, c.loop-at-test.true)
-
 pub seek_from-found-requires : goal.seek_from-found-requires
 seek_from-found-requires t c = (omega (arith, c.loop-at.invariant.begun, c.loop-at-test.true), shape-next c.loop-at.invariant.shape (inside c.loop-at-test.true) c.mark.auto.need (length-set c.loop-at.row c.loop-at.at 1))
 
@@ -57,12 +54,6 @@ bounds-row-at-in-loop-at t c = elim c.if-choosable.branch [
   | then-choosable+else-hopeless+else-found w ↦ rw (w.row-is, w.seek_from-found.auto.row, length-set c.loop-at.row c.loop-at.at 1) (in_row c.loop-at.invariant.shape (inside c.loop-at-test.true))
   | else-choosable w ↦ rw w.row-is (in_row c.loop-at.invariant.shape (inside c.loop-at-test.true))
 ]
-
-pub overflow_add-at-in-loop-at : goal.overflow_add-at-in-loop-at
-overflow_add-at-in-loop-at t c = omega (arith, c.well_formed.0.0, c.loop-at-test.true)
-
-pub loop-at-smaller : goal.loop-at-smaller
-loop-at-smaller t c = omega (arith, c.loop-at-test.true)
 
 pub loop-at-preserved : goal.loop-at-preserved
 loop-at-preserved t c = elim c.if-choosable.branch [

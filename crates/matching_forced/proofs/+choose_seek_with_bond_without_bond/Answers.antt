@@ -13,19 +13,19 @@ pub choose-lowest_free-b-requires : goal.choose-lowest_free-b-requires
 choose-lowest_free-b-requires t c = tables-of c.requires.shape
 
 pub choose-returns-then-all_paired : goal.choose-returns-then-all_paired
-choose-returns-then-all_paired t c = record { tried = end-found c.requires.shape c.lowest_free-b.ensures c.if-ea-at.true c.blank.ensures c.all_paired.ensures c.if-all_paired.true; el_unchanged = refl }
+choose-returns-then-all_paired t c = record { tried = end-found c.requires.shape c.lowest_free-b.ensures c.if-ends-at.true c.blank.ensures c.all_paired.ensures c.if-all_paired.true; el_unchanged = refl }
 
 pub choose-returns-else-all_paired : goal.choose-returns-else-all_paired
-choose-returns-else-all_paired t c = record { tried = end-absent c.requires.shape c.lowest_free-b.ensures c.if-ea-at.true c.blank.ensures c.all_paired.ensures c.if-all_paired.false; el_unchanged = refl }
+choose-returns-else-all_paired t c = record { tried = end-absent c.requires.shape c.lowest_free-b.ensures c.if-ends-at.true c.blank.ensures c.all_paired.ensures c.if-all_paired.false; el_unchanged = refl }
 
-pub choose-returns-then-left-eq0 : goal.choose-returns-then-left-eq0
-choose-returns-then-left-eq0 t c = record { tried = spent; el_unchanged = refl }
+pub choose-returns-then-budget-eq0 : goal.choose-returns-then-budget-eq0
+choose-returns-then-budget-eq0 t c = record { tried = spent; el_unchanged = refl }
 
 pub choose-with_bond-got-requires : goal.choose-with_bond-got-requires
-choose-with_bond-got-requires t c = (omega arith, (c.requires.shape, (c.requires.roomy, lowest-chosen c.requires.shape c.lowest_free-b.ensures c.if-ea-at.false)))
+choose-with_bond-got-requires t c = (omega arith, (c.requires.shape, (c.requires.roomy, lowest-chosen c.requires.shape c.lowest_free-b.ensures c.if-ends-at.false)))
 
 pub choose-returns-in_default : goal.choose-returns-in_default
-choose-returns-in_default t c = record { tried = choice-told c.requires.shape c.lowest_free-b.ensures c.if-ea-at.false c.with_bond-got.ensures.tried c.in_default.not-Absent; el_unchanged = c.with_bond-got.ensures.el_unchanged }
+choose-returns-in_default t c = record { tried = choice-told c.requires.shape c.lowest_free-b.ensures c.if-ends-at.false c.with_bond-got.ensures.tried c.in_default.not-Absent; el_unchanged = c.with_bond-got.ensures.el_unchanged }
 
 pub choose-without_bond-requires : goal.choose-without_bond-requires
 choose-without_bond-requires t c = (
@@ -34,13 +34,13 @@ choose-without_bond-requires t c = (
     shape-again c.requires.shape c.with_bond-got.ensures.el_unchanged c.with_bond-got.ensures.tried.same c.with_bond-got.auto.row,
     (
       roomy-again c.requires.shape c.with_bond-got.ensures.el_unchanged c.with_bond-got.ensures.tried.same c.with_bond-got.auto.pairs c.requires.roomy,
-      chosen-again c.requires.shape c.with_bond-got.ensures.el_unchanged c.with_bond-got.ensures.tried.same (lowest-chosen c.requires.shape c.lowest_free-b.ensures c.if-ea-at.false),
+      chosen-again c.requires.shape c.with_bond-got.ensures.el_unchanged c.with_bond-got.ensures.tried.same (lowest-chosen c.requires.shape c.lowest_free-b.ensures c.if-ends-at.false),
     ),
   ),
 )
 
 pub choose-returns : goal.choose-returns
-choose-returns t c = record { tried = choice-then c.requires.shape c.lowest_free-b.ensures c.if-ea-at.false c.with_bond-got.ensures.tried c.in-Absent.is c.with_bond-got.ensures.el_unchanged c.without_bond.ensures.tried; el_unchanged = c.without_bond.ensures.el_unchanged ∙ c.with_bond-got.ensures.el_unchanged }
+choose-returns t c = record { tried = choice-then c.requires.shape c.lowest_free-b.ensures c.if-ends-at.false c.with_bond-got.ensures.tried c.in-Absent.is c.with_bond-got.ensures.el_unchanged c.without_bond.ensures.tried; el_unchanged = c.without_bond.ensures.el_unchanged ∙ c.with_bond-got.ensures.el_unchanged }
 
 pub seek-offset_bounds-pairs-n : goal.seek-offset_bounds-pairs-n
 seek-offset_bounds-pairs-n t c = omega (arith, told-few c.requires.shape c.requires.roomy c.force-forcing.ensures c.force-forcing.auto.pairs)

@@ -6,7 +6,4 @@ use Rattle.matching_forced.proofs.Counts.{Sought}
 use Rattle.matching_forced.proofs.free_bond.Given as goal
 
 abbrev pub invariant-loop-i : goal.invariant-loop-i
-invariant-loop-i l = Sought (free_of (bonds_of l.ea l.eb l.el) l.need l.v.0) (length l.ea) l.i
-
-abbrev pub decreases-loop-i : goal.decreases-loop-i
-decreases-loop-i l = length l.ea - l.i
+invariant-loop-i l = Sought (free_of (bonds_of l.links.ends.first.now l.links.ends.second.now l.links.elided.now) l.need l.v.0) (length l.links.ends.first.now) l.i

@@ -6,7 +6,4 @@ use Rattle.matching_forced.proofs.Counts.{Sought}
 use Rattle.matching_forced.proofs.lowest_free.Given as goal
 
 abbrev pub invariant-loop-i : goal.invariant-loop-i
-invariant-loop-i l = Sought (λ k. free (nth_bond (bonds_of l.ea l.eb l.el) k) l.need) (length l.ea) l.i
-
-abbrev pub decreases-loop-i : goal.decreases-loop-i
-decreases-loop-i l = length l.ea - l.i
+invariant-loop-i l = Sought (λ k. free (nth_bond (bonds_of l.links.ends.first.now l.links.ends.second.now l.links.elided.now) k) l.need) (length l.links.ends.first.now) l.i

@@ -1,10 +1,6 @@
-use mathlib.Core.Path.{◌≡◌}
-use lib.ListN.{length, set}
+use lib.ListN.{set}
 use Rattle.matching_forced.proofs.Listed.{Backward}
 use Rattle.matching_forced.proofs.set_ones.Given as goal
 
 abbrev pub invariant-loop-i : goal.invariant-loop-i
-invariant-loop-i l = Backward (λ k r. set r k 1) l.initial.row l.pairs l.n l.i l.row × (length l.row ≡ length l.initial.row)
-
-abbrev pub decreases-loop-i : goal.decreases-loop-i
-decreases-loop-i l = l.i
+invariant-loop-i l = Backward (λ k r. set r k 1) l.initial.row l.pairs l.n l.i l.row

@@ -1,11 +1,6 @@
-use mathlib.Core.Path.{◌≡◌}
-use lib.ListN.{length}
 use Rattle.matching.specs.Model.{mark_at}
 use Rattle.matching_forced.proofs.Listed.{Backward}
 use Rattle.matching_forced.proofs.undo.Given as goal
 
 abbrev pub invariant-loop-i : goal.invariant-loop-i
-invariant-loop-i l = Backward (λ k x. mark_at l.ea l.eb x k 1) l.initial.need l.pairs l.n l.i l.need × (length l.need ≡ length l.initial.need)
-
-abbrev pub decreases-loop-i : goal.decreases-loop-i
-decreases-loop-i l = l.i
+invariant-loop-i l = Backward (λ k x. mark_at l.ends.first.now l.ends.second.now x k 1) l.initial.need l.pairs l.n l.i l.need

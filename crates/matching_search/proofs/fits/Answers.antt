@@ -28,12 +28,6 @@ returns-then-not-choosable c = fitting-not c.loop-i.invariant c.loop-i-test.true
 pub mark-requires : goal.mark-requires
 mark-requires c = fitting-ends c.loop-i.invariant c.loop-i-test.true
 
-pub overflow_add-i : goal.overflow_add-i
-overflow_add-i c = omega (arith, c.loop-i-test.true)
-
-pub loop-i-smaller : goal.loop-i-smaller
-loop-i-smaller c = omega (arith, c.loop-i-test.true)
-
 pub loop-i-preserved : goal.loop-i-preserved
 loop-i-preserved c = elim c.if-x-ne0.branch [
   | then-x-ne0+else-x-ne1+else-not-choosable w ↦ fitting-one c.loop-i.invariant c.loop-i-test.true w.choosable.ensures w.if-x-ne1.false w.if-not-choosable.false w.mark.ensures w.mark.auto.need w.need-is

@@ -1,6 +1,8 @@
+use Rattle.std.proofs.Common.{◌≡◌, true, false}
 use mathlib.Core.Path.{sym}
 use native.Mathlib.Omega.{arith}
-use Rattle.table.proofs.Keys.{held, failed}
+use Rattle.table.specs.Valid.{enough}
+use Rattle.table.specs.Sound.{sound}
 use Rattle.molecule_key.specs.Keyed.{keyed_of}
 use Rattle.molecule_key.proofs.Used.{taken-complete}
 use Rattle.molecule_key.proofs.Tables.{checked-complete, used-atoms, used-bonds, used-key}
@@ -8,44 +10,38 @@ use Rattle.molecule_key.proofs.key.Goals as goal
 
 pub returns-then-not-enough : goal.returns-then-not-enough
 unfolding keyed_of
-returns-then-not-enough c = simp (failed c.enough.ensures c.if-not-enough.true-raw)
+returns-then-not-enough c = let e : enough c.args.tables.atoms.now c.args.tables.bonds.now ≡ false = cc in simp e
 
 pub returns-then-not-sound : goal.returns-then-not-sound
 unfolding keyed_of
-returns-then-not-sound c = simp (held c.enough.ensures c.if-not-enough.false-raw, failed c.sound.ensures c.if-not-sound.true-raw)
+returns-then-not-sound c = let t = c.args.tables in
+    let e : enough t.atoms.now t.bonds.now ≡ true = cc in
+    let s : sound t.atoms.now t.bonds.now t.n t.m ≡ false = cc in
+    simp (e, s)
 
 pub overflow_mul-a : goal.overflow_mul-a
-overflow_mul-a c = let e = held c.enough.ensures c.if-not-enough.false-raw in
-    let s = held c.sound.ensures c.if-not-sound.false-raw in
-    let k = checked-complete c.args.atoms.now c.args.bonds.now c.args.n c.args.m e s in
-    omega arith
+overflow_mul-a c = let t = c.args.tables in
+    let k = checked-complete t.atoms.now t.bonds.now t.n t.m (cc) (cc) in omega arith
 
 pub overflow_mul-b : goal.overflow_mul-b
-overflow_mul-b c = let e = held c.enough.ensures c.if-not-enough.false-raw in
-    let s = held c.sound.ensures c.if-not-sound.false-raw in
-    let k = checked-complete c.args.atoms.now c.args.bonds.now c.args.n c.args.m e s in
-    omega arith
+overflow_mul-b c = let t = c.args.tables in
+    let k = checked-complete t.atoms.now t.bonds.now t.n t.m (cc) (cc) in omega arith
 
 pub slice_bounds-rows_key-end : goal.slice_bounds-rows_key-end
-slice_bounds-rows_key-end c = let e = held c.enough.ensures c.if-not-enough.false-raw in
-    let s = held c.sound.ensures c.if-not-sound.false-raw in
-    let k = checked-complete c.args.atoms.now c.args.bonds.now c.args.n c.args.m e s in
-    sym (used-atoms k)
+slice_bounds-rows_key-end c = let t = c.args.tables in
+    sym (used-atoms (checked-complete t.atoms.now t.bonds.now t.n t.m (cc) (cc)))
 
 pub slice_bounds-rows_key-end-2 : goal.slice_bounds-rows_key-end-2
-slice_bounds-rows_key-end-2 c = let e = held c.enough.ensures c.if-not-enough.false-raw in
-    let s = held c.sound.ensures c.if-not-sound.false-raw in
-    let k = checked-complete c.args.atoms.now c.args.bonds.now c.args.n c.args.m e s in
-    sym (used-bonds k)
+slice_bounds-rows_key-end-2 c = let t = c.args.tables in
+    sym (used-bonds (checked-complete t.atoms.now t.bonds.now t.n t.m (cc) (cc)))
 
 pub rows_key-requires : goal.rows_key-requires
-rows_key-requires c = let e = held c.enough.ensures c.if-not-enough.false-raw in
-    let s = held c.sound.ensures c.if-not-sound.false-raw in
-    let k = checked-complete c.args.atoms.now c.args.bonds.now c.args.n c.args.m e s in
+rows_key-requires c = let t = c.args.tables in
+    let k = checked-complete t.atoms.now t.bonds.now t.n t.m (cc) (cc) in
     record { complete = taken-complete k; atoms_len = (used-atoms k, used-bonds k) }
 
 pub returns : goal.returns
-returns c = let e = held c.enough.ensures c.if-not-enough.false-raw in
-    let s = held c.sound.ensures c.if-not-sound.false-raw in
-    let k = checked-complete c.args.atoms.now c.args.bonds.now c.args.n c.args.m e s in
-    used-key k e s c.rows_key.ensures
+returns c = let t = c.args.tables in
+    let e : enough t.atoms.now t.bonds.now ≡ true = cc in
+    let s : sound t.atoms.now t.bonds.now t.n t.m ≡ true = cc in
+    used-key (checked-complete t.atoms.now t.bonds.now t.n t.m e s) e s c.rows_key.ensures

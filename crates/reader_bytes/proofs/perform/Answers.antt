@@ -3,7 +3,7 @@ use Rattle.reader_bytes.proofs.Parts.{bridge-bounded, bridge-number, does-keep, 
 use Rattle.reader_bytes.proofs.perform.Goals as goal
 
 pub bridge-requires : goal.bridge-requires
-bridge-requires c = record { bounded = bridge-bounded c.args.h c.args.hubs.now _ c.args.symbols.now _ c.args.outsides.now c.args.keys.now c.args.atoms.now c.args.bonds.now c.requires.bounded; number_lt_bridges = bridge-number c.in-Bridge.is c.requires.numbered; at_le_max_text = omega (arith, c.minus.ensures) }
+bridge-requires c = record { bounded = bridge-bounded c.args.h c.args.hubs.now _ c.args.symbols.now _ c.args.outsides.now c.args.keys.now c.args.atoms.now c.args.bonds.now c.requires.bounded; number_lt_bridges = bridge-number c.in-Bridge.is c.requires.numbered; at_le_max_text = omega (arith, c.saturating_sub.ensures) }
 
 pub returns-in-Keep : goal.returns-in-Keep
 returns-in-Keep c = does-keep _ _ _ c.in-Keep.is
@@ -15,7 +15,7 @@ pub returns-in-Second : goal.returns-in-Second
 returns-in-Second c = does-second _ _ _ _ _ _ _ _ _ _ c.requires.bounded.hub _ c.put_atom.ensures c.in-Second.is c.bare.ensures
 
 pub returns-in-Bridge : goal.returns-in-Bridge
-returns-in-Bridge c = does-bridge _ _ _ c.in-Bridge.is c.minus.ensures (c.bridge.ensures _ _ _)
+returns-in-Bridge c = does-bridge _ _ _ c.in-Bridge.is c.saturating_sub.ensures (c.bridge.ensures _ _ _)
 
 pub returns-in-Joint : goal.returns-in-Joint
 returns-in-Joint c = does-joint _ _ _ c.in-Joint.is

@@ -1,3 +1,4 @@
+use mathlib.Core.Logic.{⊎_elim}
 use Rattle.reading_deeds.proofs.Laws.{kept}
 use Rattle.reading_deeds.proofs.Modes.{percent-takes, percent1-takes, colon-takes, atom-takes, tens-fit, bracket-fits, isotope-fits, colon-fits, extension-fits, in_sequence, in-bond, at-atom, in_branch, in-bracket, in-isotope, after-letter, after_symbol, after-at, after-mark, after-hydrogen, after-hydrogens, after-sign, after-charge, after-colon, in-extension, tens-does, number-does, astatine, tennessine}
 use Rattle.reading_deeds.proofs.deed_of.Goals as goal
@@ -9,16 +10,10 @@ pub value-requires-in-Percent1 : goal.value-requires-in-Percent1
 value-requires-in-Percent1 c = percent1-takes _ c.requires.fact c.in-Percent1.is
 
 pub numbering-requires : goal.numbering-requires
-numbering-requires c = bracket-fits _ _ c.requires.fitting c.in-Bracket.is
-
-pub numbering-requires-in-Isotope : goal.numbering-requires-in-Isotope
-numbering-requires-in-Isotope c = isotope-fits _ _ c.requires.fitting c.in-Isotope.is
+numbering-requires c = ⊎_elim (λ e. bracket-fits _ _ c.requires.fitting e) (λ w. isotope-fits _ _ c.requires.fitting w.1) c.in-Bracket.is
 
 pub extending-requires : goal.extending-requires
-extending-requires c = colon-fits _ _ _ c.requires.fitting c.in-Colon.is
-
-pub extending-requires-in-Extension : goal.extending-requires-in-Extension
-extending-requires-in-Extension c = extension-fits _ _ _ c.requires.fact c.requires.fitting c.in-Extension.is
+extending-requires c = ⊎_elim (λ e. colon-fits _ _ _ c.requires.fitting e) (λ w. extension-fits _ _ _ c.requires.fact c.requires.fitting w.1) c.in-Colon.is
 
 pub returns-in-Seq : goal.returns-in-Seq
 returns-in-Seq c = in_sequence _ _ _ c.in-Seq.is (c.or_atom.ensures _ (c.or_bridge.ensures _ c.between.ensures))
@@ -45,10 +40,7 @@ pub returns-in-LetterT : goal.returns-in-LetterT
 returns-in-LetterT c = tennessine _ _ _ c.in-LetterT.is
 
 pub returns-in-Bracket : goal.returns-in-Bracket
-returns-in-Bracket c = in-bracket _ _ _ c.in-Bracket.is c.numbering.ensures
-
-pub returns-in-Isotope : goal.returns-in-Isotope
-returns-in-Isotope c = in-isotope _ _ _ c.in-Isotope.is c.numbering-in-Isotope.ensures
+returns-in-Bracket c = ⊎_elim (λ e. in-bracket _ _ _ e c.numbering.ensures) (λ w. in-isotope _ _ _ w.1 c.numbering.ensures) c.in-Bracket.is
 
 pub returns-in-Symbol1 : goal.returns-in-Symbol1
 returns-in-Symbol1 c = after-letter _ _ _ c.in-Symbol1.is c.second.ensures
@@ -75,7 +67,4 @@ pub returns-in-Charged : goal.returns-in-Charged
 returns-in-Charged c = after-charge _ _ _ c.in-Charged.is c.closing.ensures
 
 pub returns-in-Colon : goal.returns-in-Colon
-returns-in-Colon c = after-colon _ _ _ c.in-Colon.is (colon-takes _ c.requires.fact c.in-Colon.is) c.extending.ensures
-
-pub returns-in-Extension : goal.returns-in-Extension
-returns-in-Extension c = in-extension _ _ _ c.in-Extension.is c.extending-in-Extension.ensures
+returns-in-Colon c = ⊎_elim (λ e. after-colon _ _ _ e (colon-takes _ c.requires.fact e) c.extending.ensures) (λ w. in-extension _ _ _ w.1 c.extending.ensures) c.in-Colon.is

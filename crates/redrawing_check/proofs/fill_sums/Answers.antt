@@ -1,14 +1,8 @@
-use Rattle.loops.proofs.Loops.{edited-start, filled-step, filled-end}
+use Rattle.loops.proofs.Loops.{filled-step, filled-end}
 use Rattle.redrawing_check.proofs.fill_sums.Goals as goal
-
-pub loop-a-init : goal.loop-a-init
-loop-a-init c = edited-start
 
 pub loop-a-preserved : goal.loop-a-preserved
 loop-a-preserved c = filled-step c.loop-a.invariant _ c.loop-a-test.true c.plus.ensures
-
-pub shape_of-settled : goal.shape_of-settled
-shape_of-settled c = c.loop-a.invariant.room
 
 pub returns : goal.returns
 returns c = filled-end c.loop-a.invariant c.requires.2 c.loop-a-test.false

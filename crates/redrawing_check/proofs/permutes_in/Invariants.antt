@@ -1,10 +1,6 @@
-use Prim.Native.Nat.{◌-◌}
 use lib.ListN.{length}
 use Rattle.redrawing_check.proofs.Checking.{Permuting}
 use Rattle.redrawing_check.proofs.permutes_in.Given as goal
 
 abbrev pub invariant-loop-a : goal.invariant-loop-a
 invariant-loop-a l = Permuting l.list l.n (length l.initial.seen) l.a l.seen
-
-abbrev pub decreases-loop-a : goal.decreases-loop-a
-decreases-loop-a l = l.n - l.a

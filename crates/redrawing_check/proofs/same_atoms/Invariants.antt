@@ -1,10 +1,6 @@
-use Prim.Native.Nat.{◌-◌}
 use Rattle.loops.proofs.Loops.{Left}
 use Rattle.redrawing_check.specs.Certificate.{cells_kept}
 use Rattle.redrawing_check.proofs.same_atoms.Given as goal
 
 abbrev pub invariant-loop-a : goal.invariant-loop-a
 invariant-loop-a l = Left (cells_kept l.atoms1 l.atoms2 l.t) l.n l.a
-
-abbrev pub decreases-loop-a : goal.decreases-loop-a
-decreases-loop-a l = l.n - l.a

@@ -1,21 +1,8 @@
-use native.Mathlib.Omega.{arith}
 use mathlib.Core.Path.{sym, ◌∙◌}
 use borrow.Author.Tests.{not-true, not-false}
-use Rattle.loops.proofs.Loops.{left-start, left-pass, left-fail, left_end}
+use Rattle.loops.proofs.Loops.{left-pass, left-fail, left_end}
 use Rattle.redrawing_check.proofs.Checking.{ends-told}
 use Rattle.redrawing_check.proofs.same_bonds.Goals as goal
-
-pub loop-k-init : goal.loop-k-init
-loop-k-init c = left-start
-
-pub bond_number-requires : goal.bond_number-requires
-bond_number-requires c = (omega arith, omega arith)
-
-pub bond_number-requires-in-loop-k : goal.bond_number-requires-in-loop-k
-bond_number-requires-in-loop-k c = (omega arith, omega arith)
-
-pub joins-requires : goal.joins-requires
-joins-requires c = omega (arith, c.image.ensures, c.requires.0, c.requires.1.below c.loop-k.k c.loop-k-test.true)
 
 pub returns-then-not-joins : goal.returns-then-not-joins
 returns-then-not-joins c = sym (left-fail c.loop-k.invariant c.loop-k-test.true

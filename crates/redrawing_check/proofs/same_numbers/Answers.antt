@@ -1,17 +1,7 @@
-use native.Mathlib.Omega.{arith}
 use mathlib.Core.Path.{sym}
-use Rattle.loops.proofs.Loops.{left-start, left-pass, left-fail, left_end}
+use Rattle.loops.proofs.Loops.{left-pass, left-fail, left_end}
 use Rattle.redrawing_check.proofs.Checking.{number-kept, number-lost}
 use Rattle.redrawing_check.proofs.same_numbers.Goals as goal
-
-pub loop-a-init : goal.loop-a-init
-loop-a-init c = left-start
-
-pub offset_bounds-numbers2-b : goal.offset_bounds-numbers2-b
-offset_bounds-numbers2-b c = omega (arith, c.image-b.ensures, c.requires.1, c.requires.2.below c.loop-a.a c.loop-a-test.true)
-
-pub bounds-numbers2-b : goal.bounds-numbers2-b
-bounds-numbers2-b c = omega (arith, c.image-b.ensures, c.requires.1, c.requires.2.below c.loop-a.a c.loop-a-test.true)
 
 pub returns-then-numbers1-a : goal.returns-then-numbers1-a
 returns-then-numbers1-a c = sym (left-fail c.loop-a.invariant c.loop-a-test.true (number-lost c.args.numbers1.now c.args.numbers2.now c.args.t.now _ c.image-b.ensures c.if-numbers1-a.true))

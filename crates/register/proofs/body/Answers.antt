@@ -1,38 +1,19 @@
-use Rattle.register.proofs.Paths.{at-missing, at-found, part-is, inside_is}
-use native.Mathlib.Omega.{arith}
-use mathlib.Core.Path.{sym, ◌∙◌}
-use borrow.Author.Tests.{not-true, not-false}
+use Rattle.std.proofs.Common.{◌∙◌, refl}
 use Rattle.register.specs.Answers.{body_at}
-use Rattle.register.proofs.Rules.{valid-is}
-use Rattle.register.proofs.Paths.{is-short, is-invalid}
+use Rattle.register.proofs.Paths.{found-is, none-is, picks-yes}
+use borrow.Author.Tests.{lt-ltb}
 use Rattle.register.proofs.body.Goals as goal
 
-pub returns-then-register-lt-SIZE : goal.returns-then-register-lt-SIZE
+pub body-requires : goal.body-requires
+body-requires c = found-is _ _ _ (rw c.in-Ok-Some.field-0-is at c.in-Ok-Some.ensures) refl
+
+pub returns-in-Ok-Some : goal.returns-in-Ok-Some
 unfolding body_at
-returns-then-register-lt-SIZE c = is-short _ _ _ _ c.if-register-lt-SIZE.true
+returns-in-Ok-Some c = let f = found-is _ _ _ (rw c.in-Ok-Some.field-0-is at c.in-Ok-Some.ensures) refl in
+    c.body.ensures ∙ picks-yes _ _ _ _ _ _ f.0 f.1 (lt-ltb _ _ f.2)
 
-pub returns-then-not-valid : goal.returns-then-not-valid
-unfolding body_at
-returns-then-not-valid c = is-invalid _ _ _ _ c.if-register-lt-SIZE.false (sym c.valid.ensures ∙ not-true _ c.if-not-valid.true-raw)
+pub returns-in-Ok-None : goal.returns-in-Ok-None
+returns-in-Ok-None c = none-is _ _ _ (rw c.in-Ok-None.field-0-is at c.in-Ok-None.ensures) refl
 
-pub returns-then-count-place : goal.returns-then-count-place
-unfolding body_at
-returns-then-count-place c = at-missing _ _ _ _ _ _ _ c.if-register-lt-SIZE.false (sym c.valid.ensures ∙ not-false _ c.if-not-valid.false-raw) c.count.ensures c.if-count-place.true
-
-pub start-start-requires : goal.start-start-requires
-start-start-requires c = let w = valid-is _ (sym c.valid.ensures ∙ not-false _ c.if-not-valid.false-raw) in (omega arith, omega arith)
-
-pub length-requires : goal.length-requires
-length-requires c = let w = valid-is _ (sym c.valid.ensures ∙ not-false _ c.if-not-valid.false-raw) in (omega arith, omega arith)
-
-pub slice_bounds-result-end-2 : goal.slice_bounds-result-end-2
-slice_bounds-result-end-2 c =
-    omega (
-      arith,
-      inside_is _ _ _ _ _ c.if-register-lt-SIZE.false (sym c.valid.ensures ∙ not-false _ c.if-not-valid.false-raw) c.count.ensures c.if-count-place.false c.start-start.ensures.value c.length.ensures.value,
-    )
-
-pub returns : goal.returns
-unfolding body_at
-returns c = part-is _ _ _ _ c.start-start.ensures.value c.length.ensures.value
-    ∙ at-found _ _ _ _ _ _ _ c.if-register-lt-SIZE.false (sym c.valid.ensures ∙ not-false _ c.if-not-valid.false-raw) c.count.ensures c.if-count-place.false
+pub returns-in-Err : goal.returns-in-Err
+returns-in-Err c = none-is _ _ _ c.in-Err.ensures refl

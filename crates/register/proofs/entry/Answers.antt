@@ -1,34 +1,22 @@
-use Rattle.register.proofs.Paths.{at-missing, at-found}
-use native.Mathlib.Omega.{arith}
-use mathlib.Core.Path.{sym, ◌∙◌}
-use borrow.Author.Tests.{not-true, not-false}
-use Rattle.register.specs.Answers.{found_of}
-use Rattle.register.proofs.Rules.{valid-is}
-use Rattle.register.proofs.Paths.{is-short, is-invalid}
+use Rattle.std.proofs.Common.{ℕ, List, ◌≡◌, rules, Err}
+use Rattle.register.specs.declared.RegisterError.{RegisterError}
+use Rattle.register.specs.Answers.{ready_of, found_out, found_of}
+use Rattle.register.proofs.Paths.{refused, at-missing, at-found}
 use Rattle.register.proofs.entry.Goals as goal
 
-pub returns-then-register-lt-SIZE : goal.returns-then-register-lt-SIZE
+not-ready : (r : List ℕ) (p : ℕ) (e : RegisterError) → Err e ≡ ready_of r → found_out (Err e) ≡ found_of r p
 unfolding found_of
-returns-then-register-lt-SIZE c = is-short _ _ _ _ c.if-register-lt-SIZE.true
+not-ready r p e h = refused r (λ i. found_out (Err i)) _ e h
 
-pub returns-then-not-valid : goal.returns-then-not-valid
-unfolding found_of
-returns-then-not-valid c = is-invalid _ _ _ _ c.if-register-lt-SIZE.false (sym c.valid.ensures ∙ not-true _ c.if-not-valid.true-raw)
+pub returns-in_err-ready : goal.returns-in_err-ready
+returns-in_err-ready c = search (rules, not-ready)
 
 pub returns-then-count-place : goal.returns-then-count-place
 unfolding found_of
-returns-then-count-place c = at-missing _ _ _ _ _ _ _ c.if-register-lt-SIZE.false (sym c.valid.ensures ∙ not-false _ c.if-not-valid.false-raw) c.count.ensures c.if-count-place.true
-
-pub tag-tag-requires : goal.tag-tag-requires
-tag-tag-requires c = let w = valid-is _ (sym c.valid.ensures ∙ not-false _ c.if-not-valid.false-raw) in (omega arith, omega arith)
-
-pub start-start-requires : goal.start-start-requires
-start-start-requires c = let w = valid-is _ (sym c.valid.ensures ∙ not-false _ c.if-not-valid.false-raw) in (omega arith, omega arith)
-
-pub length-length-requires : goal.length-length-requires
-length-length-requires c = let w = valid-is _ (sym c.valid.ensures ∙ not-false _ c.if-not-valid.false-raw) in (omega arith, omega arith)
+returns-then-count-place c = let h = c.in_ok-ready.ensures.ok in at-missing _ _ _ _ _ _ _ h.full h.sound c.count.ensures c.if-count-place.true
 
 pub returns : goal.returns
 unfolding found_of
-returns c = simp (c.length-length.ensures.value, c.start-start.ensures.value, c.tag-tag.ensures)
-    (at-found _ _ _ _ _ _ _ c.if-register-lt-SIZE.false (sym c.valid.ensures ∙ not-false _ c.if-not-valid.false-raw) c.count.ensures c.if-count-place.false)
+returns c = let h = c.in_ok-ready.ensures.ok in
+    simp (c.length-length.ensures.value, c.start-start.ensures.value, c.tag-tag.ensures)
+    (at-found _ _ _ _ _ _ _ h.full h.sound c.count.ensures c.if-count-place.false)

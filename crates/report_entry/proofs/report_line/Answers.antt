@@ -6,10 +6,10 @@ pub read_zeroed-a-requires : goal.read_zeroed-a-requires
 read_zeroed-a-requires c = blank-tables
 
 pub report_molecule-requires : goal.report_molecule-requires
-report_molecule-requires c = read-stands _ _ _ _ (blank-read c.args.s.now c.read_zeroed-a.ensures) c.in-Molecule.is
+report_molecule-requires c = read-stands _ _ _ _ (blank-read c.args.s.now c.read_zeroed-a.ensures) c.in-Ok.is
 
-pub returns-in-Refused : goal.returns-in-Refused
-returns-in-Refused c = reported (said-as (read-refused _ _ _ _ (blank-read c.args.s.now c.read_zeroed-a.ensures) c.in-Refused.is) c.refuse.ensures)
+pub returns-in-Err : goal.returns-in-Err
+returns-in-Err c = reported (said-as (read-refused _ _ _ _ (blank-read c.args.s.now c.read_zeroed-a.ensures) c.in-Err.is) c.refuse.ensures)
 
-pub returns-in-Molecule : goal.returns-in-Molecule
-returns-in-Molecule c = reported (said-as (read-molecule _ _ _ _ (blank-read c.args.s.now c.read_zeroed-a.ensures) c.in-Molecule.is) c.report_molecule.ensures)
+pub returns-in-Ok : goal.returns-in-Ok
+returns-in-Ok c = reported (said-as (read-molecule _ _ _ _ (blank-read c.args.s.now c.read_zeroed-a.ensures) c.in-Ok.is) c.report_molecule.ensures)

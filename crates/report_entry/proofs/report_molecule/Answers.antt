@@ -6,10 +6,10 @@ pub settle-c-requires : goal.settle-c-requires
 settle-c-requires c = record { standing = c.requires; row_value = refl }
 
 pub report_kekulized-requires : goal.report_kekulized-requires
-report_kekulized-requires c = (row_fits c.requires c.settle-c.new.row c.settle-c.auto.row, c.settle-c.ensures.writable c.in-Fine.is)
+report_kekulized-requires c = (row_fits c.requires c.settle-c.new.row c.settle-c.auto.row, c.settle-c.ensures.writable c.in-Ok.is)
 
-pub returns-in-Fine : goal.returns-in-Fine
-returns-in-Fine c = said-as (molecule-written _ _ _ _ _ _ _ _ _ c.settle-c.ensures c.in-Fine.is) c.report_kekulized.ensures
+pub returns-in-Ok : goal.returns-in-Ok
+returns-in-Ok c = said-as (molecule-written _ _ _ _ _ _ _ _ _ c.settle-c.ensures c.in-Ok.is) c.report_kekulized.ensures
 
-pub returns-in-Refused : goal.returns-in-Refused
-returns-in-Refused c = said-as (molecule-refused _ _ _ _ _ _ _ _ _ c.settle-c.ensures c.in-Refused.is) c.refuse.ensures
+pub returns-in-Err : goal.returns-in-Err
+returns-in-Err c = said-as (molecule-refused _ _ _ _ _ _ _ _ _ c.settle-c.ensures c.in-Err.is) c.refuse.ensures

@@ -9,9 +9,6 @@ loop-i-init c = edited-start
 pub found_at-requires : goal.found_at-requires
 found_at-requires c = c.requires.0
 
-pub loop-i-smaller : goal.loop-i-smaller
-loop-i-smaller c = omega (arith, c.loop-i.invariant.room)
-
 pub loop-i-preserved : goal.loop-i-preserved
 loop-i-preserved c = filled-step c.loop-i.invariant _ (omega (arith, c.loop-i.invariant.room, c.loop-i-test.true)) c.found_at.ensures
 

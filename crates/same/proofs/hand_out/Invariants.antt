@@ -7,6 +7,3 @@ use Rattle.same.proofs.hand_out.Given as goal
 
 abbrev pub invariant-loop-i : goal.invariant-loop-i
 invariant-loop-i l = Edited (fills (λ j. pick (ltb j l.n) (get_or l.found j 0) 0)) l.initial.ren (length l.initial.ren) l.i l.ren
-
-abbrev pub decreases-loop-i : goal.decreases-loop-i
-decreases-loop-i l = length l.initial.ren - l.i

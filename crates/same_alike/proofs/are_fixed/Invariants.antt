@@ -4,7 +4,4 @@ use Rattle.same_alike.specs.Alike.{is_fixed}
 use Rattle.same_alike.proofs.are_fixed.Given as goal
 
 abbrev pub invariant-loop-b : goal.invariant-loop-b
-invariant-loop-b l = Left (is_fixed l.tau l.ren) l.from l.b
-
-abbrev pub decreases-loop-b : goal.decreases-loop-b
-decreases-loop-b l = l.from - l.b
+invariant-loop-b l = Left (is_fixed l.tau l.fn.placed.ren.now) l.fn.placed.from l.b

@@ -17,7 +17,7 @@ pub returns-then-not-are_fixed : goal.returns-then-not-are_fixed
 returns-then-not-are_fixed c = λ h. not-like refl h
 
 pub are_rows_like-requires : goal.are_rows_like-requires
-are_rows_like-requires c = (c.requires.few, inside-at c.args.tau.now c.args.n c.are_inside.ensures (not-false _ c.if-not-are_inside.false-raw))
+are_rows_like-requires c = (c.requires.few, inside-at c.args.tau.now c.args.sides.n c.are_inside.ensures (not-false _ c.if-not-are_inside.false-raw))
 
 pub returns : goal.returns
-returns c = λ h. as-like c.args.o2.now c.args.ok.now c.args.n c.args.tau.now c.args.ren.now c.args.from (sym c.are_inside.ensures ∙ not-false _ c.if-not-are_inside.false-raw) (sym c.are_fixed.ensures ∙ not-false _ c.if-not-are_fixed.false-raw) (sym c.are_rows_like.ensures ∙ h)
+returns c = λ h. as-like c.args.sides.o2.now c.args.sides.ok.now c.args.sides.n c.args.tau.now c.args.placed.ren.now c.args.placed.from (sym c.are_inside.ensures ∙ not-false _ c.if-not-are_inside.false-raw) (sym c.are_fixed.ensures ∙ not-false _ c.if-not-are_fixed.false-raw) (sym c.are_rows_like.ensures ∙ h)

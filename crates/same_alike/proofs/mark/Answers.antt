@@ -7,9 +7,6 @@ use Rattle.same_alike.proofs.mark.Goals.{then-lucky-dead, else-lucky-dead}
 pub bounds-dead-d : goal.bounds-dead-d
 bounds-dead-d c = omega (arith, c.requires.prefix.0.few, c.requires.prefix.2)
 
-pub overflow_add-e : goal.overflow_add-e
-overflow_add-e c = omega (arith, c.requires.prefix.0.few, c.requires.prefix.2)
-
 pub loop-e-init : goal.loop-e-init
 loop-e-init c = marked c.args.d 1 c.requires.hopeless c.requires.d_value
 
@@ -30,12 +27,6 @@ bounds-k2-d c = omega (arith, c.requires.prefix.0.few, c.requires.prefix.2)
 
 pub mark_like-right-requires : goal.mark_like-right-requires
 mark_like-right-requires c = record { prefix = (c.requires.prefix.0, c.requires.prefix.1, c.requires.prefix.2, c.loop-e-test.true, c.requires.prefix.3, c.requires.prefix.4); hopeless = c.loop-e.invariant }
-
-pub overflow_add-e-in-loop-e : goal.overflow_add-e-in-loop-e
-overflow_add-e-in-loop-e c = omega (arith, c.requires.prefix.0.few, c.loop-e-test.true)
-
-pub loop-e-smaller : goal.loop-e-smaller
-loop-e-smaller c = omega (arith, c.loop-e-test.true)
 
 pub loop-e-preserved : goal.loop-e-preserved
 loop-e-preserved c = elim c.if-lucky-dead.branch [ then-lucky-dead w ↦ same-marks w.mark_like-right.ensures w.dead-is | else-lucky-dead w ↦ same-marks c.loop-e.invariant w.dead-is ]

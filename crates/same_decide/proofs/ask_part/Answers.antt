@@ -5,4 +5,4 @@ use Rattle.same_decide.specs.Decide.{Nowhere}
 use Rattle.same_decide.proofs.ask_part.Goals as goal
 
 pub returns : goal.returns
-returns c = λ f l. subst (λ (p : List ℕ). Nowhere p c.args.allowed.now c.args.ok.now c.args.n) c.fill_part.ensures (c.seek.ensures f l)
+returns c = λ f l. subst (λ (p : List ℕ). Nowhere p c.args.target.allowed.now c.args.target.ok.now c.args.target.n) c.fill_part.ensures (c.seek.ensures f l)

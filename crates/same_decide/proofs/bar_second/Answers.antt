@@ -5,4 +5,4 @@ pub bar-requires : goal.bar-requires
 bar-requires c = record { valid = c.requires.valid_2; valid_2 = c.requires.valid; n_le_max_same = (c.requires.n_le_max_same.0, c.requires.n_le_max_same.2, c.requires.n_le_max_same.1) }
 
 pub returns : goal.returns
-returns c = λ le. apart-turned c.args.ok.now _ c.requires.n_le_max_same.0 c.turn_over.ensures (c.bar.ensures le)
+returns c = λ to e. let w = c.bar.ensures to e in (w.0, apart-turned c.args.pair.ok.now _ c.requires.n_le_max_same.0 c.turn_over.ensures w.1)

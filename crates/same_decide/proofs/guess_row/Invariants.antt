@@ -2,7 +2,4 @@ use Prim.Native.Nat.{◌-◌, ◌≤◌}
 use Rattle.same_decide.proofs.guess_row.Given as goal
 
 abbrev pub invariant-loop-k : goal.invariant-loop-k
-invariant-loop-k l = l.k ≤ l.m
-
-abbrev pub decreases-loop-k : goal.decreases-loop-k
-decreases-loop-k l = l.m - l.k
+invariant-loop-k l = l.k ≤ l.fn.part.m

@@ -7,18 +7,6 @@ use Rattle.same_decide.proofs.skip.Goals as goal
 pub build-requires : goal.build-requires
 build-requires c = record { valid = c.requires.valid; room = record { atoms = omega (arith, c.requires.n_le_max_same); firsts = omega (arith, c.requires.valid.bonds_few); seconds = omega (arith, c.requires.valid.bonds_few); elided = omega (arith, c.requires.valid.bonds_few); summed = omega (arith, c.requires.n_le_max_same) }; sums_value = refl }
 
-pub slice_bounds-skip-end : goal.slice_bounds-skip-end
-slice_bounds-skip-end c = sym (length-first c.build.ensures)
-
-pub slice_bounds-skip-end-2 : goal.slice_bounds-skip-end-2
-slice_bounds-skip-end-2 c = sym (length-second c.build.ensures)
-
-pub slice_bounds-skip-end-3 : goal.slice_bounds-skip-end-3
-slice_bounds-skip-end-3 c = sym (length-elided c.build.ensures)
-
-pub slice_bounds-skip-end-4 : goal.slice_bounds-skip-end-4
-slice_bounds-skip-end-4 c = sym (length-flags c.build.ensures)
-
 pub skip-requires : goal.skip-requires
 skip-requires c = record { shape = built-shape c.build.ensures c.requires.valid c.args.row.now c.requires.n_le_max_same.1; to_in_bounds = (omega (arith, length-first c.build.ensures, c.requires.n_le_max_same.2), skip-good c.build.ensures c.args.row.now c.requires.row_value) }
 

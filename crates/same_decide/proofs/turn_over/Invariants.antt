@@ -5,6 +5,3 @@ use Rattle.same_decide.proofs.turn_over.Given as goal
 
 abbrev pub invariant-loop-i : goal.invariant-loop-i
 invariant-loop-i l = Edited (fills (turned_cell l.ok)) l.initial.turned 4096 l.i l.turned
-
-abbrev pub decreases-loop-i : goal.decreases-loop-i
-decreases-loop-i l = 4096 - l.i

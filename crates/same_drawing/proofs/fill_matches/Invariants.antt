@@ -5,6 +5,3 @@ use Rattle.same_drawing.proofs.fill_matches.Given as goal
 
 abbrev pub invariant-loop-i : goal.invariant-loop-i
 invariant-loop-i l = Edited (fills (match_cell l.atoms1 l.keys1 l.atoms2 l.keys2)) l.initial.ok l.end l.i l.ok
-
-abbrev pub decreases-loop-i : goal.decreases-loop-i
-decreases-loop-i l = l.end - l.i

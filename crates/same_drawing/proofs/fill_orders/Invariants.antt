@@ -4,6 +4,3 @@ use Rattle.same_drawing.proofs.fill_orders.Given as goal
 
 abbrev pub invariant-loop-k : goal.invariant-loop-k
 invariant-loop-k l = Drawing l.bonds l.row l.initial.o l.m l.k l.o
-
-abbrev pub decreases-loop-k : goal.decreases-loop-k
-decreases-loop-k l = l.m - l.k

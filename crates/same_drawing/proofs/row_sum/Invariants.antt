@@ -6,6 +6,3 @@ use Rattle.same_drawing.proofs.row_sum.Given as goal
 
 abbrev pub invariant-loop-k : goal.invariant-loop-k
 invariant-loop-k l = Ran (add_weight l.bonds l.keys l.row) 0 l.m l.k l.sum × (l.sum ≤ 3 * prime * l.k)
-
-abbrev pub decreases-loop-k : goal.decreases-loop-k
-decreases-loop-k l = l.m - l.k

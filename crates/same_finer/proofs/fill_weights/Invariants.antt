@@ -5,6 +5,3 @@ use Rattle.same_finer.proofs.fill_weights.Given as goal
 
 abbrev pub invariant-loop-i : goal.invariant-loop-i
 invariant-loop-i l = Edited (fills (weight_cell l.o)) l.initial.w l.end l.i l.w
-
-abbrev pub decreases-loop-i : goal.decreases-loop-i
-decreases-loop-i l = l.end - l.i

@@ -6,6 +6,3 @@ use Rattle.same_finer.proofs.fill_weighty.Given as goal
 
 abbrev pub invariant-loop-a : goal.invariant-loop-a
 invariant-loop-a l = Filled (Near l.w l.n) l.n l.a l.near × (l.n ≤ length l.near)
-
-abbrev pub decreases-loop-a : goal.decreases-loop-a
-decreases-loop-a l = l.n - l.a

@@ -11,9 +11,6 @@ loop-i-init c = left-start
 pub overflow_mul-i : goal.overflow_mul-i
 overflow_mul-i c = omega (arith, c.loop-i-test.true, column-low c.loop-i.i, row_low c.loop-i.i c.args.n c.requires c.loop-i-test.true)
 
-pub overflow_add-i : goal.overflow_add-i
-overflow_add-i c = omega (arith, c.loop-i-test.true, column-low c.loop-i.i, row_low c.loop-i.i c.args.n c.requires c.loop-i-test.true)
-
 pub offset_bounds-w-i-in-loop-i : goal.offset_bounds-w-i-in-loop-i
 offset_bounds-w-i-in-loop-i c = omega (arith, c.loop-i-test.true, column-low c.loop-i.i, row_low c.loop-i.i c.args.n c.requires c.loop-i-test.true)
 

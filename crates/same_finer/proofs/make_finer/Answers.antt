@@ -13,8 +13,8 @@ pub round-requires : goal.round-requires
 round-requires c = (c.requires.0, c.loop-i.invariant.1, c.loop-i.invariant.1, c.requires.2)
 
 pub loop-i-preserved : goal.loop-i-preserved
-loop-i-preserved c = let e = as-rounded c.args.w.now c.args.n c.loop-i.keys c.round.ensures in
-    (ran-step c.loop-i.invariant.0 _ c.loop-i-test.true e, omega (arith, ap length e, rounded-long c.args.w.now c.args.n c.loop-i.keys))
+loop-i-preserved c = let e = as-rounded c.args.weights.w.now c.args.n c.loop-i.keys c.round.ensures in
+    (ran-step c.loop-i.invariant.0 _ c.loop-i-test.true e, omega (arith, ap length e, rounded-long c.args.weights.w.now c.args.n c.loop-i.keys))
 
 pub returns : goal.returns
 unfolding finer

@@ -5,7 +5,4 @@ use Rattle.same_finer.specs.Finer.{rounded_again}
 use Rattle.same_finer.proofs.make_finer.Given as goal
 
 abbrev pub invariant-loop-i : goal.invariant-loop-i
-invariant-loop-i l = Ran (rounded_again l.w l.n) l.initial.keys l.r l.i l.keys × (l.n ≤ length l.keys)
-
-abbrev pub decreases-loop-i : goal.decreases-loop-i
-decreases-loop-i l = l.r - l.i
+invariant-loop-i l = Ran (rounded_again l.weights.w.now l.n) l.initial.keys l.r l.i l.keys × (l.n ≤ length l.keys)

@@ -16,7 +16,7 @@ pub next_key-requires : goal.next_key-requires
 next_key-requires c = (c.requires.0, omega (arith, c.requires.0, c.loop-a-test.true), c.requires.3 c.loop-a.a c.loop-a-test.true)
 
 pub loop-a-preserved : goal.loop-a-preserved
-loop-a-preserved c = filled-step c.loop-a.invariant _ c.loop-a-test.true (as-next-key c.args.w.now c.args.old.now c.args.n c.loop-a.a _ c.mix_all.ensures refl c.next_key.ensures)
+loop-a-preserved c = filled-step c.loop-a.invariant _ c.loop-a-test.true (as-next-key c.args.weights.w.now c.args.old.now c.args.n c.loop-a.a _ c.mix_all.ensures refl c.next_key.ensures)
 
 pub returns : goal.returns
 returns c = filled-end c.loop-a.invariant c.requires.1 c.loop-a-test.false

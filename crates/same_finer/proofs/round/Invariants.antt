@@ -5,6 +5,3 @@ use Rattle.same_finer.proofs.round.Given as goal
 
 abbrev pub invariant-loop-a : goal.invariant-loop-a
 invariant-loop-a l = Edited (fills (next_key l.w l.n l.old)) l.initial.keys l.n l.a l.keys
-
-abbrev pub decreases-loop-a : goal.decreases-loop-a
-decreases-loop-a l = l.n - l.a

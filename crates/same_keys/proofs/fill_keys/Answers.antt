@@ -20,7 +20,7 @@ pub refine-requires : goal.refine-requires
 refine-requires c = let x = c.wire in
     let w = x.ensures in
     let v = c.requires.valid in
-    record { inside = inside v w.wired (omega (arith, v.bonds_few, x.auto.ea)) (omega (arith, v.bonds_few, x.auto.eb)); n_in_bounds = (omega (arith, c.requires.n_le_max_same.0), search rules); r_bound = (half-small c.args.n c.requires.n_le_max_same.0, zeros-low 64 prime, low-more (first-low v c.requires.n_le_max_same.0 w.wired _ w.sums_after c.fill_flags.ensures c.requires.n_le_max_same.1 c.fill_first.ensures) (omega arith)) }
+    record { inside = inside v w.wired (omega (arith, v.bonds_few, x.auto.ea)) (omega (arith, v.bonds_few, x.auto.eb)); n_in_bounds = (omega (arith, c.requires.n_le_max_same.0), search rules); r_bound = (half-small c.args.tables.n c.requires.n_le_max_same.0, zeros-low 64 prime, low-more (first-low v c.requires.n_le_max_same.0 w.wired _ w.sums_after c.fill_flags.ensures c.requires.n_le_max_same.1 c.fill_first.ensures) (omega arith)) }
 
 pub returns : goal.returns
 returns c = let w = c.wire.ensures in

@@ -1,10 +1,6 @@
-use Prim.Native.Nat.{◌-◌}
 use Rattle.loops.proofs.Loops.{Edited, fills}
 use Rattle.same_keys.specs.Keys.{mixed_at}
 use Rattle.same_keys.proofs.mix_all.Given as goal
 
 abbrev pub invariant-loop-i : goal.invariant-loop-i
 invariant-loop-i l = Edited (fills (mixed_at l.keys)) l.initial.mixed l.n l.i l.mixed
-
-abbrev pub decreases-loop-i : goal.decreases-loop-i
-decreases-loop-i l = l.n - l.i

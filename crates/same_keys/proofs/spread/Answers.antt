@@ -7,17 +7,17 @@ use Rattle.same_keys.proofs.spread.Goals as goal
 pub loop-k-init : goal.loop-k-init
 loop-k-init c = spreading-start c.requires.low.1
 
-pub bounds-ea-k : goal.bounds-ea-k
-bounds-ea-k c = omega (arith, c.requires.inside.0.firsts, c.loop-k-test.true)
+pub bounds-firsts-k : goal.bounds-firsts-k
+bounds-firsts-k c = omega (arith, c.requires.inside.0.firsts, c.loop-k-test.true)
 
-pub overflow_cast-ea : goal.overflow_cast-ea
-overflow_cast-ea c = omega (arith, c.requires.inside.0.first c.loop-k.k c.loop-k-test.true)
+pub overflow_cast-firsts : goal.overflow_cast-firsts
+overflow_cast-firsts c = omega (arith, c.requires.inside.0.first c.loop-k.k c.loop-k-test.true)
 
-pub bounds-eb-k : goal.bounds-eb-k
-bounds-eb-k c = omega (arith, c.requires.inside.0.seconds, c.loop-k-test.true)
+pub bounds-seconds-k : goal.bounds-seconds-k
+bounds-seconds-k c = omega (arith, c.requires.inside.0.seconds, c.loop-k-test.true)
 
-pub overflow_cast-eb : goal.overflow_cast-eb
-overflow_cast-eb c = omega (arith, c.requires.inside.0.second c.loop-k.k c.loop-k-test.true)
+pub overflow_cast-seconds : goal.overflow_cast-seconds
+overflow_cast-seconds c = omega (arith, c.requires.inside.0.second c.loop-k.k c.loop-k-test.true)
 
 pub join-requires : goal.join-requires
 join-requires c = let v = c.loop-k in

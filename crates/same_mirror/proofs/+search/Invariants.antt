@@ -6,7 +6,4 @@ abbrev pub decreases-search : goal.decreases-search
 decreases-search l = l.rest
 
 abbrev pub invariant-loop-d : goal.invariant-loop-d
-invariant-loop-d l = Passed l.p l.allowed l.cand l.n l.v l.budget l.dead l.left l.d
-
-abbrev pub decreases-loop-d : goal.decreases-loop-d
-decreases-loop-d l = l.n - l.d
+invariant-loop-d l = Passed l.quest.p.now l.quest.allowed.now l.cand l.quest.n l.v l.budget l.dead l.left l.d

@@ -4,6 +4,3 @@ use Rattle.same_mirror.proofs.has_same_faces.Given as goal
 
 abbrev pub invariant-loop-i : goal.invariant-loop-i
 invariant-loop-i l = All (Faced l.allowed l.n l.like) 384 l.i
-
-abbrev pub decreases-loop-i : goal.decreases-loop-i
-decreases-loop-i l = 384 - l.i

@@ -1,6 +1,9 @@
-use borrow.Author.Tests.{not-false}
+use mathlib.Core.Path.{sym, ◌∙◌}
+use borrow.Author.Tests.{not-false, ltb-true}
 use native.Mathlib.Omega.{arith}
 use Rattle.same_mirror.proofs.Checking.{all_start, all-step, all_end, refused, own-onto}
+use Rattle.loops.proofs.Loops.{each_at}
+use Rattle.same_open.specs.Open.{is_inside}
 use Rattle.same_mirror.proofs.is_onto.Goals as goal
 
 pub loop-d-init : goal.loop-d-init
@@ -19,4 +22,4 @@ pub are_inside-requires : goal.are_inside-requires
 are_inside-requires c = c.requires
 
 pub returns : goal.returns
-returns c = λ h. own-onto (all_end c.loop-d.invariant c.loop-d-test.false) (c.are_inside.ensures h)
+returns c = λ h. own-onto (all_end c.loop-d.invariant c.loop-d-test.false) (λ e i. ltb-true _ _ (each_at (is_inside c.args.like.now c.args.n) c.args.n e (sym c.are_inside.ensures ∙ h) i))

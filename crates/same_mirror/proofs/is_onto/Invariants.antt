@@ -4,6 +4,3 @@ use Rattle.same_mirror.proofs.is_onto.Given as goal
 
 abbrev pub invariant-loop-d : goal.invariant-loop-d
 invariant-loop-d l = All (Own l.like) l.n l.d
-
-abbrev pub decreases-loop-d : goal.decreases-loop-d
-decreases-loop-d l = l.n - l.d

@@ -6,6 +6,3 @@ use Rattle.same_mirror.proofs.is_own.Given as goal
 
 abbrev pub invariant-loop-e : goal.invariant-loop-e
 invariant-loop-e l = All (λ x. image l.like x ≡ image l.like l.d → ⊥) l.d l.e
-
-abbrev pub decreases-loop-e : goal.decreases-loop-e
-decreases-loop-e l = l.d - l.e

@@ -4,6 +4,3 @@ use Rattle.same_mirror.proofs.spread.Given as goal
 
 abbrev pub invariant-loop-x : goal.invariant-loop-x
 invariant-loop-x l = Spreading l.n l.like l.initial.dead l.dead l.x
-
-abbrev pub decreases-loop-x : goal.decreases-loop-x
-decreases-loop-x l = l.n - l.x

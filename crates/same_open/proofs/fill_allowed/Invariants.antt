@@ -4,6 +4,3 @@ use Rattle.same_open.proofs.fill_allowed.Given as goal
 
 abbrev pub invariant-loop-i : goal.invariant-loop-i
 invariant-loop-i l = Filled (Right l.p l.n) 384 l.i l.allowed
-
-abbrev pub decreases-loop-i : goal.decreases-loop-i
-decreases-loop-i l = 384 - l.i

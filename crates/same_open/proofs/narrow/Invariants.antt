@@ -4,6 +4,3 @@ use Rattle.same_open.proofs.narrow.Given as goal
 
 abbrev pub invariant-loop-b : goal.invariant-loop-b
 invariant-loop-b l = Narrowed l.p l.allowed l.cand l.n l.v l.d l.next l.live l.b
-
-abbrev pub decreases-loop-b : goal.decreases-loop-b
-decreases-loop-b l = l.n - l.b

@@ -8,18 +8,6 @@ use Rattle.same_part.proofs.fill_open.Goals as goal
 pub build-requires : goal.build-requires
 build-requires c = record { valid = c.requires.valid; room = record { atoms = omega (arith, c.requires.n_le_max_same); firsts = omega (arith, c.requires.valid.bonds_few); seconds = omega (arith, c.requires.valid.bonds_few); elided = omega (arith, c.requires.valid.bonds_few); summed = omega (arith, c.requires.n_le_max_same) }; sums_value = refl }
 
-pub slice_bounds-mark_open-end : goal.slice_bounds-mark_open-end
-slice_bounds-mark_open-end c = sym (length-first c.build.ensures)
-
-pub slice_bounds-mark_open-end-2 : goal.slice_bounds-mark_open-end-2
-slice_bounds-mark_open-end-2 c = sym (length-second c.build.ensures)
-
-pub slice_bounds-mark_open-end-3 : goal.slice_bounds-mark_open-end-3
-slice_bounds-mark_open-end-3 c = sym (length-elided c.build.ensures)
-
-pub slice_bounds-mark_open-end-4 : goal.slice_bounds-mark_open-end-4
-slice_bounds-mark_open-end-4 c = sym (length-flags c.build.ensures)
-
 pub mark_open-requires : goal.mark_open-requires
 mark_open-requires c = built-shape c.build.ensures c.requires.valid (replicate 1100 0) (omega (arith, c.requires.valid.bonds_few))
 

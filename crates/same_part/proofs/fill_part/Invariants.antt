@@ -3,7 +3,4 @@ use Rattle.same_part.proofs.Step.{Filling}
 use Rattle.same_part.proofs.fill_part.Given as goal
 
 abbrev pub invariant-loop-k : goal.invariant-loop-k
-invariant-loop-k l = Filling l.bonds l.opened l.row l.to l.initial.p l.m l.k l.p
-
-abbrev pub decreases-loop-k : goal.decreases-loop-k
-decreases-loop-k l = l.m - l.k
+invariant-loop-k l = Filling l.fn.part.bonds.now l.fn.part.opened.now l.fn.part.row.now l.to l.initial.p l.fn.part.m l.k l.p

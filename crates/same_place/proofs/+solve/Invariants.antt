@@ -7,6 +7,3 @@ decreases-solve l = l.n - l.from
 
 abbrev pub invariant-loop-d : goal.invariant-loop-d
 invariant-loop-d l = Trying l.o1 l.o2 l.ok l.n l.from l.initial.ren l.ren l.d
-
-abbrev pub decreases-loop-d : goal.decreases-loop-d
-decreases-loop-d l = l.n - l.d

@@ -5,6 +5,3 @@ use Rattle.same_place.proofs.placeable.Given as goal
 
 abbrev pub invariant-loop-b : goal.invariant-loop-b
 invariant-loop-b l = Left (beside l.o1 l.o2 l.ren l.a l.d) l.a l.b
-
-abbrev pub decreases-loop-b : goal.decreases-loop-b
-decreases-loop-b l = l.a - l.b

@@ -3,10 +3,7 @@ use Rattle.same_search.proofs.Laws.{Searching}
 use Rattle.same_search.proofs.+search.Given as goal
 
 abbrev pub decreases-search : goal.decreases-search
-decreases-search l = l.n - l.from
+decreases-search l = l.sides.n - l.from
 
 abbrev pub invariant-loop-d : goal.invariant-loop-d
-invariant-loop-d l = Searching l.o1 l.o2 l.ok l.n l.from l.initial.ren l.ren l.dead l.d
-
-abbrev pub decreases-loop-d : goal.decreases-loop-d
-decreases-loop-d l = l.n - l.d
+invariant-loop-d l = Searching l.sides.o1.now l.sides.o2.now l.sides.ok.now l.sides.n l.from l.initial.ren l.ren l.dead l.d

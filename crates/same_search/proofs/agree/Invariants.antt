@@ -5,6 +5,3 @@ use Rattle.same_search.proofs.agree.Given as goal
 
 abbrev pub invariant-loop-i : goal.invariant-loop-i
 invariant-loop-i l = Left (agreeing l.ok l.k1 l.k2) l.end l.i
-
-abbrev pub decreases-loop-i : goal.decreases-loop-i
-decreases-loop-i l = l.end - l.i

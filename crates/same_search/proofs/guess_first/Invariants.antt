@@ -5,6 +5,3 @@ use Rattle.same_search.proofs.guess_first.Given as goal
 
 abbrev pub invariant-loop-a : goal.invariant-loop-a
 invariant-loop-a l = (l.a ≤ l.n) × (length l.k1 ≡ length l.initial.k1)
-
-abbrev pub decreases-loop-a : goal.decreases-loop-a
-decreases-loop-a l = l.n - l.a

@@ -20,9 +20,9 @@ search-requires c = let l = length-replicate {A = ℕ} 64 0 in
     let f = fair _ _ _ c.if-not-fair1-fair2.false-raw in record {
       prefix = c.requires;
       level = level-start c.args.ren.now 4
-          (weighed c.args.o1.now _ c.args.n _ c.requires.few c.fill_weights.ensures (sym c.is_mirrored-fair1.ensures ∙ f.0))
-          (weighed c.args.o2.now _ c.args.n _ c.requires.few c.fill_weights-2.ensures (sym c.is_mirrored-fair2.ensures ∙ f.1))
-          (keeps-start c.args.o1.now c.args.o2.now c.args.ok.now c.args.n c.args.ren.now _ _ c.requires.few (omega (arith, c.requires.few, c.guess_first.ensures)) (omega (arith, c.requires.few, c.guess_second.ensures)) (sym c.agree-fair.ensures ∙ f.2))
+          (weighed c.args.sides.o1.now _ c.args.sides.n _ c.requires.few c.fill_weights.ensures (sym c.is_mirrored-fair1.ensures ∙ f.0))
+          (weighed c.args.sides.o2.now _ c.args.sides.n _ c.requires.few c.fill_weights-2.ensures (sym c.is_mirrored-fair2.ensures ∙ f.1))
+          (keeps-start c.args.sides.o1.now c.args.sides.o2.now c.args.sides.ok.now c.args.sides.n c.args.ren.now _ _ c.requires.few (omega (arith, c.requires.few, c.guess_first.ensures)) (omega (arith, c.requires.few, c.guess_second.ensures)) (sym c.agree-fair.ensures ∙ f.2))
           c.make_finer.ensures c.make_finer-2.ensures;
       nears = (c.fill_weighty.ensures, c.fill_weighty-2.ensures);
     }

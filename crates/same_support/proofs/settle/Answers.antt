@@ -48,12 +48,6 @@ spread-requires c = (c.requires, c.loop-w-test.true)
 pub returns-then-not-spread : goal.returns-then-not-spread
 returns-then-not-spread c = record { by_index = (follows_on c.loop-w.invariant c.spread.ensures.by_index).among; fact = λ f t a. c.spread.ensures.fact c.if-not-spread.true t (c.loop-w.invariant.among t a) }
 
-pub overflow_add-w : goal.overflow_add-w
-overflow_add-w c = omega (arith, c.loop-w-test.true, c.requires)
-
-pub loop-w-smaller : goal.loop-w-smaller
-loop-w-smaller c = omega (arith, c.loop-w-test.true)
-
 pub loop-w-preserved : goal.loop-w-preserved
 loop-w-preserved c = elim c.if-fresh.branch [ then-fresh+then-next-w+else-not-spread w ↦ follows_same (follows_on c.loop-w.invariant w.spread.ensures.by_index) w.next-is | else-fresh w ↦ follows_same c.loop-w.invariant w.next-is ]
 

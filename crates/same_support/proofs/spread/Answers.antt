@@ -10,11 +10,11 @@ use Rattle.same_support.proofs.spread.Goals.{then-b-w+else-not-keep, then-other-
 pub loop-i-init : goal.loop-i-init
 loop-i-init c = spreads-start
 
-pub overflow_mul-w : goal.overflow_mul-w
-overflow_mul-w c = omega (arith, c.loop-i-test.true, c.requires.0, c.requires.1)
+pub overflow_mul-b : goal.overflow_mul-b
+overflow_mul-b c = omega (arith, c.loop-i-test.true, c.requires.0, c.requires.1)
 
-pub overflow_add-w : goal.overflow_add-w
-overflow_add-w c = omega (arith, c.loop-i-test.true, c.requires.0, c.requires.1)
+pub overflow_add-b : goal.overflow_add-b
+overflow_add-b c = omega (arith, c.loop-i-test.true, c.requires.0, c.requires.1)
 
 pub bounds-near-w : goal.bounds-near-w
 bounds-near-w c = omega (arith, c.loop-i-test.true, c.requires.0, c.requires.1)
@@ -22,11 +22,11 @@ bounds-near-w c = omega (arith, c.loop-i-test.true, c.requires.0, c.requires.1)
 pub returns-then-n-b : goal.returns-then-n-b
 returns-then-n-b c = record { by_index = c.loop-i.invariant.follows.among; fact = λ f. found-not {r = true} refl f }
 
-pub overflow_mul-w-then-b-w : goal.overflow_mul-w-then-b-w
-overflow_mul-w-then-b-w c = omega (arith, c.if-n-b.false, c.requires.0, c.requires.1)
+pub overflow_mul-w : goal.overflow_mul-w
+overflow_mul-w c = omega (arith, c.if-n-b.false, c.requires.0, c.requires.1)
 
-pub overflow_add-w-then-b-w : goal.overflow_add-w-then-b-w
-overflow_add-w-then-b-w c = omega (arith, c.if-n-b.false, c.requires.0, c.requires.1)
+pub overflow_add-w : goal.overflow_add-w
+overflow_add-w c = omega (arith, c.if-n-b.false, c.requires.0, c.requires.1)
 
 pub offset_bounds-p-w : goal.offset_bounds-p-w
 offset_bounds-p-w c = omega (arith, c.if-n-b.false, c.requires.0, c.requires.1)
@@ -50,12 +50,6 @@ pub returns-then-not-keep : goal.returns-then-not-keep
 returns-then-not-keep c =
     let f = c.if-n-b.false in
     elim c.if-other-c.branch [ then-other-c x ↦ (let g = spreads-new c.loop-i.invariant c.class-other.ensures x.c-is x.side-is x.stand_beside-side.ensures in record { by_index = (spreads-step g c.requires.1 f c.if-b-w.true c.keep.ensures).follows.among; fact = λ z. spreads-none g c.requires.1 f c.if-b-w.true c.keep.ensures c.if-not-keep.true }) | else-other-c x ↦ (let g = spreads-old c.loop-i.invariant c.class-other.ensures x.if-other-c.false x.c-is x.side-is in record { by_index = (spreads-step g c.requires.1 f c.if-b-w.true c.keep.ensures).follows.among; fact = λ z. spreads-none g c.requires.1 f c.if-b-w.true c.keep.ensures c.if-not-keep.true }) ]
-
-pub overflow_add-i : goal.overflow_add-i
-overflow_add-i c = omega (arith, c.loop-i-test.true, c.requires.0)
-
-pub loop-i-smaller : goal.loop-i-smaller
-loop-i-smaller c = omega (arith, c.loop-i-test.true)
 
 pub loop-i-preserved : goal.loop-i-preserved
 loop-i-preserved c =

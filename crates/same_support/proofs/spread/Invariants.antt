@@ -4,6 +4,3 @@ use Rattle.same_support.proofs.spread.Given as goal
 
 abbrev pub invariant-loop-i : goal.invariant-loop-i
 invariant-loop-i l = Spreads l.p l.allowed l.n l.w l.initial.next l.next l.c l.side
-
-abbrev pub decreases-loop-i : goal.decreases-loop-i
-decreases-loop-i l = l.n - l.i

@@ -3,4 +3,4 @@ use Rattle.standard.proofs.refuse.Goals as goal
 
 pub returns : goal.returns
 returns c = let a = c.args in
-    refuses a.r a.p a.out.now _ c.clear_from.ensures
+    refuses a.refusal a.at a.out.now _ c.clear_from.ensures

@@ -2,6 +2,8 @@ use native.Mathlib.Omega.{arith}
 use native.Mathlib.Nat.{add-zero}
 use native.Mathlib.Numerals.{towards_suc}
 use lib.ListN.{length-set}
+use mir.Val.{SFits}
+use mir.Syntax.{w32}
 use mir.Facts.{to_z-of_z}
 use Rattle.table.specs.Rows.{with_atom}
 use Rattle.table_edits.proofs.lay_atom.Goals as goal
@@ -29,5 +31,13 @@ shape_of-t c = simp length-set
 
 pub returns : goal.returns
 unfolding with_atom
-returns c = let f = c.ranges in
-    simp (to_z-of_z f.element, to_z-of_z f.selected, to_z-of_z f.isotope, to_z-of_z f.hydrogens, to_z-of_z f.charge, to_z-of_z f.extension, to_z-of_z f.mark, add-zero, towards_suc)
+returns c = let x = c.args.x in
+    let w = c.struct_told-7-1.given in
+    let e1 : SFits w32 x.element = record { sfits = w.0.1 } in
+    let e2 : SFits w32 x.selected = record { sfits = w.1.0.1 } in
+    let e3 : SFits w32 x.isotope = record { sfits = w.1.1.0.1 } in
+    let e4 : SFits w32 x.hydrogens = record { sfits = w.1.1.1.0.1 } in
+    let e5 : SFits w32 x.charge = record { sfits = w.1.1.1.1.0.1 } in
+    let e6 : SFits w32 x.extension = record { sfits = w.1.1.1.1.1.0.1 } in
+    let e7 : SFits w32 x.mark = record { sfits = w.1.1.1.1.1.1.0.1 } in
+    simp (to_z-of_z e1, to_z-of_z e2, to_z-of_z e3, to_z-of_z e4, to_z-of_z e5, to_z-of_z e6, to_z-of_z e7, add-zero, towards_suc)

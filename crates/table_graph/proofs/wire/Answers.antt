@@ -6,6 +6,7 @@ use Rattle.loops.proofs.Loops.{edited-start, filled-step, filled-end, filled-par
 use Rattle.table.specs.Cells.{end1, end2}
 use Rattle.table_graph.specs.Graph.{elided_flag}
 use Rattle.kinds.proofs.Kind.{order_small}
+use Rattle.table_graph.proofs.Graph.{byte_flag}
 use Rattle.table_graph.proofs.Sums.{row-cells, sums_none, sums-bound, sums-length, second-bound, sums-step, two_ends}
 use Rattle.table_graph.proofs.wire.Goals as goal
 
@@ -126,7 +127,7 @@ loop-i-preserved c = let a = c.loop-i in
     let ne : e.result ≡ f.result → ⊥ = λ q. omega (arith, pe, pf, w.order a.i l) in (
       filled-step v.0 _ l pe,
       filled-step v.1 _ l pf,
-      filled-step v.2 _ l (c.flag.ensures ∙ simp pk),
+      filled-step v.2 _ l (c.from.ensures ∙ byte_flag _ ∙ simp pk),
       sums-step bs a.i _ v.3 (two_ends bs a.i _ pe pf pk o.ensures ne refl refl),
     )
 

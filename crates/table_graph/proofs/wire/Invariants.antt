@@ -1,4 +1,3 @@
-use Prim.Native.Nat.{◌-◌}
 use mathlib.Core.Path.{◌≡◌}
 use lib.ListN.{length}
 use Rattle.loops.proofs.Loops.{Edited, fills}
@@ -9,6 +8,3 @@ use Rattle.table_graph.proofs.wire.Given as goal
 
 abbrev pub invariant-loop-i : goal.invariant-loop-i
 invariant-loop-i l = Edited (fills (end1 l.bonds)) l.initial.ea l.m l.i l.ea × Edited (fills (end2 l.bonds)) l.initial.eb l.m l.i l.eb × Edited (fills (elided_flag l.bonds)) l.initial.el l.m l.i l.el × (l.sums ≡ sums_to l.bonds l.i (length l.initial.sums))
-
-abbrev pub decreases-loop-i : goal.decreases-loop-i
-decreases-loop-i l = l.m - l.i

@@ -1,4 +1,3 @@
-use Prim.Native.Nat.{◌-◌}
 use lib.Dec.{eqb}
 use Rattle.loops.proofs.Counting.{Counted}
 use Rattle.kinds.specs.Kind.{up, down}
@@ -7,6 +6,3 @@ use Rattle.table_marks.proofs.crowded.Given as goal
 
 abbrev pub invariant-loop-i : goal.invariant-loop-i
 invariant-loop-i l = Counted (λ b. eqb (side l.bonds l.a.0 b) up) l.m l.i l.above × Counted (λ b. eqb (side l.bonds l.a.0 b) down) l.m l.i l.below
-
-abbrev pub decreases-loop-i : goal.decreases-loop-i
-decreases-loop-i l = l.m - l.i

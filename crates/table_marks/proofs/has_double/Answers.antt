@@ -1,20 +1,9 @@
-use mathlib.Core.Path.{sym, ap, ◌∙◌}
-use mathlib.Core.Bool.{not}
-use Rattle.loops.proofs.Loops.{left-start, left-pass, left-fail, left_end}
-use Rattle.loops.proofs.Counting.{none-many}
-use Rattle.table.specs.Marks.{double_count}
+use Prim.Native.Nat.{ℕ}
+use Rattle.std.proofs.Common.{rules}
+use Rattle.table.specs.Marks.{double_at, double_count}
+use Rattle.table.proofs.Ranges.{any_in_range}
 use Rattle.table_marks.proofs.has_double.Goals as goal
-
-pub loop-i-init : goal.loop-i-init
-loop-i-init c = left-start
-
-pub returns-then-is_double_at : goal.returns-then-is_double_at
-unfolding double_count
-returns-then-is_double_at c = sym (ap not (sym (none-many _ _) ∙ left-fail c.loop-i.invariant c.loop-i-test.true (simp (sym c.is_double_at.ensures ∙ c.if-is_double_at.true))))
-
-pub loop-i-preserved : goal.loop-i-preserved
-loop-i-preserved c = left-pass c.loop-i.invariant c.loop-i-test.true (simp (sym c.is_double_at.ensures ∙ c.if-is_double_at.false))
 
 pub returns : goal.returns
 unfolding double_count
-returns c = sym (ap not (sym (none-many _ _) ∙ left_end c.loop-i.invariant c.loop-i-test.false))
+returns c = any_in_range (λ (b : ℕ). double_at c.args.bonds.now c.args.a.0 b) c.args.m c.any.ensures.ran (λ x b q k. search rules)

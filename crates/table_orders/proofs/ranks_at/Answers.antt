@@ -1,10 +1,11 @@
 use native.Mathlib.Omega.{arith}
-use Rattle.table_orders.proofs.Laws.{filling-start, filling-more, filling-pass, filling-take, filling-end}
+use mathlib.Core.Path.{◌∙◌}
+use Rattle.table_orders.proofs.Laws.{byte_one, filling-start, filling-more, filling-pass, filling-take, filling-end}
 use Rattle.table_orders.proofs.ranks_at.Goals as goal
 use Rattle.table_orders.proofs.ranks_at.Goals.{then-touches, else-touches}
 
 pub loop-k-init : goal.loop-k-init
-loop-k-init c = filling-start c.args.h c.one_if-k.ensures c.requires.a_len
+loop-k-init c = filling-start c.args.h (c.from-k.ensures ∙ byte_one _) c.requires.a_len
 
 pub touches-requires : goal.touches-requires
 touches-requires c = omega (arith, filling-more c.loop-k.invariant c.loop-k-test.true)

@@ -27,9 +27,6 @@ overflow_cast-k c = let v = turning-valid c.loop-i.invariant c.requires.valid in
 pub put_atom_cell-requires : goal.put_atom_cell-requires
 put_atom_cell-requires c = (omega (arith, c.requires.valid.atoms_few), omega arith)
 
-pub overflow_add-i : goal.overflow_add-i
-overflow_add-i c = omega (arith, c.requires.valid.atoms_few)
-
 pub loop-i-preserved : goal.loop-i-preserved
 loop-i-preserved c = let w = c.loop-i.invariant in
     let l = c.loop-i-test.true in

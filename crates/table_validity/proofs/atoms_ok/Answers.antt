@@ -1,16 +1,7 @@
-use mathlib.Core.Path.{sym, ◌∙◌}
-use borrow.Author.Tests.{not-true, not-false}
-use Rattle.loops.proofs.Loops.{left-start, left-pass, left-fail, left_end}
+use Rattle.std.proofs.Common.{rules}
+use Rattle.table.specs.Valid.{atom_ok}
+use Rattle.table.proofs.Ranges.{all_in_range}
 use Rattle.table_validity.proofs.atoms_ok.Goals as goal
 
-pub loop-i-init : goal.loop-i-init
-loop-i-init c = left-start
-
-pub returns-then-not-atom_ok : goal.returns-then-not-atom_ok
-returns-then-not-atom_ok c = sym (left-fail c.loop-i.invariant c.loop-i-test.true (sym c.atom_ok.ensures ∙ not-true _ c.if-not-atom_ok.true-raw))
-
-pub loop-i-preserved : goal.loop-i-preserved
-loop-i-preserved c = left-pass c.loop-i.invariant c.loop-i-test.true (sym c.atom_ok.ensures ∙ not-false _ c.if-not-atom_ok.false-raw)
-
 pub returns : goal.returns
-returns c = sym (left_end c.loop-i.invariant c.loop-i-test.false)
+returns c = all_in_range (atom_ok c.args.t.now) c.args.n c.all.ensures.ran (λ x b q k. search rules)

@@ -1,18 +1,13 @@
 use mathlib.Core.Path.{◌∙◌}
-use mir.Val.{SFits}
-use mir.Syntax.{w32}
-use mir.Facts.{to_z-of_z}
-use borrow.Author.Rules.{sfits_of}
-use Rattle.table.specs.Limits.{FIRST, SECOND, KIND}
-use Rattle.table.specs.Cells.{bond_cell}
+use borrow.Author.Tests.{lt-ltb}
+use Rattle.table.specs.Limits.{max_bonds}
+use Rattle.table.specs.Rows.{bond_at}
 use Rattle.table.specs.Valid.{bond_ok, bond_row_ok}
 use Rattle.table_validity.proofs.bond_ok.Goals as goal
 
+pub bond_row_ok-requires : goal.bond_row_ok-requires
+bond_row_ok-requires c = c.get_bond.ensures.bond_fits
+
 pub returns : goal.returns
-unfolding bond_ok bond_row_ok
-returns c = let a = c.args in
-    let t = a.t.now in
-    let e1 : SFits w32 (bond_cell t a.b.0 FIRST) = sfits_of c.bond_row_ok-arg-1.given in
-    let e2 : SFits w32 (bond_cell t a.b.0 SECOND) = sfits_of c.bond_row_ok-arg-2-1.given in
-    let e3 : SFits w32 (bond_cell t a.b.0 KIND) = sfits_of c.bond_row_ok-arg-3-1.given in
-    c.bond_row_ok.ensures ∙ simp (to_z-of_z e1, to_z-of_z e2, to_z-of_z e3)
+unfolding bond_at bond_ok bond_row_ok
+returns c = c.bond_row_ok.ensures ∙ simp c.get_bond.ensures.value (simp (lt-ltb c.args.b.0 max_bonds c.requires))

@@ -4,5 +4,5 @@ use Rattle.table_validity.proofs.bond_row_ok.Goals as goal
 
 pub returns : goal.returns
 unfolding bond_row_ok
-returns c = let f = c.ranges in
+returns c = let f = c.requires in
     simp (c.within.ensures, c.number-f.ensures, c.number-e.ensures, to_z-of_z f.first, to_z-of_z f.second, to_z-of_z f.kind)

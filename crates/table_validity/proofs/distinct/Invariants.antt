@@ -1,4 +1,3 @@
-use Prim.Native.Nat.{◌-◌}
 use mathlib.Core.Path.{◌≡◌}
 use mathlib.Core.Bool.{true, not}
 use Rattle.loops.proofs.Loops.{Left}
@@ -8,11 +7,5 @@ use Rattle.table_validity.proofs.distinct.Given as goal
 abbrev pub invariant-loop-j : goal.invariant-loop-j
 invariant-loop-j l = (l.fine ≡ true) × Left (λ k. not (same_ends l.t l.i k)) l.i l.j
 
-abbrev pub decreases-loop-j : goal.decreases-loop-j
-decreases-loop-j l = l.i - l.j
-
 abbrev pub invariant-rows : goal.invariant-rows
 invariant-rows l = (l.fine ≡ true) × Left (fresh l.t) l.m l.i
-
-abbrev pub decreases-rows : goal.decreases-rows
-decreases-rows l = l.m - l.i

@@ -1,20 +1,20 @@
-use borrow.Author.Tests.{not-true, not-false}
-use mathlib.Core.Path.{sym, ◌∙◌}
-use Rattle.withdrawal.proofs.Answers.{short-answered, invalid-answered, unread-answered, asked-answered}
+use Rattle.std.proofs.Common.{sym, ◌∙◌}
+use Rattle.std.proofs.lemmas.Result.{err_from_is_err_and}
+use Rattle.withdrawal.proofs.Answers.{not-ready-answered, unread-answered, asked-answered}
 use Rattle.withdrawal.proofs.Verdicts.{text-complete}
 use Rattle.withdrawal.proofs.withdrawn.Goals as goal
 
-pub returns-then-held-lt-SIZE : goal.returns-then-held-lt-SIZE
-returns-then-held-lt-SIZE c = short-answered _ _ c.if-held-lt-SIZE.true
+pub returns-in_err-ready : goal.returns-in_err-ready
+returns-in_err-ready c = let p = err_from_is_err_and c.from_residual.result c.from_residual.ensures.1 in
+    rw (p.1, p.2) (not-ready-answered _ _ _ c.in_err-ready.ensures.value)
 
-pub returns-then-not-valid : goal.returns-then-not-valid
-returns-then-not-valid c = invalid-answered _ _ c.if-held-lt-SIZE.false (sym c.valid.ensures ∙ not-true _ c.if-not-valid.true-raw)
+pub returns-in_err-counts : goal.returns-in_err-counts
+returns-in_err-counts c = let h = c.in_ok-ready.ensures.ok in
+    let p = err_from_is_err_and c.from_residual-in_err-counts.result c.from_residual-in_err-counts.ensures.1 in
+    rw (p.1, p.2) (unread-answered _ _ h.full h.sound _ _ _ c.read.ensures c.in_err-counts.was)
 
 pub ask-requires : goal.ask-requires
-ask-requires c = record { size_in_bounds = (c.if-held-lt-SIZE.false, sym c.valid.ensures ∙ not-false _ c.if-not-valid.false-raw); complete = text-complete _ _ _ _ c.read-a.ensures c.in-Molecule.is }
+ask-requires c = let h = c.in_ok-ready.ensures.ok in record { size_in_bounds = (h.full, h.sound); complete = text-complete _ _ _ _ c.read.ensures c.in_ok-counts.was }
 
-pub returns-in-Refused : goal.returns-in-Refused
-returns-in-Refused c = unread-answered _ _ c.if-held-lt-SIZE.false (sym c.valid.ensures ∙ not-false _ c.if-not-valid.false-raw) _ _ _ c.read-a.ensures c.in-Refused.is c.code-c.ensures
-
-pub returns-in-Molecule : goal.returns-in-Molecule
-returns-in-Molecule c = asked-answered _ _ c.if-held-lt-SIZE.false (sym c.valid.ensures ∙ not-false _ c.if-not-valid.false-raw) _ _ _ c.read-a.ensures c.in-Molecule.is c.ask.ensures
+pub returns : goal.returns
+returns c = let h = c.in_ok-ready.ensures.ok in asked-answered _ _ h.full h.sound _ _ _ c.read.ensures c.in_ok-counts.was c.ask.ensures

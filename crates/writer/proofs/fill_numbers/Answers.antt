@@ -21,12 +21,6 @@ offset_bounds-ren-a c = omega (arith, c.loop-a-test.true, c.requires.n_in_bounds
 pub bounds-ren-a : goal.bounds-ren-a
 bounds-ren-a c = omega (arith, c.loop-a-test.true, c.requires.n_in_bounds.1, c.loop-a.invariant.room)
 
-pub overflow_add-a : goal.overflow_add-a
-overflow_add-a c = omega (arith, c.loop-a-test.true, c.ranges.n)
-
-pub loop-a-smaller : goal.loop-a-smaller
-loop-a-smaller c = omega (arith, c.loop-a-test.true)
-
 pub loop-a-preserved : goal.loop-a-preserved
 loop-a-preserved c = filled-step c.loop-a.invariant _ c.loop-a-test.true refl
 

@@ -5,6 +5,3 @@ use Rattle.writer.proofs.fill_numbers.Given as goal
 
 abbrev pub invariant-loop-a : goal.invariant-loop-a
 invariant-loop-a l = Edited (fills (λ i. get_or l.number i 0 - 1)) l.initial.ren l.n l.a l.ren
-
-abbrev pub decreases-loop-a : goal.decreases-loop-a
-decreases-loop-a l = l.n - l.a

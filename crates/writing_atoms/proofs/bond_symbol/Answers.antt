@@ -1,9 +1,11 @@
+use mathlib.Core.Path.{refl, sym, ◌∙◌}
+use Rattle.kinds.proofs.Kind.{none-given, some-given}
 use Rattle.buffer.proofs.Laws.{as_is, nothing}
 use Rattle.writing_atoms.proofs.Laws.{no_symbol, one_symbol}
 use Rattle.writing_atoms.proofs.bond_symbol.Goals as goal
 
-pub returns-then-b-eq0 : goal.returns-then-b-eq0
-returns-then-b-eq0 c = as_is (no_symbol _ _ c.symbol-b.ensures c.if-b-eq0.true) (nothing)
+pub returns-in-None : goal.returns-in-None
+returns-in-None c = as_is (no_symbol _ _ refl (none-given c.symbol.ensures c.in-None.is)) (nothing)
 
-pub returns : goal.returns
-returns c = as_is (one_symbol _ _ c.symbol-b.ensures c.if-b-eq0.false) c.put.ensures
+pub returns-in-Some : goal.returns-in-Some
+returns-in-Some c = let g = some-given c.symbol.ensures c.in-Some.is in as_is (one_symbol _ _ g.0 (λ e. g.1 (sym g.0 ∙ e))) c.put.ensures

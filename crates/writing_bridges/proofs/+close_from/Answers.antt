@@ -19,13 +19,13 @@ pub bounds-los-i : goal.bounds-los-i
 bounds-los-i t c = omega (arith, c.requires.k_in_bounds.0, c.if-k-i.false)
 
 pub overflow_cast-next : goal.overflow_cast-next
-overflow_cast-next t c = omega (arith, c.shared_slice_known-3-1.given c.nearest-bond.result.0)
+overflow_cast-next t c = omega (arith, c.shared_slice_known-1.given c.nearest-bond.result.0)
 
 pub overflow_add-next : goal.overflow_add-next
-overflow_add-next t c = omega (arith, c.shared_slice_known-3-1.given c.nearest-bond.result.0)
+overflow_add-next t c = omega (arith, c.shared_slice_known-1.given c.nearest-bond.result.0)
 
 pub close_from-requires : goal.close_from-requires
-close_from-requires t c = let i = c.nearest-bond in (omega (arith, (i.ensures.here c.if-k-i.false).1, c.shared_slice_known-3-1.given i.result.0, c.decreases), (c.requires.k_in_bounds, (c.requires.k_le_max_bonds.0, omega (arith, c.requires.k_le_max_bonds.1, c.close_bond-at.auto.slots))))
+close_from-requires t c = let i = c.nearest-bond in (omega (arith, (i.ensures.here c.if-k-i.false).1, c.shared_slice_known-1.given i.result.0, c.decreases), (c.requires.k_in_bounds, (c.requires.k_le_max_bonds.0, omega (arith, c.requires.k_le_max_bonds.1, c.close_bond-at.auto.slots))))
 
 pub shape_of-slots : goal.shape_of-slots
 shape_of-slots t c = c.close_from.auto.slots ∙ c.close_bond-at.auto.slots

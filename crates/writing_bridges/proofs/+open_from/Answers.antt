@@ -1,6 +1,5 @@
 use mathlib.Core.Path.{refl, ◌∙◌}
 use native.Mathlib.Omega.{arith}
-use borrow.Author.Tests.{not-true, not-false}
 use Rattle.writing_bridges.proofs.Laws.{open-end, open_full, open_next}
 use Rattle.writing_bridges.proofs.+open_from.Goals as goal
 
@@ -14,19 +13,10 @@ pub bounds-kinds-i : goal.bounds-kinds-i
 bounds-kinds-i t c = omega (arith, c.if-k-i.false, c.requires.k_in_bounds_2)
 
 pub overflow_cast-kinds : goal.overflow_cast-kinds
-overflow_cast-kinds t c = omega (arith, c.shared_slice_known-4-1.given c.nearest-bond.result.0)
+overflow_cast-kinds t c = omega (arith, c.shared_slice_known-1.given c.nearest-bond.result.0)
 
-pub open_bond-spot-requires : goal.open_bond-spot-requires
-open_bond-spot-requires t c = (c.requires.k_le_max_bonds.1, omega (arith, c.if-k-i.false, c.requires.k_le_max_bonds.0))
-
-pub shape_of-slots-then-not-few : goal.shape_of-slots-then-not-few
-shape_of-slots-then-not-few t c = c.open_bond-spot.auto.slots
-
-pub shape_of-out-then-not-few : goal.shape_of-out-then-not-few
-shape_of-out-then-not-few t c = c.open_bond-spot.auto.out
-
-pub returns-then-not-few : goal.returns-then-not-few
-returns-then-not-few t c = open_full _ _ _ _ _ _ _ c.nearest-bond.ensures _ _ _ _ _ _ c.if-k-i.false (not-true _ c.if-not-few.true-raw) c.open_bond-spot.ensures
+pub open_bond-requires : goal.open_bond-requires
+open_bond-requires t c = (c.requires.k_le_max_bonds.1, omega (arith, c.if-k-i.false, c.requires.k_le_max_bonds.0))
 
 pub offset_bounds-his-i : goal.offset_bounds-his-i
 offset_bounds-his-i t c = omega (arith, c.requires.k_le_max_bonds.0, c.if-k-i.false)
@@ -35,19 +25,22 @@ pub bounds-his-i : goal.bounds-his-i
 bounds-his-i t c = omega (arith, c.requires.k_in_bounds.1, c.if-k-i.false)
 
 pub overflow_cast-next : goal.overflow_cast-next
-overflow_cast-next t c = omega (arith, c.shared_slice_known-5-1.given c.nearest-bond.result.0)
+overflow_cast-next t c = omega (arith, c.shared_slice_known-2-1.given c.nearest-bond.result.0)
 
 pub overflow_add-next : goal.overflow_add-next
-overflow_add-next t c = omega (arith, c.shared_slice_known-5-1.given c.nearest-bond.result.0)
+overflow_add-next t c = omega (arith, c.shared_slice_known-2-1.given c.nearest-bond.result.0)
 
 pub open_from-requires : goal.open_from-requires
-open_from-requires t c = let i = c.nearest-bond in (omega (arith, (i.ensures.here c.if-k-i.false).1, c.shared_slice_known-5-1.given i.result.0, c.decreases), (c.requires.k_in_bounds, ((c.requires.k_le_max_bonds.0, omega (arith, c.requires.k_le_max_bonds.1, c.open_bond-spot.auto.slots)), c.requires.k_in_bounds_2)))
+open_from-requires t c = let i = c.nearest-bond in (omega (arith, (i.ensures.here c.if-k-i.false).1, c.shared_slice_known-2-1.given i.result.0, c.decreases), (c.requires.k_in_bounds, ((c.requires.k_le_max_bonds.0, omega (arith, c.requires.k_le_max_bonds.1, c.open_bond.auto.slots)), c.requires.k_in_bounds_2)))
 
 pub shape_of-slots : goal.shape_of-slots
-shape_of-slots t c = c.open_from.auto.slots ∙ c.open_bond-spot.auto.slots
+shape_of-slots t c = c.open_from.auto.slots ∙ c.open_bond.auto.slots
 
 pub shape_of-out : goal.shape_of-out
-shape_of-out t c = c.open_from.auto.out ∙ c.open_bond-spot.auto.out
+shape_of-out t c = c.open_from.auto.out ∙ c.open_bond.auto.out
 
 pub returns : goal.returns
-returns t c = open_next _ _ _ _ _ _ _ c.nearest-bond.ensures _ _ _ _ _ _ _ _ _ c.if-k-i.false (not-false _ c.if-not-few.false-raw) c.open_bond-spot.auto.slots refl c.open_bond-spot.ensures c.open_from.ensures
+returns t c = open_next _ _ _ _ _ _ _ c.nearest-bond.ensures _ _ _ _ _ _ _ _ _ c.if-k-i.false refl c.open_bond.auto.slots refl c.in_ok-at.ensures c.open_from.ensures
+
+pub returns-in_err-at : goal.returns-in_err-at
+returns-in_err-at t c = rw c.from_residual.ensures (open_full _ _ _ _ _ _ _ c.nearest-bond.ensures _ _ _ _ _ _ c.if-k-i.false refl c.in_err-at.ensures)

@@ -12,19 +12,19 @@ pub bounds-his-i : goal.bounds-his-i
 bounds-his-i c = omega (arith, single-below _ _ _ _ _ c.requires.marked c.if-mark-eq0.false c.if-mark-lt-MANY.true, c.requires.k_in_bounds.1)
 
 pub overflow_cast-his : goal.overflow_cast-his
-overflow_cast-his c = let a = c.args in omega (arith, c.shared_slice_known-then-mark-lt-MANY-1.given (get_or a.marks.now a.x.0 0 - 1))
+overflow_cast-his c = let a = c.args in omega (arith, c.shared_slice_known-then-mark-lt-MANY-1.given (get_or a.bonds.marks.now a.x.0 0 - 1))
 
-pub close_bond-at-requires : goal.close_bond-at-requires
-close_bond-at-requires c = (c.requires.k_le_max_bonds.1, omega (arith, single-below _ _ _ _ _ c.requires.marked c.if-mark-eq0.false c.if-mark-lt-MANY.true, c.requires.k_le_max_bonds.0))
+pub close_bond-requires : goal.close_bond-requires
+close_bond-requires c = (c.requires.k_le_max_bonds.1, omega (arith, single-below _ _ _ _ _ c.requires.marked c.if-mark-eq0.false c.if-mark-lt-MANY.true, c.requires.k_le_max_bonds.0))
 
 pub returns-then-his-i : goal.returns-then-his-i
-returns-then-his-i c = ends-closing _ _ _ _ _ c.requires.marked c.if-mark-eq0.false c.if-mark-lt-MANY.true _ _ _ _ _ c.close_bond-at.auto.slots c.if-his-i.true c.close_bond-at.ensures
+returns-then-his-i c = ends-closing _ _ _ _ _ c.requires.marked c.if-mark-eq0.false c.if-mark-lt-MANY.true _ _ _ _ _ c.close_bond.auto.slots c.if-his-i.true c.close_bond.ensures
 
 pub bounds-kinds-i : goal.bounds-kinds-i
 bounds-kinds-i c = omega (arith, single-below _ _ _ _ _ c.requires.marked c.if-mark-eq0.false c.if-mark-lt-MANY.true, c.requires.k_in_bounds_2)
 
 pub overflow_cast-kinds : goal.overflow_cast-kinds
-overflow_cast-kinds c = let a = c.args in omega (arith, c.shared_slice_known-then-mark-lt-MANY-2-1.given (get_or a.marks.now a.x.0 0 - 1))
+overflow_cast-kinds c = let a = c.args in omega (arith, c.shared_slice_known-then-mark-lt-MANY-2-1.given (get_or a.bonds.marks.now a.x.0 0 - 1))
 
 pub open_bond-requires : goal.open_bond-requires
 open_bond-requires c = (c.requires.k_le_max_bonds.1, omega (arith, single-below _ _ _ _ _ c.requires.marked c.if-mark-eq0.false c.if-mark-lt-MANY.true, c.requires.k_le_max_bonds.0))

@@ -18,4 +18,6 @@ pub loop-i-preserved : goal.loop-i-preserved
 loop-i-preserved c = looked-pass c.loop-i.invariant c.loop-i-test.true c.if-slots-i.false
 
 pub returns : goal.returns
-returns c = looked-end c.loop-i.invariant c.loop-i-test.false
+returns c = let i = c.loop-i.invariant in
+    let e = looked-end i c.loop-i-test.false in
+    omega (arith, i.within, c.loop-i-test.false, e)

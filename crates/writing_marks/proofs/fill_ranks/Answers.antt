@@ -9,12 +9,6 @@ loop-b-init c = (ranked-start c.args.bonds.now c.requires.bonds_fit c.requires.n
 pub bond_ranks-requires : goal.bond_ranks-requires
 bond_ranks-requires c = record { bonds_fit = c.requires.bonds_fit; numbered = c.requires.numbered; b_lt_m = (c.loop-b-test.true, omega (arith, c.requires.m_in_bounds, c.loop-b.invariant.1)) }
 
-pub overflow_add-b : goal.overflow_add-b
-overflow_add-b c = omega (arith, c.loop-b-test.true, c.ranges.m)
-
-pub loop-b-smaller : goal.loop-b-smaller
-loop-b-smaller c = omega (arith, c.loop-b-test.true)
-
 pub loop-b-preserved : goal.loop-b-preserved
 loop-b-preserved c = let l = c.loop-b in
     let w = c.bond_ranks in

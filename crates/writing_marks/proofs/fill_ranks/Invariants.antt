@@ -1,4 +1,3 @@
-use Prim.Native.Nat.{◌-◌}
 use mathlib.Core.Path.{◌≡◌}
 use lib.ListN.{length}
 use Rattle.writing_marks.specs.Marks.{Ranked}
@@ -6,6 +5,3 @@ use Rattle.writing_marks.proofs.fill_ranks.Given as goal
 
 abbrev pub invariant-loop-b : goal.invariant-loop-b
 invariant-loop-b l = Ranked l.bonds l.n l.m l.b l.ranks × (length l.ranks ≡ length l.initial.ranks)
-
-abbrev pub decreases-loop-b : goal.decreases-loop-b
-decreases-loop-b l = l.m - l.b

@@ -26,12 +26,6 @@ shape_of-kind-then-next-eq0 c = c.pass-next.auto.kind ∙ c.loop-b.invariant.1.1
 pub returns-then-next-eq0 : goal.returns-then-next-eq0
 returns-then-next-eq0 c = λ e. absurd (let z : ◌≡◌ {A = ℕ} 0 1 = cc in omega arith)
 
-pub overflow_add-b : goal.overflow_add-b
-overflow_add-b c = omega (arith, c.requires.bonds_fit.bonds_few, c.loop-b-test.true)
-
-pub loop-b-smaller : goal.loop-b-smaller
-loop-b-smaller c = omega (arith, c.loop-b-test.true)
-
 pub loop-b-preserved : goal.loop-b-preserved
 loop-b-preserved c = let at = c.loop-b in
     let t = c.loop-b-test.true in

@@ -23,9 +23,6 @@ link_bond-requires c = let at = c.loop-b in
     let f = room.heads (at.b - 1) h in
     record { b_lt_max_bonds = omega (arith, fit.bonds_few, h); b_in_bounds = (omega (arith, h, room.afters), omega (arith, h, room.behinds)); first_in_bounds = (omega (arith, w.0, f, r.first_value.0), omega (arith, f, r.first_value.1)) }
 
-pub loop-b-smaller : goal.loop-b-smaller
-loop-b-smaller c = omega (arith, c.loop-b-test.true)
-
 pub loop-b-preserved : goal.loop-b-preserved
 loop-b-preserved c = let at = c.loop-b in
     let r = c.read_bond-x in

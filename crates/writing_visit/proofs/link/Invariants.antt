@@ -3,6 +3,3 @@ use Rattle.writing_visit.proofs.link.Given as goal
 
 abbrev pub invariant-loop-b : goal.invariant-loop-b
 invariant-loop-b l = Joined l.bonds l.m l.b l.head l.after l.behind × LinkedLengths l.initial.head l.initial.after l.initial.behind l.head l.after l.behind
-
-abbrev pub decreases-loop-b : goal.decreases-loop-b
-decreases-loop-b l = l.b

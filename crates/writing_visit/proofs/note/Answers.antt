@@ -26,9 +26,6 @@ note_bond-requires c = let at = c.loop-b in
     let q = fit.kinds (at.b - 1) h in
     record { b_in_bounds = (omega (arith, h, room.firsts), omega (arith, h, room.seconds)); b_in_bounds_2 = (omega (arith, h, room.kinds), omega (arith, room.summed (at.b - 1) h, r.first_value.1)); first_lt_second = (omega (arith, w.0), omega (arith, w.1)); kind_le_max_kind = omega arith; by_index = sums-bound c.args.bonds.now c.args.m at.b _ fit.bonds_few i.summed }
 
-pub loop-b-smaller : goal.loop-b-smaller
-loop-b-smaller c = omega (arith, c.loop-b-test.true)
-
 pub loop-b-preserved : goal.loop-b-preserved
 loop-b-preserved c = let at = c.loop-b in
     let r = c.read_bond-x in

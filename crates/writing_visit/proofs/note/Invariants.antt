@@ -3,6 +3,3 @@ use Rattle.writing_visit.proofs.note.Given as goal
 
 abbrev pub invariant-loop-b : goal.invariant-loop-b
 invariant-loop-b l = Noted l.bonds l.m l.b l.ea l.eb l.ks l.sums × NotedLengths l.initial.ea l.initial.eb l.initial.ks l.initial.sums l.ea l.eb l.ks l.sums
-
-abbrev pub decreases-loop-b : goal.decreases-loop-b
-decreases-loop-b l = l.b

@@ -3,7 +3,6 @@ use Rattle.writing_visit.proofs.Wires.{fit_same, linked-same, wired-at, walked-t
 use Rattle.writing_visit.proofs.Laws.{kept_same, kept_then, room-kept}
 use Rattle.writing_visit.proofs.Roots.{sofar-start, sofar-step, sofar-end}
 use mathlib.Core.Path.{refl}
-use native.Mathlib.Omega.{arith}
 use Rattle.writing_visit.proofs.walk_lists.Goals as goal
 
 pub link-requires : goal.link-requires
@@ -17,12 +16,6 @@ pub root-count-requires : goal.root-count-requires
 root-count-requires c = let p = c.requires in
     let l = c.link.ensures in
     record { bonds_fit = fit_same (wired-at p.wired) p.bonds_fit; places = places-kept p.places c.link.auto.head c.link.auto.after c.link.auto.behind refl refl refl; linked = linked-same (wired-at p.wired) l; room = room-kept p.room c.loop-a.invariant.1; a_lt_n = c.loop-a-test.true }
-
-pub overflow_add-a : goal.overflow_add-a
-overflow_add-a c = omega (arith, c.requires.bonds_fit.atoms_few, c.loop-a-test.true)
-
-pub loop-a-smaller : goal.loop-a-smaller
-loop-a-smaller c = omega (arith, c.loop-a-test.true)
 
 pub loop-a-preserved : goal.loop-a-preserved
 loop-a-preserved c = let p = c.requires in

@@ -1,7 +1,7 @@
 use Rattle.balsa.proofs.reporting.report_reply.Goals as goal
 
-pub returns-in-Bytes : goal.returns-in-Bytes
-returns-in-Bytes c = λ out. simp c.in-Bytes.is
+pub returns-in-Ok : goal.returns-in-Ok
+returns-in-Ok c = λ out. simp c.in-Ok.is
 
-pub returns-in-Refused : goal.returns-in-Refused
-returns-in-Refused c = λ out. simp (c.in-Refused.is, c.code.ensures)
+pub returns-in-Err : goal.returns-in-Err
+returns-in-Err c = λ out. simp (c.in-Err.is, c.code.ensures)

@@ -4,6 +4,3 @@ use Rattle.reader.proofs.bridge.near.Given as goal
 
 abbrev pub invariant-loop-i : goal.invariant-loop-i
 invariant-loop-i l = Away l.bonds l.a l.b l.i l.found
-
-abbrev pub decreases-loop-i : goal.decreases-loop-i
-decreases-loop-i l = l.m - l.i

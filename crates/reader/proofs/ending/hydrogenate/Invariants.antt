@@ -4,6 +4,3 @@ use Rattle.reader.proofs.ending.hydrogenate.Given as goal
 
 abbrev pub invariant-loop-i : goal.invariant-loop-i
 invariant-loop-i l = Filling l.outsides l.sums l.initial.atoms l.n l.i l.atoms l.overfull
-
-abbrev pub decreases-loop-i : goal.decreases-loop-i
-decreases-loop-i l = l.n - l.i

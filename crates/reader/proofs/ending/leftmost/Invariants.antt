@@ -7,6 +7,3 @@ use Rattle.reader.proofs.ending.leftmost.Given as goal
 
 abbrev pub invariant-loop-i : goal.invariant-loop-i
 invariant-loop-i l = Ran (λ r q. earlier q (get_or l.openers r 0) (get_or l.offsets r 0)) max_text bridges l.i l.p
-
-abbrev pub decreases-loop-i : goal.decreases-loop-i
-decreases-loop-i l = bridges - l.i

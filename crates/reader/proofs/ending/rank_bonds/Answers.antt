@@ -48,9 +48,6 @@ offset_bounds-keys-p-in-loop-i-3 c = omega (arith, c.requires.few)
 pub bounds-keys-p-in-loop-i-3 : goal.bounds-keys-p-in-loop-i-3
 bounds-keys-p-in-loop-i-3 c = omega (arith, c.requires.few)
 
-pub overflow_add-i : goal.overflow_add-i
-overflow_add-i c = omega (arith, c.requires.few)
-
 pub loop-i-preserved : goal.loop-i-preserved
 loop-i-preserved c = ranking-step c.loop-i.invariant c.loop-i-test.true c.bond_number-second.ensures c.first_rank.ensures c.second_rank.ensures
 

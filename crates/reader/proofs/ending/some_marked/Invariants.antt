@@ -6,6 +6,3 @@ use Rattle.reader.proofs.ending.some_marked.Given as goal
 
 abbrev pub invariant-loop-i : goal.invariant-loop-i
 invariant-loop-i l = Left (λ a. eqb (mark l.atoms a) 0) l.n l.i
-
-abbrev pub decreases-loop-i : goal.decreases-loop-i
-decreases-loop-i l = l.n - l.i

@@ -1,4 +1,3 @@
-use Prim.Native.Nat.{◌-◌}
 use lib.ListN.{get_or}
 use lib.Dec.{ltb}
 use Rattle.loops.proofs.Loops.{Left}
@@ -6,6 +5,3 @@ use Rattle.reader_checks.proofs.broken.branch_astray.Given as goal
 
 abbrev pub invariant-loop-i : goal.invariant-loop-i
 invariant-loop-i l = Left (λ k. ltb (get_or l.hubs k 0) l.n) l.depth l.i
-
-abbrev pub decreases-loop-i : goal.decreases-loop-i
-decreases-loop-i l = l.depth - l.i

@@ -1,3 +1,4 @@
+use Rattle.std.proofs.lemmas.Result.{err_from_is_err_and}
 use native.Mathlib.Omega.{arith}
 use mathlib.Core.Path.{◌∙◌}
 use Rattle.reader_bytes.specs.Step.{lent}
@@ -22,17 +23,18 @@ returns-then-from-i c = running-long c.loop-i.invariant c.loop-i-test.true c.if-
 pub step-requires : goal.step-requires
 step-requires c = record { ready = c.loop-i.invariant.ready; at_lt_max_text = omega (arith, c.if-from-i.false) }
 
-pub shape_of-atoms-in-Refused : goal.shape_of-atoms-in-Refused
-shape_of-atoms-in-Refused c = c.step.auto.atoms ∙ c.loop-i.invariant.long-atoms
+pub shape_of-atoms-in_err-h : goal.shape_of-atoms-in_err-h
+shape_of-atoms-in_err-h c = c.step.auto.atoms ∙ c.loop-i.invariant.long-atoms
 
-pub shape_of-bonds-in-Refused : goal.shape_of-bonds-in-Refused
-shape_of-bonds-in-Refused c = c.step.auto.bonds ∙ c.loop-i.invariant.long-bonds
+pub shape_of-bonds-in_err-h : goal.shape_of-bonds-in_err-h
+shape_of-bonds-in_err-h c = c.step.auto.bonds ∙ c.loop-i.invariant.long-bonds
 
-pub returns-in-Refused : goal.returns-in-Refused
-returns-in-Refused c = running-refused c.loop-i.invariant c.loop-i-test.true c.if-from-i.false c.step.result (lent c.step.new.hubs c.step.new.openers c.step.new.symbols c.step.new.offsets c.step.new.outsides c.step.new.keys c.step.new.atoms c.step.new.bonds) c.step.ensures c.in-Refused.is
+pub returns-in_err-h : goal.returns-in_err-h
+returns-in_err-h c = let e = err_from_is_err_and c.from_residual.result c.from_residual.ensures.1 in
+    rw (e.1, e.2) (running-refused c.loop-i.invariant c.loop-i-test.true c.if-from-i.false (lent c.step.new.hubs c.step.new.openers c.step.new.symbols c.step.new.offsets c.step.new.outsides c.step.new.keys c.step.new.atoms c.step.new.bonds) _ c.in_err-h.ensures)
 
 pub loop-i-preserved : goal.loop-i-preserved
-loop-i-preserved c = running-step c.loop-i.invariant c.loop-i-test.true c.if-from-i.false c.step.result (lent c.step.new.hubs c.step.new.openers c.step.new.symbols c.step.new.offsets c.step.new.outsides c.step.new.keys c.step.new.atoms c.step.new.bonds) c.step.ensures c.in-Taken.is c.step.auto.atoms c.step.auto.bonds
+loop-i-preserved c = running-step c.loop-i.invariant c.loop-i-test.true c.if-from-i.false (lent c.step.new.hubs c.step.new.openers c.step.new.symbols c.step.new.offsets c.step.new.outsides c.step.new.keys c.step.new.atoms c.step.new.bonds) c.in_ok-h.ensures c.step.auto.atoms c.step.auto.bonds
 
 pub shape_of-atoms : goal.shape_of-atoms
 shape_of-atoms c = c.loop-i.invariant.long-atoms

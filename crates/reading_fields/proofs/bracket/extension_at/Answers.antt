@@ -18,4 +18,4 @@ pub more-two-requires : goal.more-two-requires
 more-two-requires c = record { at_in_bounds = omega (arith, digit-in c.peek-b.ensures (nonzero-digit _ (sym c.is_nonzero.ensures ∙ not-false _ c.if-not-is_nonzero.false-raw))); value_bound = omega (arith, c.value.ensures.1) }
 
 pub returns : goal.returns
-returns c = extension-all _ _ c.peek.ensures c.if-peek-ne58.false c.peek-b.ensures (sym c.is_nonzero.ensures ∙ not-false _ c.if-not-is_nonzero.false-raw) c.value.ensures.0 c.more-two.ensures c.more-three.ensures c.more-four.ensures
+returns c = extension-all _ _ c.peek.ensures c.if-peek-ne58.false c.peek-b.ensures (sym c.is_nonzero.ensures ∙ not-false _ c.if-not-is_nonzero.false-raw) c.value.ensures.0 c.more-two.ensures c.more-three.ensures c.more.ensures

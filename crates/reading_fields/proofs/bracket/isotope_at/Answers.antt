@@ -18,4 +18,4 @@ pub more-two-requires : goal.more-two-requires
 more-two-requires c = record { at_in_bounds = omega (arith, digit-in c.peek-b.ensures (sym c.is_digit.ensures ∙ not-false _ c.if-not-is_digit.false-raw)); value_bound = omega (arith, c.value.ensures.1) }
 
 pub returns : goal.returns
-returns c = iso-all _ _ c.peek-b.ensures (sym c.is_digit.ensures ∙ not-false _ c.if-not-is_digit.false-raw) c.if-b-eq48.false c.value.ensures.0 c.more-two.ensures c.more-three.ensures
+returns c = iso-all _ _ c.peek-b.ensures (sym c.is_digit.ensures ∙ not-false _ c.if-not-is_digit.false-raw) c.if-b-eq48.false c.value.ensures.0 c.more-two.ensures c.more.ensures

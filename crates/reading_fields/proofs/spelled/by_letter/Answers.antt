@@ -19,7 +19,7 @@ pub returns-in-Plain : goal.returns-in-Plain
 returns-in-Plain c = c.letter_at.ensures
 
 pub returns-in-Selected : goal.returns-in-Selected
-returns-in-Selected c = spells-selected _ _ c.requires.peeked (some_in c.requires.peeked c.if-b-eq0.false) (sym c.atom_start.ensures ∙ c.in-Selected.is) c.bare.ensures
+returns-in-Selected c = spells-selected _ _ c.requires.peeked (some_in c.requires.peeked c.if-b-eq0.false) (sym c.atom_start.ensures ∙ c.in-Selected.is) c.lettered.ensures
 
 pub returns-in-Half : goal.returns-in-Half
 returns-in-Half c = c.half_at.ensures

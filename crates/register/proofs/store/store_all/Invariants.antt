@@ -1,4 +1,4 @@
-use Prim.Native.Nat.{◌+◌, ◌-◌, ◌≤◌}
+use Prim.Native.Nat.{◌+◌, ◌≤◌}
 use mathlib.Core.Path.{◌≡◌}
 use lib.ListN.{length}
 use Rattle.register.specs.Adding.{after_with}
@@ -6,6 +6,3 @@ use Rattle.register.proofs.store.store_all.Given as goal
 
 abbrev pub invariant-loop-k : goal.invariant-loop-k
 invariant-loop-k l = (l.r ≡ after_with l.n l.e l.tag l.body l.k l.initial.r) × (length l.r ≡ length l.initial.r) × (l.k ≤ length l.body + 7)
-
-abbrev pub decreases-loop-k : goal.decreases-loop-k
-decreases-loop-k l = length l.body + 7 - l.k

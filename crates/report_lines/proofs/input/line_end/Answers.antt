@@ -1,3 +1,7 @@
+use Prim.Native.Nat.{ℕ}
+use mathlib.Core.Path.{subst}
+use native.Mathlib.Omega.{arith}
+use Rattle.report_lines.specs.Cut.{Ends}
 use Rattle.report_lines.proofs.Ends.{seeks-start, seeks-byte, seeks-end, seeks-over}
 use Rattle.report_lines.proofs.input.line_end.Goals as goal
 
@@ -11,4 +15,4 @@ pub loop-i-preserved : goal.loop-i-preserved
 loop-i-preserved c = seeks-byte c.loop-i.invariant c.loop-i-test.true c.if-s-i-eq10.false
 
 pub returns : goal.returns
-returns c = seeks-over c.loop-i.invariant c.requires c.loop-i-test.false
+returns c = subst (λ (r : ℕ). Ends c.args.s.now c.args.from r) (omega arith) (seeks-over c.loop-i.invariant c.requires c.loop-i-test.false)

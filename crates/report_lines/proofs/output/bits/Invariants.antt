@@ -1,4 +1,3 @@
-use Prim.Native.Nat.{◌-◌}
 use mathlib.Core.Path.{◌≡◌}
 use lib.ListN.{length}
 use Rattle.buffer.specs.Buffer.{buffer_at}
@@ -6,8 +5,5 @@ use Rattle.buffer.proofs.Laws.{Laying}
 use Rattle.report_lines.specs.Format.{bit_byte}
 use Rattle.report_lines.proofs.output.bits.Given as goal
 
-abbrev pub invariant-loop-i : goal.invariant-loop-i
-invariant-loop-i l = Laying bit_byte l.row l.i (buffer_at l.initial.out l.at) (buffer_at l.out l.to) × (length l.out ≡ length l.initial.out)
-
-abbrev pub decreases-loop-i : goal.decreases-loop-i
-decreases-loop-i l = length l.row - l.i
+abbrev pub invariant-loop-b : goal.invariant-loop-b
+invariant-loop-b l = Laying bit_byte l.row l.b-index (buffer_at l.initial.out l.at) (buffer_at l.out l.to) × (length l.out ≡ length l.initial.out)

@@ -1,10 +1,6 @@
-use Prim.Native.Nat.{◌-◌}
 use Rattle.loops.proofs.Loops.{Edited}
 use Rattle.table.specs.Edits.{doubled_by}
 use Rattle.table_edits.proofs.kekulize.double_bonds.Given as goal
 
 abbrev pub invariant-loop-i : goal.invariant-loop-i
 invariant-loop-i l = Edited (doubled_by l.row) l.initial.bonds l.m l.i l.bonds
-
-abbrev pub decreases-loop-i : goal.decreases-loop-i
-decreases-loop-i l = l.m - l.i

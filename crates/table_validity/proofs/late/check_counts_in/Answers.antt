@@ -7,4 +7,4 @@ pub count_bonds-requires : goal.count_bonds-requires
 count_bonds-requires c = record { ends = ends c.requires.valid c.requires.n_in_bounds.0; degrees_value = c.requires.n_in_bounds.1 }
 
 pub returns : goal.returns
-returns c = c.check_degrees.ensures ∙ counts-code c.args.atoms.now c.args.bonds.now c.args.n c.args.m (length c.args.degrees.now) c.count_bonds.ensures c.requires.n_in_bounds.0
+returns c = c.check_degrees.ensures ∙ counts-code c.args.tables.atoms.now c.args.tables.bonds.now c.args.tables.n c.args.tables.m (length c.args.degrees.now) c.count_bonds.ensures c.requires.n_in_bounds.0

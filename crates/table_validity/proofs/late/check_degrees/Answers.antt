@@ -15,10 +15,10 @@ pub returns-then-selected-d : goal.returns-then-selected-d
 returns-then-selected-d c = degrees-loose c.loop-i.invariant c.loop-i-test.true (rw (← c.atom_number-selected.ensures, c.if-selected-d.true))
 
 pub loop-i-preserved : goal.loop-i-preserved
-loop-i-preserved c = degrees-next c.loop-i.invariant c.fits-here.result c.loop-i-test.true (rw (← c.atom_number-selected.ensures, c.if-selected-d.false)) c.fits-here.ensures
+loop-i-preserved c = degrees-next c.loop-i.invariant c.fits-fit.result c.loop-i-test.true (rw (← c.atom_number-selected.ensures, c.if-selected-d.false)) c.fits-fit.ensures
 
 pub returns-then-fit : goal.returns-then-fit
 returns-then-fit c = sym (degrees-end c.loop-i.invariant c.loop-i-test.false ∙ ap (λ (x : Bool). pick x 0 23) c.if-fit.true)
 
-pub returns : goal.returns
-returns c = sym (degrees-end c.loop-i.invariant c.loop-i-test.false ∙ ap (λ (x : Bool). pick x 0 23) c.if-fit.false)
+pub returns-else-fit : goal.returns-else-fit
+returns-else-fit c = sym (degrees-end c.loop-i.invariant c.loop-i-test.false ∙ ap (λ (x : Bool). pick x 0 23) c.if-fit.false)

@@ -4,7 +4,4 @@ use Prim.Native.Nat.{◌-◌}
 use Rattle.withdrawal.proofs.walk.walk.Given as goal
 
 abbrev pub invariant-loop-p : goal.invariant-loop-p
-invariant-loop-p l = Seen l.held (molecule l.atoms l.bonds l.n l.m) l.unsure l.p
-
-abbrev pub decreases-loop-p : goal.decreases-loop-p
-decreases-loop-p l = l.count - l.p
+invariant-loop-p l = Seen l.held (molecule l.tables.atoms.now l.tables.bonds.now l.tables.n l.tables.m) l.unsure l.p

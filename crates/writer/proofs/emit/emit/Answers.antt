@@ -1,5 +1,4 @@
 use Rattle.writer.proofs.Emission.{onward-start, onward-stop, onward-step, onward-end}
-use borrow.Author.Tests.{not-true, not-false}
 use mathlib.Core.Path.{refl, sym, ◌∙◌}
 use native.Mathlib.Omega.{arith}
 use Rattle.writer.proofs.emit.emit.Goals as goal
@@ -10,28 +9,19 @@ loop-x-init c = (onward-start _ _ _ _ _ _ _ _, omega arith, refl, refl)
 pub slice_bounds-emit_atom-end : goal.slice_bounds-emit_atom-end
 slice_bounds-emit_atom-end c = sym c.loop-x.invariant.2
 
-pub emit_atom-spot-requires : goal.emit_atom-spot-requires
-emit_atom-spot-requires c = let p = c.requires in
+pub emit_atom-requires : goal.emit_atom-requires
+emit_atom-requires c = let p = c.requires in
     let t = c.loop-x-test.true in
     record { ready = p.by_index _ t; marked = p.marked; slots_len_bound = (omega (arith, c.loop-x.invariant.2), omega (arith, t, p.n_in_bounds)) }
 
-pub shape_of-out-then-not-few : goal.shape_of-out-then-not-few
-shape_of-out-then-not-few c = c.emit_atom-spot.auto.out ∙ c.loop-x.invariant.3
-
-pub returns-then-not-few : goal.returns-then-not-few
-returns-then-not-few c = onward-stop _ _ _ _ _ _ _ _ _ _ _ _ _ _ _ _ _ _ _ _ c.loop-x.invariant.0 c.loop-x-test.true c.emit_atom-spot.ensures (not-true _ c.if-not-few.true-raw)
-
-pub overflow_add-x : goal.overflow_add-x
-overflow_add-x c = omega (arith, c.loop-x-test.true, c.ranges.n)
-
-pub loop-x-smaller : goal.loop-x-smaller
-loop-x-smaller c = omega (arith, c.loop-x-test.true)
+pub returns-in_err-at : goal.returns-in_err-at
+returns-in_err-at c = rw c.from_residual.ensures (onward-stop _ _ _ _ _ _ _ _ _ _ _ _ _ _ _ _ _ _ _ _ c.loop-x.invariant.0 c.loop-x-test.true c.in_err-at.ensures refl)
 
 pub loop-x-preserved : goal.loop-x-preserved
 loop-x-preserved c = let i = c.loop-x.invariant in
     let t = c.loop-x-test.true in
-    let e = c.emit_atom-spot in
-    (onward-step _ _ _ _ _ _ _ _ _ _ _ _ _ _ _ _ _ _ _ _ i.0 t e.ensures (not-false _ c.if-not-few.false-raw) e.auto.slots, omega (arith, t), e.auto.slots ∙ i.2, e.auto.out ∙ i.3)
+    let e = c.emit_atom in
+    (onward-step _ _ _ _ _ _ _ _ _ _ _ _ _ _ _ _ _ _ _ _ i.0 t c.in_ok-at.ensures refl e.auto.slots, omega (arith, t), e.auto.slots ∙ i.2, e.auto.out ∙ i.3)
 
 pub shape_of-out : goal.shape_of-out
 shape_of-out c = c.loop-x.invariant.3

@@ -5,13 +5,13 @@ use native.Mathlib.Omega.{arith}
 use Rattle.writer.proofs.emit.emit_atom.Goals as goal
 
 pub overflow_cast-more : goal.overflow_cast-more
-overflow_cast-more c = let a = c.args in omega (arith, c.shared_slice_known-13-1.given (get_or a.up.now a.x.0 0))
+overflow_cast-more c = let a = c.args in omega (arith, c.shared_slice_known-6-1.given (get_or a.trail.up.now a.x.0 0))
 
 pub overflow_cast-kind : goal.overflow_cast-kind
-overflow_cast-kind c = omega (arith, c.shared_slice_known-14-1.given c.args.x.0)
+overflow_cast-kind c = omega (arith, c.shared_slice_known-7-1.given c.args.x.0)
 
 pub overflow_cast-sums : goal.overflow_cast-sums
-overflow_cast-sums c = let a = c.args in omega (arith, c.shared_slice_known-16-1.given (get_or a.order.now a.x.0 0))
+overflow_cast-sums c = let a = c.args in omega (arith, c.shared_slice_known-9-1.given (get_or a.trail.order.now a.x.0 0))
 
 pub ring_ends-requires : goal.ring_ends-requires
 ring_ends-requires c = let p = c.requires in

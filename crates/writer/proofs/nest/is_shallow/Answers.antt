@@ -30,12 +30,6 @@ overflow_cast-last c = let a = c.args in omega (arith, c.shared_slice_known-in-l
 pub returns-then-depth-gt-MAX_DEPTH : goal.returns-then-depth-gt-MAX_DEPTH
 returns-then-depth-gt-MAX_DEPTH c = nests-deep c.loop-x.invariant c.loop-x-test.true c.depth_after-depth.ensures c.if-depth-gt-MAX_DEPTH.true
 
-pub overflow_add-x : goal.overflow_add-x
-overflow_add-x c = let a = c.args in omega (arith, c.loop-x-test.true, c.ranges.n)
-
-pub loop-x-smaller : goal.loop-x-smaller
-loop-x-smaller c = omega (arith, c.loop-x-test.true)
-
 pub loop-x-preserved : goal.loop-x-preserved
 loop-x-preserved c = nests-step c.loop-x.invariant c.loop-x-test.true c.depth_after-depth.ensures c.if-depth-gt-MAX_DEPTH.false
 

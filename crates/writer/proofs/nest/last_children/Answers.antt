@@ -25,12 +25,6 @@ offset_bounds-last-u c = omega (arith, c.shared_slice_known-1.given c.loop-x.x)
 pub bounds-last-u : goal.bounds-last-u
 bounds-last-u c = let a = c.args in omega (arith, c.requires.by_index c.loop-x.x c.loop-x-test.true, c.loop-x.invariant.room)
 
-pub overflow_add-x : goal.overflow_add-x
-overflow_add-x c = let a = c.args in omega (arith, c.loop-x-test.true, c.requires.n_in_bounds.1)
-
-pub loop-x-smaller : goal.loop-x-smaller
-loop-x-smaller c = omega (arith, c.loop-x-test.true)
-
 pub loop-x-preserved : goal.loop-x-preserved
 loop-x-preserved c = edited-step c.loop-x.invariant _ c.loop-x-test.true refl (simp length-set)
 

@@ -1,10 +1,6 @@
 use Rattle.loops.proofs.Loops.{Edited}
 use lib.ListN.{get_or, set}
-use Prim.Native.Nat.{◌-◌}
 use Rattle.writer.proofs.nest.last_children.Given as goal
 
 abbrev pub invariant-loop-x : goal.invariant-loop-x
 invariant-loop-x l = Edited (λ i z. set z (get_or l.up i 0) i) l.initial.last l.n l.x l.last
-
-abbrev pub decreases-loop-x : goal.decreases-loop-x
-decreases-loop-x l = l.n - l.x

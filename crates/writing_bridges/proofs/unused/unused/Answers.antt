@@ -16,19 +16,12 @@ add_unused-used-requires c = let p = c.requires in
     let t = c.loop-b-test.true in
     record { bonds_fit = p.bonds_fit; numbered = p.numbered; bond_room = bag-room p.bond_room i.2 i.3 i.4; marked = i.5; b_lt_m = (t, omega (arith, i.1, t)); m_in_bounds = p.m_in_bounds; m_in_bounds_2 = (p.m_in_bounds_2.0, omega (arith, p.m_in_bounds_2.1, i.6)) }
 
-pub overflow_add-b : goal.overflow_add-b
-overflow_add-b c = let p = c.requires in
-    omega (arith, c.loop-b-test.true, p.bonds_fit.bonds_few)
-
-pub loop-b-smaller : goal.loop-b-smaller
-loop-b-smaller c = omega (arith, c.loop-b-test.true)
-
 pub loop-b-preserved : goal.loop-b-preserved
 loop-b-preserved c = let a = c.args in
     let l = c.loop-b in
     let t = c.loop-b-test.true in
     let r = c.add_unused-used in
-    let g = bag-grows a.up.now (in_walk (wires a.ea.now a.eb.now a.ks.now) a.n a.m l.b) (bond_arrays l.los l.his l.kinds l.used) in (
+    let g = bag-grows a.trail.up.now (in_walk (wires a.wiring.first.now a.wiring.second.now a.wiring.kinds.now) a.n a.m l.b) (bond_arrays l.los l.his l.kinds l.used) in (
       ran-step l.invariant.0 _ t r.ensures.result_after,
       omega (arith, l.invariant.1, ap (λ (g : BondArrays). g.used) r.ensures.result_after, g),
       r.auto.los ∙ l.invariant.2,

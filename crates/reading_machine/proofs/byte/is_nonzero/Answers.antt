@@ -1,7 +1,0 @@
-use Rattle.reading_grammar.specs.Grammar.{nonzero}
-use Rattle.reading_machine.proofs.Bytes.{range}
-use Rattle.reading_machine.proofs.byte.is_nonzero.Goals as goal
-
-pub returns : goal.returns
-unfolding nonzero
-returns c = range c.args.b 49 8

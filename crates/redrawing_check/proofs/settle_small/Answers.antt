@@ -1,6 +1,0 @@
-use native.Mathlib.Omega.{arith}
-use mathlib.Core.Path.{refl}
-use Rattle.redrawing_check.proofs.settle_small.Goals as goal
-
-pub settle_in-requires : goal.settle_in-requires
-settle_in-requires c = record { valid = c.requires.valid; room = record { atoms = omega (arith, c.requires.n_le_small.0); firsts = omega (arith, c.requires.n_le_small.1); seconds = omega (arith, c.requires.n_le_small.1); elided = omega (arith, c.requires.n_le_small.1); summed = omega (arith, c.requires.n_le_small.0) }; sums_value = (refl, c.requires.n_le_small.2) }
