@@ -15,15 +15,17 @@ pub struct KeyReply {
 }
 
 // An answer of the key's call in plain numbers.
-fn key_reply(answer: Result<u64, Refusal>) -> KeyReply
-    ensures { result ≡ key_reply (told answer) }
-{
-    match answer {
-        Ok(key) => KeyReply { code: 0, key },
-        Err(r) => KeyReply {
-            code: refusal::code(r) as u32,
-            key: 0,
-        },
+impl From<Result<u64, Refusal>> for KeyReply {
+    ghost from_gives = { λ answer r. r ≡ key_reply (told answer) };
+
+    fn from(answer: Result<u64, Refusal>) -> KeyReply {
+        match answer {
+            Ok(key) => KeyReply { code: 0, key },
+            Err(r) => KeyReply {
+                code: refusal::code(r) as u32,
+                key: 0,
+            },
+        }
     }
 }
 
@@ -32,5 +34,5 @@ fn key_reply(answer: Result<u64, Refusal>) -> KeyReply
 pub extern "C" fn balsa_key(atoms: &[i32], bonds: &[i32], n: usize, m: usize) -> KeyReply
     ensures { result ≡ key_reply (keyed_of atoms.now bonds.now n m) }
 {
-    key_reply(molecule_key::key(Tables { atoms, bonds, n, m }))
+    KeyReply::from(molecule_key::key(Tables { atoms, bonds, n, m }))
 }

@@ -15,35 +15,37 @@ pub struct ReleaseReply {
 }
 
 // An answer in plain numbers.
-fn release_reply(answer: Result<Release, Withheld>) -> ReleaseReply
-    ensures { result ≡ release_reply answer }
-{
-    match answer {
-        Ok(Release { held, age }) => ReleaseReply {
-            answer: 0,
-            held,
-            age,
-        },
-        Err(Withheld::Withdrawn) => ReleaseReply {
-            answer: 1,
-            held: 0,
-            age: 0,
-        },
-        Err(Withheld::Undecided) => ReleaseReply {
-            answer: 2,
-            held: 0,
-            age: 0,
-        },
-        Err(Withheld::Stale { age }) => ReleaseReply {
-            answer: 3,
-            held: 0,
-            age,
-        },
-        Err(Withheld::Halted) => ReleaseReply {
-            answer: 4,
-            held: 0,
-            age: 0,
-        },
+impl From<Result<Release, Withheld>> for ReleaseReply {
+    ghost from_gives = { λ answer r. r ≡ release_reply answer };
+
+    fn from(answer: Result<Release, Withheld>) -> ReleaseReply {
+        match answer {
+            Ok(Release { held, age }) => ReleaseReply {
+                answer: 0,
+                held,
+                age,
+            },
+            Err(Withheld::Withdrawn) => ReleaseReply {
+                answer: 1,
+                held: 0,
+                age: 0,
+            },
+            Err(Withheld::Undecided) => ReleaseReply {
+                answer: 2,
+                held: 0,
+                age: 0,
+            },
+            Err(Withheld::Stale { age }) => ReleaseReply {
+                answer: 3,
+                held: 0,
+                age,
+            },
+            Err(Withheld::Halted) => ReleaseReply {
+                answer: 4,
+                held: 0,
+                age: 0,
+            },
+        }
     }
 }
 
@@ -89,5 +91,5 @@ pub extern "C" fn balsa_lease_release(
 ) -> ReleaseReply
     ensures { result ≡ release_reply (release_of lease now limit verdict) }
 {
-    release_reply(lease.release(now, limit, verdict))
+    ReleaseReply::from(lease.release(now, limit, verdict))
 }

@@ -42,24 +42,26 @@ pub struct ReadReply {
 }
 
 // An answer of the reader in plain numbers.
-fn read_reply(a: Result<Counts, TextRefusal>) -> ReadReply
-    ensures { result ≡ read_reply_of a }
-{
-    match a {
-        Ok(t) => ReadReply {
-            code: 0,
-            place: 0,
-            atoms: t.atoms,
-            bonds: t.bonds,
-            overfull: t.overfull,
-        },
-        Err(e) => ReadReply {
-            code: refusal::code(e.refusal) as u32,
-            place: e.at,
-            atoms: 0,
-            bonds: 0,
-            overfull: 0,
-        },
+impl From<Result<Counts, TextRefusal>> for ReadReply {
+    ghost from_gives = { λ a r. r ≡ read_reply_of a };
+
+    fn from(a: Result<Counts, TextRefusal>) -> ReadReply {
+        match a {
+            Ok(t) => ReadReply {
+                code: 0,
+                place: 0,
+                atoms: t.atoms,
+                bonds: t.bonds,
+                overfull: t.overfull,
+            },
+            Err(e) => ReadReply {
+                code: refusal::code(e.refusal) as u32,
+                place: e.at,
+                atoms: 0,
+                bonds: 0,
+                overfull: 0,
+            },
+        }
     }
 }
 
@@ -68,7 +70,7 @@ fn read_reply(a: Result<Counts, TextRefusal>) -> ReadReply
 pub extern "C" fn balsa_read(text: &[u8], atoms: &mut [i32], bonds: &mut [i32]) -> ReadReply
     ensures { read_out result atoms.new bonds.new ≡ read_of text.now atoms.old bonds.old }
 {
-    read_reply(reader::read(text, atoms, bonds))
+    ReadReply::from(reader::read(text, atoms, bonds))
 }
 
 // What writing hands back: code 0 with the length of the text, or the refusal's code.
@@ -80,15 +82,17 @@ pub struct WriteReply {
 }
 
 // An answer of the writer in plain numbers.
-fn write_reply(w: Result<usize, Refusal>) -> WriteReply
-    ensures { result ≡ write_reply_of w }
-{
-    match w {
-        Ok(k) => WriteReply { code: 0, length: k },
-        Err(r) => WriteReply {
-            code: refusal::code(r) as u32,
-            length: 0,
-        },
+impl From<Result<usize, Refusal>> for WriteReply {
+    ghost from_gives = { λ w r. r ≡ write_reply_of w };
+
+    fn from(w: Result<usize, Refusal>) -> WriteReply {
+        match w {
+            Ok(k) => WriteReply { code: 0, length: k },
+            Err(r) => WriteReply {
+                code: refusal::code(r) as u32,
+                length: 0,
+            },
+        }
     }
 }
 
@@ -104,7 +108,7 @@ pub extern "C" fn balsa_write(
 ) -> WriteReply
     ensures { write_out result out.new ren.new ≡ write_of atoms.now bonds.now n m out.old ren.old }
 {
-    write_reply(writer::write(Tables { atoms, bonds, n, m }, out, ren))
+    WriteReply::from(writer::write(Tables { atoms, bonds, n, m }, out, ren))
 }
 
 // The code of a check: 0, or the refusal's.
@@ -129,6 +133,7 @@ pub extern "C" fn balsa_check(atoms: &[i32], bonds: &[i32], n: usize, m: usize) 
 fn ask(c: Call, atoms: &[i32], bonds: &[i32], n: usize, m: usize, row: &mut [u8]) -> u32
     ensures { call_reply result row.new ≡ call_on c atoms.now bonds.now n m row.old }
 {
+    // Stays: which call it is, is a value that definitions take (`row_call`), and a list of calls is a list of them.
     match c {
         Call::First => found_code(kekule::first(Tables { atoms, bonds, n, m }, row)) as u32,
         Call::Next => found_code(kekule::next(Tables { atoms, bonds, n, m }, row)) as u32,

@@ -32,19 +32,21 @@ fn no_entry(code: u32) -> EntryReply
 }
 
 // An answer of reading in plain numbers.
-fn entry_reply(answer: Result<Option<Found>, RegisterError>) -> EntryReply
-    ensures { result ≡ entry_reply (found_out answer) }
-{
-    match answer {
-        Err(e) => no_entry(u32::from(e)),
-        Ok(None) => no_entry(0),
-        Ok(Some(Found { tag, start, length })) => EntryReply {
-            code: 0,
-            found: 1,
-            tag,
-            start,
-            length,
-        },
+impl From<Result<Option<Found>, RegisterError>> for EntryReply {
+    ghost from_gives = { λ answer r. r ≡ entry_reply (found_out answer) };
+
+    fn from(answer: Result<Option<Found>, RegisterError>) -> EntryReply {
+        match answer {
+            Err(e) => no_entry(u32::from(e)),
+            Ok(None) => no_entry(0),
+            Ok(Some(Found { tag, start, length })) => EntryReply {
+                code: 0,
+                found: 1,
+                tag,
+                start,
+                length,
+            },
+        }
     }
 }
 
@@ -87,7 +89,7 @@ pub extern "C" fn balsa_register_step(reg: &mut [u8], tag: u16, body: &[u8], k: 
 pub extern "C" fn balsa_register_entry(reg: &[u8], place: usize) -> EntryReply
     ensures { result ≡ entry_reply (found_of reg.now place) }
 {
-    entry_reply(register::entry(reg, place))
+    EntryReply::from(register::entry(reg, place))
 }
 
 // What a step of a walk hands back: code 0 with the entry and the place of the next step; or 255 at the end or the refusal's code, with the place handed in.
@@ -115,6 +117,7 @@ fn stay(code: u32, place: usize) -> WalkReply
 }
 
 // An answer to a step from a place, in plain numbers.
+// Stays: the reply names the place that was handed in, which the answer does not have.
 fn walk_reply(answer: Result<Option<Step>, RegisterError>, place: usize) -> WalkReply
     ensures { result ≡ walk_reply (walked_out place answer) }
 {

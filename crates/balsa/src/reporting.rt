@@ -16,15 +16,17 @@ pub struct ReportReply {
 }
 
 // An answer of the report in plain numbers.
-fn report_reply(p: Result<usize, Refusal>) -> ReportReply
-    ensures { (out : List ℕ) → report_out result out ≡ printed p out }
-{
-    match p {
-        Ok(n) => ReportReply { code: 0, length: n },
-        Err(r) => ReportReply {
-            code: refusal::code(r) as u32,
-            length: 0,
-        },
+impl From<Result<usize, Refusal>> for ReportReply {
+    ghost from_gives = { λ p r. (out : List ℕ) → report_out r out ≡ printed p out };
+
+    fn from(p: Result<usize, Refusal>) -> ReportReply {
+        match p {
+            Ok(n) => ReportReply { code: 0, length: n },
+            Err(r) => ReportReply {
+                code: refusal::code(r) as u32,
+                length: 0,
+            },
+        }
     }
 }
 
@@ -33,7 +35,7 @@ fn report_reply(p: Result<usize, Refusal>) -> ReportReply
 pub extern "C" fn balsa_report(input: &[u8], out: &mut [u8]) -> ReportReply
     ensures { report_out result out.new ≡ reply_of input.now out.old }
 {
-    report_reply(report_blocks::whole::report(input, out))
+    ReportReply::from(report_blocks::whole::report(input, out))
 }
 
 // How many bytes the report of an input has; the largest number stands for all that are larger.

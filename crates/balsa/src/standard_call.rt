@@ -20,26 +20,28 @@ pub struct StandardReply {
 }
 
 // An answer in plain numbers.
-fn standard_reply(s: Result<Written, TextRefusal>) -> StandardReply
-    ensures { result ≡ standard_reply_of s }
-{
-    match s {
-        Ok(written) => StandardReply {
-            code: 0,
-            place: 0,
-            atoms: written.counts.atoms,
-            bonds: written.counts.bonds,
-            overfull: written.counts.overfull,
-            length: written.length,
-        },
-        Err(e) => StandardReply {
-            code: refusal::code(e.refusal) as u32,
-            place: e.at,
-            atoms: 0,
-            bonds: 0,
-            overfull: 0,
-            length: 0,
-        },
+impl From<Result<Written, TextRefusal>> for StandardReply {
+    ghost from_gives = { λ s r. r ≡ standard_reply_of s };
+
+    fn from(s: Result<Written, TextRefusal>) -> StandardReply {
+        match s {
+            Ok(written) => StandardReply {
+                code: 0,
+                place: 0,
+                atoms: written.counts.atoms,
+                bonds: written.counts.bonds,
+                overfull: written.counts.overfull,
+                length: written.length,
+            },
+            Err(e) => StandardReply {
+                code: refusal::code(e.refusal) as u32,
+                place: e.at,
+                atoms: 0,
+                bonds: 0,
+                overfull: 0,
+                length: 0,
+            },
+        }
     }
 }
 
@@ -48,5 +50,5 @@ fn standard_reply(s: Result<Written, TextRefusal>) -> StandardReply
 pub extern "C" fn balsa_standardize(text: &[u8], out: &mut [u8]) -> StandardReply
     ensures { standard_out result out.new ≡ standard_of text.now out.old }
 {
-    standard_reply(standard::standardize(text, out))
+    StandardReply::from(standard::standardize(text, out))
 }

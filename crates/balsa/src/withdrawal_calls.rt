@@ -41,38 +41,40 @@ pub struct WithdrawnReply {
 }
 
 // An answer in plain numbers.
-fn withdrawn_reply(answer: Result<Withdrawn, WithdrawError>) -> WithdrawnReply
-    ensures { withdrawn_out result ≡ out_of answer }
-{
-    match answer {
-        Err(e) => WithdrawnReply {
-            code: u32::from(e),
-            place: e.place(),
-            answer: 0,
-            tag: 0,
-            entry: 0,
-        },
-        Ok(Withdrawn::Clear) => WithdrawnReply {
-            code: 0,
-            place: 0,
-            answer: 0,
-            tag: 0,
-            entry: 0,
-        },
-        Ok(Withdrawn::Listed { tag, entry }) => WithdrawnReply {
-            code: 0,
-            place: 0,
-            answer: 1,
-            tag,
-            entry,
-        },
-        Ok(Withdrawn::Undecided { entry }) => WithdrawnReply {
-            code: 0,
-            place: 0,
-            answer: 2,
-            tag: 0,
-            entry,
-        },
+impl From<Result<Withdrawn, WithdrawError>> for WithdrawnReply {
+    ghost from_gives = { λ answer r. withdrawn_out r ≡ out_of answer };
+
+    fn from(answer: Result<Withdrawn, WithdrawError>) -> WithdrawnReply {
+        match answer {
+            Err(e) => WithdrawnReply {
+                code: u32::from(e),
+                place: e.place(),
+                answer: 0,
+                tag: 0,
+                entry: 0,
+            },
+            Ok(Withdrawn::Clear) => WithdrawnReply {
+                code: 0,
+                place: 0,
+                answer: 0,
+                tag: 0,
+                entry: 0,
+            },
+            Ok(Withdrawn::Listed { tag, entry }) => WithdrawnReply {
+                code: 0,
+                place: 0,
+                answer: 1,
+                tag,
+                entry,
+            },
+            Ok(Withdrawn::Undecided { entry }) => WithdrawnReply {
+                code: 0,
+                place: 0,
+                answer: 2,
+                tag: 0,
+                entry,
+            },
+        }
     }
 }
 
@@ -81,5 +83,5 @@ fn withdrawn_reply(answer: Result<Withdrawn, WithdrawError>) -> WithdrawnReply
 pub extern "C" fn balsa_withdrawn(reg: &[u8], text: &[u8]) -> WithdrawnReply
     ensures { Answered reg.now text.now (withdrawn_out result) }
 {
-    withdrawn_reply(withdrawal::withdrawn(reg, text))
+    WithdrawnReply::from(withdrawal::withdrawn(reg, text))
 }

@@ -26,7 +26,7 @@ use Rattle.matching_search.proofs.Reply.{matching-all}
 use Rattle.table_graph.specs.Graph.{matching_of}
 use Rattle.table_graph.specs.Built.{Built}
 use Rattle.table_graph.proofs.Graph.{built-bonds, length-first}
-use Rattle.kekule.specs.Kekule.{CallReply, call_reply, call_reply_of, roomy, call_on, is_matching_of, KekulizeReply, kekulize_reply, kekulized, kekulized_of}
+use Rattle.kekule.specs.Kekule.{Admits, CallReply, call_reply, call_reply_of, roomy, call_on, is_matching_of, KekulizeReply, kekulize_reply, kekulized, kekulized_of}
 use Rattle.kekule.proofs.Crowding.{crowded-by, elides}
 
 module _ {atoms bonds : List ℤ} {n m : ℕ} {flags ea eb el : List ℕ} (b : Built atoms bonds n m flags ea eb el) where
@@ -71,6 +71,17 @@ module _ (c : Call) (atoms bonds : List ℤ) (n m : ℕ) (row : List ℕ) where
   pub call-done : {o : CallReply} → roomy atoms bonds (length row) ≡ true → sound atoms bonds n m ≡ true → o ≡ call_reply_of (row_call (matching_of atoms bonds n m) m c row) → o ≡ call_on c atoms bonds n m row
   unfolding call_on
   call-done e f h = h ∙ simp (e, f)
+
+-- what was admitted is valid and has room, and its search's answer is the call's
+module _ {atoms bonds : List ℤ} {n m : ℕ} {row row' : List ℕ} (a : Admits atoms bonds n m row row') where
+  pub admits-valid : Valid atoms bonds n m
+  admits-valid = sound-valid atoms bonds n m a.is_sound
+
+  pub admits-room : m ≤ length row'
+  admits-room = rw a.same (row_room atoms bonds n m (length row) a.long admits-valid)
+
+  pub admits-done : (c : Call) {o : CallReply} → o ≡ call_reply_of (row_call (matching_of atoms bonds n m) m c row') → o ≡ call_on c atoms bonds n m row
+  admits-done c h = call-done c atoms bonds n m row a.long a.is_sound (h ∙ ap (λ (r : List ℕ). call_reply_of (row_call (matching_of atoms bonds n m) m c r)) a.same)
 
 -- the return paths of kekulizing: 1, 13, 12, 20, and the tables kekulized
 module _ (atoms bonds : List ℤ) (n m : ℕ) (row : List ℕ) where

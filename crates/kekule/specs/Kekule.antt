@@ -1,5 +1,5 @@
 -- 01, Hydrogens and kept atoms: the calls on tables, refusals in the order of 01. A placement is a matching, settling is kekulizing.
-use Rattle.std.specs.Prelude.{ℕ, ◌≤◌, List, Bool, ◌&&◌, length, take, get_or, replicate, ℤ, eqb, leb, Result}
+use Rattle.std.specs.Prelude.{ℕ, ◌≤◌, List, Bool, ◌&&◌, length, take, get_or, replicate, ℤ, eqb, leb, Result, Ok, Err, true, ◌≡◌}
 use Rattle.loops.specs.Loop.{pick, each}
 use Rattle.table.specs.Limits.{max_atoms, max_bonds}
 use Rattle.table.specs.Valid.{enough, check_code}
@@ -36,6 +36,17 @@ call_on c atoms bonds n m row =
     pick (roomy atoms bonds (length row))
     (pick (sound atoms bonds n m) (call_reply_of (row_call (matching_of atoms bonds n m) m c row)) (call_reply 13 (replicate (length row) 0)))
     (call_reply 1 row)
+
+-- neither 1 nor 13 is due: the tables and the row are long enough, the tables are sound, and the row stays
+pub record Admits (atoms bonds : List ℤ) (n m : ℕ) (row row' : List ℕ) : Type 0 where
+  pub long : roomy atoms bonds (length row) ≡ true
+  pub is_sound : sound atoms bonds n m ≡ true
+  pub same : row' ≡ row
+
+-- the refusals 1 and 13 of both calls: a refusal is what each call answers
+abbrev pub Admitted : List ℤ → List ℤ → ℕ → ℕ → List ℕ → Result (Unit {0}) Refusal → List ℕ → Type 0
+Admitted atoms bonds n m row (Ok _) row' = Admits atoms bonds n m row row'
+Admitted atoms bonds n m row (Err e) row' = (c : Call) → out (Err e) row' ≡ call_on c atoms bonds n m row
 
 -- the row, up to the last bond, is a matching; "in a row handed in, cells past the last bond are not looked at"
 abbrev pub is_matching_of : List ℤ → List ℤ → ℕ → ℕ → List ℕ → Bool

@@ -9,7 +9,7 @@ ghost use Rattle.matching.specs.Model.{reply};
 ghost use Rattle.table_graph.specs.Graph.{matching_of};
 ghost use Rattle.table_graph.specs.Built.{Prepared, Room};
 ghost use Rattle.kekule.specs.First.{FirstIn};
-ghost use Rattle.kekule.specs.Kekule.{out, call_reply_of, roomy, call_on, all_zero, is_matching_of, asked_of, tables, kekulized, kekulized_of, Counted};
+ghost use Rattle.kekule.specs.Kekule.{Admitted, out, call_reply_of, roomy, call_on, all_zero, is_matching_of, asked_of, tables, kekulized, kekulized_of, Counted};
 ghost use Rattle.kekule.specs.Calls.{calls_state, ran_of, replayed, Replays};
 
 use ids::{BondId, SMALL};
@@ -57,6 +57,7 @@ fn search_sized<const N: usize, const M: usize>(
         },
         elided: &elided[..m],
     };
+    // Stays: which call it is, is a value that definitions take (`row_call`), and a list of calls is a list of them.
     match c {
         Call::First => matching_engine::first(links, &mut flags[..n], row),
         Call::Next => matching_engine::next(links, &mut flags[..n], row),
@@ -102,6 +103,7 @@ fn ask(c: Call, tables: Tables, row: &mut [u8]) -> MatchingAnswer
     requires m_in_bounds { tables.m ≤ length row.old }
     ensures { reply result row.new ≡ row_call (matching_of tables.entry.atoms.now tables.entry.bonds.now tables.entry.n tables.entry.m) tables.entry.m c row.old }
 {
+    // Stays: which call it is, is a value that definitions take (`row_call`), and a list of calls is a list of them.
     match c {
         Call::First => ask_first(tables, row),
         Call::Next => search_graph(Call::Next, tables, row),
@@ -170,19 +172,26 @@ pub fn first_wired(
     is_given(found_of(answer))
 }
 
-// One of the two calls: refusals 1 and 13, then the search.
-fn call(c: Call, tables: Tables, row: &mut [u8]) -> Result<Handed, Refusal>
-    ensures { out result row.new ≡ call_on c tables.entry.atoms.now tables.entry.bonds.now tables.entry.n tables.entry.m row.old }
+// internal: the refusals 1 and 13 of a call for a matching, whichever engine searches: where neither is due, nothing changes.
+pub fn admit(tables: Tables, row: &mut [u8]) -> Result<(), Refusal>
+    ensures { Admitted tables.entry.atoms.now tables.entry.bonds.now tables.entry.n tables.entry.m row.old result row.new }
 {
     let Tables { atoms, bonds, .. } = tables;
-    let len = row.len();
-    if !roomy(atoms, bonds, len) {
+    if !roomy(atoms, bonds, row.len()) {
         return Err(Refusal::Short);
     }
     if !table_validity::sound(tables) {
         matching_search::clear(row, BondId(0));
         return Err(Refusal::Invalid);
     }
+    Ok(())
+}
+
+// One of the two calls: refusals 1 and 13, then the search.
+fn call(c: Call, tables: Tables, row: &mut [u8]) -> Result<Handed, Refusal>
+    ensures { out result row.new ≡ call_on c tables.entry.atoms.now tables.entry.bonds.now tables.entry.n tables.entry.m row.old }
+{
+    admit(tables, row)?;
     call_valid(c, tables, row)
 }
 

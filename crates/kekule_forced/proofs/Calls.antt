@@ -1,8 +1,8 @@
 -- What the second engine says of the buffers that `build` filled, in the terms of the molecule, and the ways of its calls. Assumes nothing.
 use Prim.Native.Nat.{ℕ, ◌-◌, ◌≤◌}
 use native.Mathlib.Omega.{arith}
-use mathlib.Core.Path.{◌≡◌, refl, ap, ◌∙◌}
-use mathlib.Core.Bool.{Bool, true, false, ◌&&◌}
+use mathlib.Core.Path.{◌≡◌, ap, ◌∙◌}
+use mathlib.Core.Bool.{true, false}
 use mathlib.Core.List.{List, ◌++◌}
 use lib.ListN.{length, take, replicate}
 use lib.IntN.{ℤ}
@@ -72,14 +72,6 @@ module _ (atoms bonds : List ℤ) (n m : ℕ) (row pairs : List ℕ) where
     pub first_done : sound atoms bonds n m ≡ true → {o : ForcedCallReply} → o ≡ with_list (row_call (matching_of atoms bonds n m) m First row) (forced_of atoms bonds n m) (length pairs) → o ≡ first_forced_on atoms bonds n m row pairs
     unfolding first_forced_on
     first_done f h = h ∙ simp (e, f)
-
--- the test for the next, which has no list: a list that is long enough asks nothing
-pub row-test : (atoms bonds : List ℤ) (len : ℕ) {r : Bool} → r ≡ roomy_list atoms bonds len max_bonds → r ≡ roomy atoms bonds len
-row-test atoms bonds len e = e ∙ and-true (roomy atoms bonds len)
-  where
-    and-true : (b : Bool) → (b && true) ≡ b
-    and-true true = refl
-    and-true false = refl
 
 -- the answer of the engine as an answer of the call
 pub told-as : (a : MatchingAnswer) (f : Found) {row pairs : List ℕ} {k : ℕ} {o : ForcedCallReply} → f ≡ found_of a → forced_call_reply (found_code (found_of a)) row k pairs ≡ o → forced_call_reply (found_code f) row k pairs ≡ o

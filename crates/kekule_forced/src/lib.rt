@@ -19,6 +19,7 @@ use refusal::Refusal;
 use table::{MAX_ATOMS, MAX_BONDS, Tables};
 
 // What the call for the first answers, and how many pairs are forced.
+// Stays: the count is handed back with a refusal too, where it is 0.
 #[derive(Clone, Copy)]
 pub struct ForcedFound {
     pub found: Result<Handed, Refusal>,
@@ -58,6 +59,8 @@ fn first_valid(tables: Tables, row: &mut [u8], pairs: &mut [u16]) -> ForcedAnswe
 }
 
 // The matching after the row, on valid tables.
+// Stays: beside `first_valid`, whose buffers are the same: a function lent the five buffers would only move their declaration, and
+// what each does with them differs in its arguments, answer and contract.
 fn next_valid(tables: Tables, row: &mut [u8]) -> MatchingAnswer
     requires valid { Valid tables.atoms.now tables.bonds.now tables.n tables.m }
     requires m_in_bounds { tables.m ≤ length row.old }
@@ -119,13 +122,6 @@ pub fn first_forced(tables: Tables, row: &mut [u8], pairs: &mut [u16]) -> Forced
 pub fn next_forced(tables: Tables, row: &mut [u8]) -> Result<Handed, Refusal>
     ensures { out result row.new ≡ call_on Call.Next tables.entry.atoms.now tables.entry.bonds.now tables.entry.n tables.entry.m row.old }
 {
-    let Tables { atoms, bonds, .. } = tables;
-    if !roomy(atoms, bonds, row.len(), MAX_BONDS) {
-        return Err(Refusal::Short);
-    }
-    if !table_validity::sound(tables) {
-        matching_search::clear(row, BondId(0));
-        return Err(Refusal::Invalid);
-    }
+    kekule::admit(tables, row)?;
     found_of(next_valid(tables, row))
 }

@@ -7,22 +7,16 @@ ghost use Rattle.table.specs.Valid.{Valid};
 ghost use Rattle.matching.specs.Enumeration.{row_call};
 ghost use Rattle.matching.specs.Model.{reply};
 ghost use Rattle.table_graph.specs.Graph.{matching_of};
-ghost use Rattle.kekule.specs.Kekule.{call_reply, out, roomy, call_on};
+ghost use Rattle.kekule.specs.Kekule.{call_reply, out, call_on};
 
-use ids::BondId;
 use kekule_answers::{Handed, found_code, found_of};
 use matching::{Call, EndTables, Links, MatchingAnswer};
 use refusal::Refusal;
 use table::{MAX_ATOMS, MAX_BONDS, Tables};
 
-// The tables and a row of a length are as long as they have to be.
-fn roomy(atoms: &[i32], bonds: &[i32], len: usize) -> bool
-    ensures { result ≡ roomy atoms.now bonds.now len }
-{
-    (MAX_BONDS <= len) & table_validity::enough(atoms, bonds)
-}
-
 // The search for one of the two calls, on the graph of valid tables.
+// Stays: beside the like function of `kekule`, which takes smaller buffers for small molecules and another engine: what both share is the
+// call that builds the graph.
 fn search_graph(c: Call, tables: Tables, row: &mut [u8]) -> MatchingAnswer
     requires valid { Valid tables.atoms.now tables.bonds.now tables.n tables.m }
     requires m_in_bounds { tables.m ≤ length row.old }
@@ -42,6 +36,7 @@ fn search_graph(c: Call, tables: Tables, row: &mut [u8]) -> MatchingAnswer
         },
         elided: &el[..m],
     };
+    // Stays: which call it is, is a value that definitions take (`row_call`), and a list of calls is a list of them.
     match c {
         Call::First => matching_search::first(links, &mut flags[..n], row),
         Call::Next => matching_search::next(links, &mut flags[..n], row),
@@ -52,15 +47,7 @@ fn search_graph(c: Call, tables: Tables, row: &mut [u8]) -> MatchingAnswer
 fn call(c: Call, tables: Tables, row: &mut [u8]) -> Result<Handed, Refusal>
     ensures { out result row.new ≡ call_on c tables.entry.atoms.now tables.entry.bonds.now tables.entry.n tables.entry.m row.old }
 {
-    let Tables { atoms, bonds, .. } = tables;
-    let len = row.len();
-    if !roomy(atoms, bonds, len) {
-        return Err(Refusal::Short);
-    }
-    if !table_validity::sound(tables) {
-        matching_search::clear(row, BondId(0));
-        return Err(Refusal::Invalid);
-    }
+    kekule::admit(tables, row)?;
     found_of(search_graph(c, tables, row))
 }
 

@@ -4,6 +4,7 @@ use mathlib.Core.Bool.{Bool, true, false, ◌&&◌, not}
 use mathlib.Core.List.{List, [], ◌∷◌}
 use Prim.Native.Nat.{ℕ, zero, suc, ◌+◌, ◌-◌, ◌≤◌, ◌<◌}
 use native.Mathlib.Omega.{arith}
+use mir.Val.{bool_byte}
 use native.Mathlib.Nat.{zero-add}
 use native.Mathlib.Numerals.{add-one}
 use native.Mathlib.Decide.{ℕ_discrete}
@@ -18,6 +19,11 @@ use Rattle.matching.specs.Cut.{cnt, odd?, odds, flips, marks}
 
 abbrev has : List ℕ → List ℕ → ℕ → ℕ → Bool
 has need lab v i = eqb (get_or need v 0) 1 && eqb (get_or lab v 0) i
+
+-- a `bool` as a number
+pub bit-byte : (b : Bool) → bool_byte b ≡ count_if b 0
+bit-byte true = refl
+bit-byte false = refl
 
 bit_le : (b : Bool) → count_if b 0 ≤ 1
 bit_le true = omega arith

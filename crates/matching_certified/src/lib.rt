@@ -66,20 +66,13 @@ fn parities(need: &[u8], lab: &[usize], odd: &mut [bool])
     }
 }
 
-fn one(b: bool) -> usize
-    ensures { result ≡ count_if b 0 }
-{
-    if b { 1 } else { 0 }
-}
-
 // How many of the labels other than 0 are marked.
 fn odd_labels(odd: &[bool]) -> usize
     ensures { result ≡ marks odd.now (length odd.now - 1) }
 {
     let mut n: usize = 0;
     for i in 1..odd.len() {
-        let x = one(odd[i]);
-        n = n + x;
+        n += usize::from(odd[i]);
     }
     n
 }

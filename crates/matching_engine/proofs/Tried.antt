@@ -13,9 +13,9 @@ use Rattle.matching.specs.Model.{Shape, Searched, all_from, free_at, mark_at, so
 use Rattle.matching_search.proofs.Flags.{restore}
 use Rattle.matching_search.proofs.Choice.{at-end, all-step, with-one, with-zero}
 use Rattle.matching_certified.proofs.Reason.{given-up}
-use Rattle.matching_engine.specs.declared.Sought.{Sought}
-use Rattle.matching_engine.specs.declared.Sought.TheVariants.{Found, Absent, GaveUp}
-use Rattle.matching_engine.specs.Tried.{Tried, paired_bond, Lasts}
+use Rattle.matching_engine.specs.declared.GaveUp.{GaveUp}
+use Rattle.std.specs.Prelude.{Ok, Err}
+use Rattle.matching_engine.specs.Tried.{Tried, Sought, Found, Absent, paired_bond, Lasts}
 
 differ : ◌≡◌ {A = ℕ} 0 1 → ⊥
 differ e = omega arith
@@ -50,7 +50,7 @@ not_chosen s e n = record {
   absent = λ q. rw (sym e ∙ n);
 }
 
-pub spent : {need row : List ℕ} {k m : ℕ} {fs : List Row} → Tried need row k m fs GaveUp need row
+pub spent : {need row : List ℕ} {k m : ℕ} {fs : List Row} {g : GaveUp} → Tried need row k m fs (Err g) need row
 spent = record { same = refl; front = refl; back = refl; found = λ q. absurd (differ (cc)); absent = λ q. absurd (differ (cc)) }
 
 pub chosen : {ea eb el need row : List ℕ} {k : ℕ} {f : Bool} → Shape ea eb el need row k → k < length ea → f ≡ free_at ea eb el need k → f ≡ true
@@ -138,6 +138,9 @@ module _ {ea eb el need row₀ : List ℕ} {k i : ℕ} {need' row : List ℕ} (s
     along-told n = a.rest o need1 row1
         (subst (λ (fs : List Row). Tried need row i (length ea) fs o need1 row1) (sym parts) (widen (map (λ r. 0 ∷ r) (all_from ea eb el need (i + 1))) tried n))
 
+    pub along-as : {o' : Sought} → o ≡ o' → (o' ≡ Absent → ⊥) → Tried need row₀ k (length ea) (all_from ea eb el need k) o' need1 row1
+    along-as {o'} e n = subst (λ (x : Sought). Tried need row₀ k (length ea) (all_from ea eb el need k) x need1 row1) e (along-told (λ q. n (sym e ∙ q)))
+
     -- there is none with the bond i: it is left
     pub along-step : o ≡ Absent → length row1 ≡ length row → Along ea eb el need row₀ k (i + 1) need1 (set row1 i 0)
     along-step q l = record {
@@ -169,6 +172,11 @@ module _ {ea eb el need row₀ : List ℕ} {k i : ℕ} {need' row : List ℕ} (s
       empty : (fs : List Row) → some? fs ≡ false → fs ≡ []
       empty [] e = refl
       empty (f ∷ fs) e = cc
+
+  -- the same, whichever it is
+  pub along-all : length ea ≤ i → (r : Bool) → r ≡ none_flagged need' → Tried need row₀ k (length ea) (all_from ea eb el need k) (Ok r) need' row
+  along-all h true e = along-found h e refl
+  along-all h false e = along-end h e refl
 
 -- what follows on the answer of the search under a budget
 module _ {ea eb el need row : List ℕ} {k : ℕ} (s : Shape ea eb el need row k) {o : Sought} {need1 row1 : List ℕ} (t : Tried need row k (length ea) (all_from ea eb el need k) o need1 row1) where

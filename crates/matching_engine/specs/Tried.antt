@@ -1,11 +1,20 @@
 -- auxiliary: what the contracts of the search under a budget ask and promise
-use Rattle.std.specs.Prelude.{◌≡◌, true, false, List, [], ◌∷◌, map, ℕ, ◌+◌, ◌<◌, ◌≤◌, length, take, drop, get_or}
+use Rattle.std.specs.Prelude.{◌≡◌, Bool, true, false, Result, Ok, List, [], ◌∷◌, map, ℕ, ◌+◌, ◌<◌, ◌≤◌, length, take, drop, get_or}
 use Rattle.loops.specs.Loop.{pick}
 use Rattle.matching.specs.Enumeration.{Row}
 use Rattle.matching.specs.Graph.{flagged, touches}
 use Rattle.matching.specs.Model.{Searched, all_from, free_at, mark_at, table_bond}
-use Rattle.matching_engine.specs.declared.Sought.{Sought}
-use Rattle.matching_engine.specs.declared.Sought.TheVariants.{Found, Absent}
+use Rattle.matching_engine.specs.declared.GaveUp.{GaveUp}
+
+-- the answer of a search under a budget: whether there is a matching, or that it gave up
+abbrev pub Sought : Type 0
+Sought = Result Bool GaveUp
+
+abbrev pub Found : Sought
+Found = Ok true
+
+abbrev pub Absent : Sought
+Absent = Ok false
 
 -- a search over the rows fs under a budget: the flags are as before, and so is the row outside k to m; giving up says no more
 pub record Tried (need row : List ℕ) (k m : ℕ) (fs : List Row) (o : Sought) (need' row' : List ℕ) : Type 0 where

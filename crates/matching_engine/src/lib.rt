@@ -17,13 +17,9 @@ use matching::{Links, MatchingAnswer};
 // How many bonds the plain search may choose before it gives up.
 const BUDGET: usize = 400;
 
-// What a search under a budget says.
+// A search under a budget gave up.
 #[derive(Clone, Copy)]
-pub enum Sought {
-    Found,
-    Absent,
-    GaveUp,
-}
+pub struct GaveUp;
 
 // The atom v gets the number of the bond k.
 fn note(last: &mut [usize], v: AtomId, k: BondId)
@@ -112,7 +108,7 @@ fn spend(budget: &mut usize) -> bool {
     true
 }
 
-// The first matching of the bonds from k on that chooses the bond k, if it can be chosen.
+// The first matching of the bonds from k on that chooses the bond k, if it can be chosen: whether there is one.
 #[cycle(choose_seek)]
 fn choose(
     links: Links,
@@ -121,16 +117,16 @@ fn choose(
     last: &[usize],
     k: BondId,
     budget: &mut usize,
-) -> Sought
+) -> Result<bool, GaveUp>
     requires shape { Shape links.ends.first.now links.ends.second.now links.elided.now need.old row.old k.0 }
     requires k_in_bounds { (k.0 < length links.ends.first.now) × Lasts links.ends.first.now links.ends.second.now links.elided.now need.old last.now }
     ensures { Tried need.old row.old k.0 (length links.entry.ends.first.now) (paired_bond links.entry.ends.first.now links.entry.ends.second.now links.entry.elided.now need.old k.0) result need.new row.new }
 {
     if !matching_search::choosable(links, need, k) {
-        return Sought::Absent;
+        return Ok(false);
     }
     if !spend(budget) {
-        return Sought::GaveUp;
+        return Err(GaveUp);
     }
     let at = k.0;
     let next = at + 1;
@@ -150,26 +146,22 @@ fn seek(
     last: &[usize],
     k: BondId,
     budget: &mut usize,
-) -> Sought
+) -> Result<bool, GaveUp>
     requires shape { Shape links.ends.first.now links.ends.second.now links.elided.now need.old row.old k.0 }
     requires lasts { Lasts links.ends.first.now links.ends.second.now links.elided.now need.old last.now }
     ensures { Tried need.old row.old k.0 (length links.entry.ends.first.now) (all_from links.entry.ends.first.now links.entry.ends.second.now links.entry.elided.now need.old k.0) result need.new row.new }
 {
     for at in k.0..links.ends.first.len() {
-        let got = choose(links, need, row, last, BondId(at), budget);
-        let Sought::Absent = got else {
-            return got;
-        };
+        let found = choose(links, need, row, last, BondId(at), budget)?;
+        if found {
+            return Ok(true);
+        }
         row[at] = 0;
         if dead_end(links, need, last, BondId(at)) {
-            return Sought::Absent;
+            return Ok(false);
         }
     }
-    if matching_search::all_paired(need) {
-        Sought::Found
-    } else {
-        Sought::Absent
-    }
+    Ok(matching_search::all_paired(need))
 }
 
 // The first matching of the bonds from k on, written to the row from k on; zeros where there is none.
@@ -181,12 +173,12 @@ fn seek_any(links: Links, need: &mut [u8], row: &mut [u8], last: &[usize], k: Bo
     let mut budget = BUDGET;
     let got = seek(links, need, row, last, k, &mut budget);
     match got {
-        Sought::Found => true,
-        Sought::Absent => {
+        Ok(true) => true,
+        Ok(false) => {
             matching_search::blank(row, k, BondId(links.ends.first.len()));
             false
         }
-        Sought::GaveUp => matching_certified::seek(links, need, row, k),
+        Err(GaveUp) => matching_certified::seek(links, need, row, k),
     }
 }
 

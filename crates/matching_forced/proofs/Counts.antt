@@ -209,3 +209,7 @@ module _ {p : ℕ → Bool} {m i : ℕ} (w : Sought p m i) where
   pub sought-end : m ≤ i → m ≡ lowest p 0 m
   unfolding lowest
   sought-end h = let d : m - i ≡ 0 = omega arith in let q : i ≡ m = omega (arith, w.within) in sym (w.same ∙ rw d q)
+
+-- none passes: the lowest is past the last
+pub none-lowest : {m k : ℕ} → m ≡ k → m ≤ k
+none-lowest e = omega arith

@@ -19,8 +19,8 @@ use Rattle.matching.proofs.Claims.{empty-iff}
 use Rattle.matching_search.proofs.Flags.{never, restore}
 use Rattle.matching.proofs.Graph.{matching-pairs}
 use Rattle.matching_engine.specs.Tried.{Tried}
-use Rattle.matching_engine.specs.declared.Sought.{Sought}
-use Rattle.matching_engine.specs.declared.Sought.TheVariants.{Found, Absent}
+use Rattle.std.specs.Prelude.{Ok}
+use Rattle.matching_engine.specs.Tried.{Sought, Found, Absent}
 use Rattle.matching_engine.proofs.Tried.{then-blank, then-certified}
 use Rattle.matching_forced.specs.Forced.{forces, forced_bond, forced_from, pair_at}
 use Rattle.matching_forced.specs.Steps.{backward, undone, ones, Ones, off, lowest_free, free_total, pair_all, all_of, taken_of, left_of, Chosen, Roomy, Filled}
@@ -53,6 +53,10 @@ bonds-off (a ∷ ea) [] el k h i l = absurd (omega arith)
 bonds-off (a ∷ ea) (b ∷ eb) [] k h i l = absurd (omega arith)
 bonds-off (a ∷ ea) (b ∷ eb) (e ∷ el) zero h i l = refl
 bonds-off (a ∷ ea) (b ∷ eb) (e ∷ el) (suc k) h i l = ap {B = List Bond} (λ x. record { end1 = a; end2 = b; elided = eqb e 1 } ∷ x) (bonds-off ea eb el k (omega arith) (omega arith) (omega arith))
+
+-- an answer by another name
+pub tried-as : {need row need' row' : List ℕ} {k m : ℕ} {fs : List Row} {o o' : Sought} → o ≡ o' → Tried need row k m fs o need' row' → Tried need row k m fs o' need' row'
+tried-as {need} {row} {need'} {row'} {k} {m} {fs} e t = subst (λ (x : Sought). Tried need row k m fs x need' row') e t
 
 -- more rows behind those that were searched
 widen : {need row : List ℕ} {m : ℕ} {A : List Row} {o : Sought} {need' row' : List ℕ} (B : List Row) → Tried need row 0 m A o need' row' → (o ≡ Absent → ⊥) → Tried need row 0 m (A ++ B) o need' row'
@@ -178,6 +182,13 @@ module _ {ea eb el need row : List ℕ} {b : ℕ} (s : Shape ea eb el need row 0
 
     pub end-absent : r ≡ false → Tried need row 0 (length ea) (all_of Bs' need) Absent need row1
     end-absent n = record { same = refl; front = refl; back = back_end; found = λ q. absurd (differ (cc)); absent = λ q. all_end ∙ rw n }
+
+    pub end-all : Tried need row 0 (length ea) (all_of Bs' need) (Ok r) need row1
+    end-all = go r refl
+      where
+        go : (b : Bool) → r ≡ b → Tried need row 0 (length ea) (all_of Bs' need) (Ok r) need row1
+        go true e = tried-as (ap Ok (sym e)) (end-found e)
+        go false e = tried-as (ap Ok (sym e)) (end-absent e)
 
   module _ (h : b < length ea) where
     pub in-bonds : lowest_free Bs' need < length Bs'

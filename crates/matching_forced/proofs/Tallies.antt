@@ -10,12 +10,18 @@ use lib.Dec.{eqb}
 use lib.ListN.{length, get_or, length-set}
 use lib.Seq.{get_or-set_same, get_or-set_other}
 use borrow.Author.Tests.{eq-eqb, ne_eqb, eqb-true, lt-ltb, le-ltb}
+use Rattle.ids.specs.declared.AtomId.{AtomId}
+use Rattle.ids.specs.declared.BondId.{BondId}
+use Rattle.loops.proofs.Loops.{and_right}
 use Rattle.loops.specs.Loop.{pick}
+use Rattle.std.specs.Prelude.{Option, Some, None}
+use Rattle.std.specs.Option.{is_some}
+use Rattle.matching_search.proofs.Flags.{never as never'}
 use Rattle.matching.specs.Graph.{Bond, flagged, count_if, touches}
 use Rattle.matching.specs.Model.{bonds_of, table_bond, free_at, BondTables, Ends}
-use Rattle.matching_forced.specs.Forced.{free_of, free_count, free_bond, lowest, unpaired_with, lowest_with, stuck, forces, forced_bond}
-use Rattle.matching_forced.specs.Steps.{bumped, raised, with_count, Counts}
-use Rattle.matching_forced.proofs.Counts.{Counted, counted_start, counted_step, counted-end, lowest-same}
+use Rattle.matching_forced.specs.Forced.{free_of, free_count, free_bond, lowest, unpaired_with, lowest_with, lowest_forced, stuck, forces, forced_bond}
+use Rattle.matching_forced.specs.Steps.{bumped, raised, with_count, Counts, LowestAtom, LowestBond, ForcedBond}
+use Rattle.matching_forced.proofs.Counts.{Counted, counted_start, counted_step, counted-end, lowest-same, lowest-passes, count-one}
 use Rattle.matching_forced.proofs.Tables.{bonds_long, free-at}
 
 -- one more at an atom, and at two
@@ -100,29 +106,58 @@ module _ {ea eb el need counts₀ counts : List ℕ} {i : ℕ} (t : BondTables e
   unfolding free_count
   tallied-end h = record { each = λ v l. rw (bonds_long t) (counted-end (w.each v) h) }
 
+-- a search that found one, and one that found none
+some-below : {k m : ℕ} (r : Option AtomId) → LowestAtom k m r → is_some r ≡ true → k < m
+some-below (Some v) w y = omega (arith, w.0, w.1)
+some-below None w y = absurd (never' y)
+
+none-past : {k m : ℕ} (r : Option AtomId) → LowestAtom k m r → is_some r ≡ false → m ≤ k
+none-past (Some v) w n = absurd (never' (sym n))
+none-past None w n = w
+
 -- the turn, by the counts
 module _ {bs : List Bond} {need counts : List ℕ} (w : Counts bs need counts) where
   lowest-is : (d : ℕ) → lowest (with_count need counts d) 0 (length need) ≡ lowest_with d bs need
   unfolding lowest_with
   lowest-is d = lowest-same (with_count need counts d) (unpaired_with d bs need) (length need) (λ v l. ap (λ (c : ℕ). flagged need v && eqb c d) (w.each v l))
 
-  module _ {a : ℕ} (alone : a ≡ lowest (with_count need counts 0) 0 (length need)) where
-    pub said-stuck : a < length need → stuck bs need ≡ true
+  -- an atom with no free bond
+  module _ (alone : Option AtomId) (at : LowestAtom (lowest (with_count need counts 0) 0 (length need)) (length need) alone) where
+    pub said-stuck : is_some alone ≡ true → stuck bs need ≡ true
     unfolding stuck
-    said-stuck h = lt-ltb (lowest_with 0 bs need) (length need) (omega (arith, alone ∙ lowest-is 0))
+    said-stuck y = lt-ltb (lowest_with 0 bs need) (length need) (omega (arith, some-below alone at y, lowest-is 0))
 
-    module _ (h : length need ≤ a) {v : ℕ} (one : v ≡ lowest (with_count need counts 1) 0 (length need)) where
-      not_stuck : stuck bs need ≡ false
-      unfolding stuck
-      not_stuck = le-ltb (lowest_with 0 bs need) (length need) (omega (arith, alone ∙ lowest-is 0))
+    pub not_stuck : is_some alone ≡ false → stuck bs need ≡ false
+    unfolding stuck
+    not_stuck n = le-ltb (lowest_with 0 bs need) (length need) (omega (arith, none-past alone at n, lowest-is 0))
 
-      pub said-pair : v < length need → {k : ℕ} → k ≡ free_bond bs need v → (forces bs need ≡ true) × (k ≡ forced_bond bs need)
-      unfolding forces forced_bond
-      said-pair l e = (rw (not_stuck, lt-ltb (lowest_with 1 bs need) (length need) (omega (arith, one ∙ lowest-is 1))), e ∙ ap (free_bond bs need) (one ∙ lowest-is 1))
+  -- the lowest atom with exactly one
+  module _ (v : AtomId) (one : LowestAtom (lowest (with_count need counts 1) 0 (length need)) (length need) (Some v)) where
+    one-is : v.0 ≡ lowest_forced bs need
+    one-is = one.0 ∙ lowest-is 1
 
-      pub said-rests : length need ≤ v → (stuck bs need ≡ false) × (forces bs need ≡ false)
-      unfolding forces
-      said-rests l = (not_stuck, rw (not_stuck, le-ltb (lowest_with 1 bs need) (length need) (omega (arith, one ∙ lowest-is 1))))
+    has-one : free_count bs need v.0 ≡ 1
+    unfolding lowest_with
+    has-one =
+        let l : lowest_with 1 bs need < length need = omega (arith, one-is, one.1) in
+        rw one-is (eqb-true (free_count bs need (lowest_with 1 bs need)) 1 (and_right (flagged need (lowest_with 1 bs need)) (eqb (free_count bs need (lowest_with 1 bs need)) 1) (lowest-passes (unpaired_with 1 bs need) (length need) l)))
+
+    pub bond-of-one : {m : ℕ} → length bs ≡ m → (k : Option BondId) → LowestBond (free_bond bs need v.0) m k → ForcedBond bs need k
+    unfolding forced_bond free_bond free_count
+    bond-of-one e (Some b) w = (omega (arith, one-is, one.1), w.0 ∙ ap (free_bond bs need) one-is)
+    bond-of-one e None w = absurd (omega (arith, (count-one (free_of bs need v.0) (length bs) has-one).inside))
+
+  pub no-one : LowestAtom (lowest (with_count need counts 1) 0 (length need)) (length need) None → ForcedBond bs need None
+  no-one w = omega (arith, lowest-is 1)
+
+  -- the turn, by its bond
+  pub said-pair : stuck bs need ≡ false → (k : BondId) → ForcedBond bs need (Some k) → (forces bs need ≡ true) × (k.0 ≡ forced_bond bs need)
+  unfolding forces
+  said-pair n k h = (rw (n, lt-ltb (lowest_with 1 bs need) (length need) h.0), h.1)
+
+  pub said-rests : stuck bs need ≡ false → ForcedBond bs need None → (stuck bs need ≡ false) × (forces bs need ≡ false)
+  unfolding forces
+  said-rests n h = (n, rw (n, le-ltb (lowest_with 1 bs need) (length need) h))
 
 -- the ways of `raise_ends`
 module _ (counts : List ℕ) {counts1 : List ℕ} {x y b : ℕ} where

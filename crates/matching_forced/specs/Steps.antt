@@ -1,13 +1,15 @@
 -- auxiliary: what the contracts of the engine's functions ask and promise
-use Rattle.std.specs.Prelude.{Bool, true, false, ◌&&◌, ◌≡◌, List, [], ◌∷◌, ◌++◌, map, ℕ, ◌+◌, ◌-◌, ◌<◌, ◌≤◌, eqb, length, drop, set, get_or, replicate}
+use Rattle.std.specs.Prelude.{Bool, true, false, ◌&&◌, ◌≡◌, List, [], ◌∷◌, ◌++◌, map, ℕ, ◌+◌, ◌-◌, ◌<◌, ◌≤◌, eqb, length, drop, set, get_or, replicate, Option, Some, None}
 use Rattle.loops.specs.Loop.{pick}
+use Rattle.ids.specs.declared.AtomId.{AtomId}
+use Rattle.ids.specs.declared.BondId.{BondId}
 use Rattle.matching.specs.Enumeration.{Row, matchings, is_row, before, row_first}
 use Rattle.matching.specs.declared.MatchingAnswer.{MatchingAnswer}
 use Rattle.matching.specs.Graph.{Bond, flagged, nth_bond, is_matching}
 use Rattle.matching.specs.Limits.{max_atoms, max_bonds}
 use Rattle.matching.specs.Model.{free, free_at, bonds_of, mark_at, reply}
 use Rattle.matching_forced.specs.declared.Turn.{Turn}
-use Rattle.matching_forced.specs.Forced.{count, lowest, free_count, stuck, forces, forced_bond, pair_at, forced_from, forced_list}
+use Rattle.matching_forced.specs.Forced.{count, lowest, free_count, lowest_forced, stuck, forces, forced_bond, pair_at, forced_from, forced_list}
 
 -- one more at the atom v
 abbrev pub bumped : List ℕ → ℕ → List ℕ
@@ -24,6 +26,20 @@ pub record Counts (bs : List Bond) (need counts : List ℕ) : Type 0 where
 -- the atom v is unpaired and has the count d
 abbrev pub with_count : List ℕ → List ℕ → ℕ → ℕ → Bool
 with_count need counts d v = flagged need v && eqb (get_or counts v 0) d
+
+-- a search for the lowest of m numbers that passes, which is k: the one found; where none is, k is past the last
+abbrev pub LowestAtom : ℕ → ℕ → Option AtomId → Type 0
+LowestAtom k m (Some v) = (v.0 ≡ k) × (v.0 < m)
+LowestAtom k m None = m ≤ k
+
+abbrev pub LowestBond : ℕ → ℕ → Option BondId → Type 0
+LowestBond k m (Some b) = (b.0 ≡ k) × (b.0 < m)
+LowestBond k m None = m ≤ k
+
+-- the only free bond of the lowest atom that has exactly one; none where no atom has
+abbrev pub ForcedBond : List Bond → List ℕ → Option BondId → Type 0
+ForcedBond bs need (Some b) = (lowest_forced bs need < length need) × (b.0 ≡ forced_bond bs need)
+ForcedBond bs need None = length need ≤ lowest_forced bs need
 
 -- what a turn of the rule says
 abbrev pub Says : List Bond → List ℕ → Turn → Type 0

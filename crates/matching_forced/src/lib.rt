@@ -9,17 +9,18 @@ ghost use Rattle.matching.specs.Graph.{is_matching};
 ghost use Rattle.matching.specs.Limits.{max_atoms, max_bonds};
 ghost use Rattle.matching.specs.Model.{BondTables, Ends, Shape, Searched, bonds_of, reply};
 ghost use Rattle.matching_engine.specs.Tried.{Tried};
-ghost use Rattle.matching_forced.specs.Forced.{lowest, free_of, free_bond};
-ghost use Rattle.matching_forced.specs.Steps.{bumped, raised, with_count, Counts, Turned, Roomy, Filled, ones, zeros, undone, Ones, lowest_free, Chosen, off, all_of, taken_of, left_of, later_of, later_with, is_of, FirstReply};
+ghost use Rattle.matching_forced.specs.Forced.{free_of, free_bond, lowest};
+ghost use Rattle.matching_forced.specs.Steps.{bumped, raised, with_count, Counts, LowestAtom, LowestBond, ForcedBond, Turned, Roomy, Filled, ones, zeros, undone, Ones, lowest_free, Chosen, off, all_of, taken_of, left_of, later_of, later_with, is_of, FirstReply};
 
 use ids::{AtomId, BondId, MAX_ATOMS};
 use matching::{EndTables, Links, MatchingAnswer};
-use matching_engine::Sought;
+use matching_engine::GaveUp;
 
 // How many pairs the search may make before it gives up.
 const BUDGET: usize = 2000;
 
 // What a turn of the rule gives.
+// Stays: three ways, each with its name; a Result of an Option says no more and hides which is which.
 #[derive(Clone, Copy)]
 pub enum Turn {
     // An unpaired atom has no free bond: there is no matching.
@@ -31,6 +32,7 @@ pub enum Turn {
 }
 
 // The pairs that were forced: how many, and whether an atom is stuck after them.
+// Stays: the count is told in both cases, to take the pairs back.
 #[derive(Clone, Copy)]
 pub struct Forcing {
     pub count: usize,
@@ -38,6 +40,7 @@ pub struct Forcing {
 }
 
 // What the call for the first answers, and how many pairs are forced.
+// Stays: the count is told with each answer.
 #[derive(Clone, Copy)]
 pub struct ForcedAnswer {
     pub answer: MatchingAnswer,
@@ -83,17 +86,17 @@ fn fill_counts(links: Links, need: &[u8], counts: &mut [u16])
     }
 }
 
-// The lowest unpaired atom with the count d; the number of atoms where there is none.
-fn lowest_with(need: &[u8], counts: &[u16], d: u16) -> AtomId
+// The lowest unpaired atom with the count d.
+fn lowest_with(need: &[u8], counts: &[u16], d: u16) -> Option<AtomId>
     requires { length need.now ≤ length counts.now }
-    ensures { result.0 ≡ lowest (with_count need.now counts.now d) 0 (length need.now) }
+    ensures { LowestAtom (lowest (with_count need.now counts.now d) 0 (length need.now)) (length need.now) result }
 {
     for v in 0..need.len() {
         if matching_search::unpaired(need, AtomId(v)) & (counts[v] == d) {
-            return AtomId(v);
+            return Some(AtomId(v));
         }
     }
-    AtomId(need.len())
+    None
 }
 
 // The bond k is free and has the atom v as an end.
@@ -110,17 +113,27 @@ fn free_of(links: Links, need: &[u8], v: AtomId, k: BondId) -> bool
     matching_search::choosable(links, need, k) & ((a == at) | (b == at))
 }
 
-// The first free bond of the atom v; the number of bonds where it has none.
-fn free_bond(links: Links, need: &[u8], v: AtomId) -> BondId
+// The first free bond of the atom v.
+fn free_bond(links: Links, need: &[u8], v: AtomId) -> Option<BondId>
     requires { BondTables links.ends.first.now links.ends.second.now links.elided.now need.now 0 }
-    ensures { result.0 ≡ free_bond (bonds_of links.entry.ends.first.now links.entry.ends.second.now links.entry.elided.now) need.now v.0 }
+    ensures { LowestBond (free_bond (bonds_of links.entry.ends.first.now links.entry.ends.second.now links.entry.elided.now) need.now v.0) (length links.entry.ends.first.now) result }
 {
     for i in 0..links.ends.first.len() {
         if free_of(links, need, v, BondId(i)) {
-            return BondId(i);
+            return Some(BondId(i));
         }
     }
-    BondId(links.ends.first.len())
+    None
+}
+
+// The only free bond of the lowest atom that has exactly one.
+fn forced_bond(links: Links, need: &[u8], counts: &[u16]) -> Option<BondId>
+    requires bond_tables { BondTables links.ends.first.now links.ends.second.now links.elided.now need.now 0 }
+    requires counted { Counts (bonds_of links.ends.first.now links.ends.second.now links.elided.now) need.now counts.now × (length need.now ≤ length counts.now) }
+    ensures { ForcedBond (bonds_of links.entry.ends.first.now links.entry.ends.second.now links.entry.elided.now) need.now result }
+{
+    let v = lowest_with(need, counts, 1)?;
+    free_bond(links, need, v)
 }
 
 // One turn of the rule.
@@ -131,17 +144,13 @@ fn take_turn(links: Links, need: &[u8]) -> Turn
 {
     let mut counts = [0u16; MAX_ATOMS];
     fill_counts(links, need, &mut counts);
-    let alone = lowest_with(need, &counts, 0);
-    let stuck = alone.0;
-    if stuck < need.len() {
+    if lowest_with(need, &counts, 0).is_some() {
         return Turn::Stuck;
     }
-    let forcing = lowest_with(need, &counts, 1);
-    let v = forcing.0;
-    if v < need.len() {
-        return Turn::Pair(free_bond(links, need, forcing));
+    match forced_bond(links, need, &counts) {
+        Some(bond) => Turn::Pair(bond),
+        None => Turn::Rests,
     }
-    Turn::Rests
 }
 
 // internal: the forced list, filled into pairs from its start; need is left with the flags of the atoms that stay unpaired.
@@ -205,17 +214,17 @@ fn undo(ends: EndTables, need: &mut [u8], pairs: &[u16], n: usize)
     }
 }
 
-// The lowest free bond; the number of bonds where there is none.
-fn lowest_free(links: Links, need: &[u8]) -> BondId
+// The lowest free bond.
+fn lowest_free(links: Links, need: &[u8]) -> Option<BondId>
     requires { BondTables links.ends.first.now links.ends.second.now links.elided.now need.now 0 }
-    ensures { result.0 ≡ lowest_free (bonds_of links.entry.ends.first.now links.entry.ends.second.now links.entry.elided.now) need.now }
+    ensures { LowestBond (lowest_free (bonds_of links.entry.ends.first.now links.entry.ends.second.now links.entry.elided.now) need.now) (length links.entry.ends.first.now) result }
 {
     for i in 0..links.ends.first.len() {
         if matching_search::choosable(links, need, BondId(i)) {
-            return BondId(i);
+            return Some(BondId(i));
         }
     }
-    BondId(links.ends.first.len())
+    None
 }
 
 // The first matching with the free bond b.
@@ -228,7 +237,7 @@ fn with_bond(
     pairs: &mut [u16],
     b: BondId,
     budget: &mut usize,
-) -> Sought
+) -> Result<bool, GaveUp>
     requires shape { Shape ends.first.now ends.second.now el.old need.old row.old 0 }
     requires roomy { Roomy ends.first.now ends.second.now el.old need.old pairs.old × Chosen ends.first.now ends.second.now el.old need.old b.0 }
     ensures tried { Tried need.old row.old 0 (length ends.entry.first.now) (taken_of (bonds_of ends.entry.first.now ends.entry.second.now el.old) need.old b.0) result need.new row.new }
@@ -237,12 +246,11 @@ fn with_bond(
     matching_search::mark(ends, need, b, 0);
     let got = seek(ends, el, need, row, pairs, budget);
     matching_search::mark(ends, need, b, 1);
-    let Sought::Found = got else {
-        return got;
-    };
-    let at = b.0;
-    row[at] = 1;
-    Sought::Found
+    let found = got?;
+    if found {
+        row[b.0] = 1;
+    }
+    Ok(found)
 }
 
 // The first matching without the free bond b.
@@ -255,7 +263,7 @@ fn without_bond(
     pairs: &mut [u16],
     b: BondId,
     budget: &mut usize,
-) -> Sought
+) -> Result<bool, GaveUp>
     requires shape { Shape ends.first.now ends.second.now el.old need.old row.old 0 }
     requires roomy { Roomy ends.first.now ends.second.now el.old need.old pairs.old × Chosen ends.first.now ends.second.now el.old need.old b.0 }
     ensures tried { Tried need.old row.old 0 (length ends.entry.first.now) (left_of (bonds_of ends.entry.first.now ends.entry.second.now el.old) need.old b.0) result need.new row.new }
@@ -278,7 +286,7 @@ fn choose(
     pairs: &mut [u16],
     stuck: bool,
     budget: &mut usize,
-) -> Sought
+) -> Result<bool, GaveUp>
     requires shape { Shape ends.first.now ends.second.now el.old need.old row.old 0 }
     requires roomy { Roomy ends.first.now ends.second.now el.old need.old pairs.old }
     requires need_value { stuck ≡ true → all_of (bonds_of ends.first.now ends.second.now el.old) need.old ≡ [] }
@@ -286,25 +294,19 @@ fn choose(
     ensures el_unchanged { el.new ≡ el.old }
 {
     if stuck {
-        return Sought::Absent;
+        return Ok(false);
     }
-    let b = lowest_free(Links { ends, elided: el }, need);
-    let at = b.0;
-    if ends.first.len() <= at {
+    let Some(b) = lowest_free(Links { ends, elided: el }, need) else {
         matching_search::blank(row, BondId(0), BondId(ends.first.len()));
-        return if matching_search::all_paired(need) {
-            Sought::Found
-        } else {
-            Sought::Absent
-        };
-    }
-    if *budget == 0 {
-        return Sought::GaveUp;
-    }
-    let got = with_bond(ends, el, need, row, pairs, b, budget);
-    let Sought::Absent = got else {
-        return got;
+        return Ok(matching_search::all_paired(need));
     };
+    if *budget == 0 {
+        return Err(GaveUp);
+    }
+    let found = with_bond(ends, el, need, row, pairs, b, budget)?;
+    if found {
+        return Ok(true);
+    }
     without_bond(ends, el, need, row, pairs, b, budget)
 }
 
@@ -317,7 +319,7 @@ fn seek(
     row: &mut [u8],
     pairs: &mut [u16],
     budget: &mut usize,
-) -> Sought
+) -> Result<bool, GaveUp>
     requires shape { Shape ends.first.now ends.second.now el.old need.old row.old 0 }
     requires roomy { Roomy ends.first.now ends.second.now el.old need.old pairs.old }
     ensures tried { Tried need.old row.old 0 (length ends.entry.first.now) (all_of (bonds_of ends.entry.first.now ends.entry.second.now el.old) need.old) result need.new row.new }
@@ -328,11 +330,11 @@ fn seek(
     *budget = budget.saturating_sub(n).saturating_sub(1);
     let got = choose(ends, el, need, row, &mut pairs[n..], forcing.stuck, budget);
     undo(ends, need, pairs, n);
-    let Sought::Found = got else {
-        return got;
-    };
-    set_ones(row, pairs, n);
-    Sought::Found
+    let found = got?;
+    if found {
+        set_ones(row, pairs, n);
+    }
+    Ok(found)
 }
 
 // The first matching, written to the row up to the last bond; zeros where there is none. Where the budget is spent, the certified search answers.
@@ -351,17 +353,12 @@ fn seek_any(
     let mut budget = BUDGET;
     let got = seek(ends, el, need, row, pairs, &mut budget);
     match got {
-        Sought::Found => true,
-        Sought::Absent => {
+        Ok(true) => true,
+        Ok(false) => {
             matching_search::blank(row, BondId(0), BondId(ends.first.len()));
             false
         }
-        Sought::GaveUp => matching_certified::seek(
-            Links { ends, elided: el },
-            need,
-            row,
-            BondId(0),
-        ),
+        Err(GaveUp) => matching_certified::seek(Links { ends, elided: el }, need, row, BondId(0)),
     }
 }
 
@@ -456,6 +453,8 @@ fn later_without(
 }
 
 // The first matching of all without the free bond b.
+// Stays: beside `without_bond` and `later_without`, which differ in the search that they call: a function lent for it would take all
+// these parameters again, and two of the three searches call themselves through it.
 fn first_without(
     ends: EndTables,
     el: &mut [u8],
@@ -491,12 +490,10 @@ fn later_left(
     ensures searched { Searched need.old row.old 0 (length ends.entry.first.now) (later_of (bonds_of ends.entry.first.now ends.entry.second.now el.old) need.old (take (length ends.entry.first.now) row.old)) result need.new row.new }
     ensures el_unchanged { el.new ≡ el.old }
 {
-    let b = lowest_free(Links { ends, elided: el }, need);
-    let at = b.0;
-    if ends.first.len() <= at {
+    let Some(b) = lowest_free(Links { ends, elided: el }, need) else {
         return false;
-    }
-    if row[at] == 1 {
+    };
+    if row[b.0] == 1 {
         if later_with(ends, el, need, row, pairs, b) {
             return true;
         }

@@ -88,6 +88,7 @@ pub fn report_block(g: Progress, s: &[u8], from: usize, out: &mut [u8]) -> Repor
     let mut tally = g.tally;
     let mut at = from;
     let mut used = 0;
+    // Stays: a turn takes a line and lays its report, so neither place moves by a step that is known before.
     while used + LINE_ROOM <= out.len() {
         let f = line.fill(s, at);
         let l = f.line;

@@ -20,6 +20,7 @@ fn lay(input: &[u8], out: &mut [u8]) -> usize
         refused: 0,
     };
     let mut from = 0;
+    // Stays: a split gives an empty piece more after a last newline, which is no line of the report, or leaves the newlines in.
     while from < input.len() {
         let end = line_end(input, from);
         let r = report_entry::report_line(tally.number, &input[from..end], out, at);

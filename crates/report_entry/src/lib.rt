@@ -20,6 +20,7 @@ use table::{ATOM_CELLS, BOND_CELLS, MAX_ATOMS, MAX_BONDS, Tables};
 pub const LINE_ROOM: usize = 91 + (MAX_BONDS + MAX_TEXT);
 
 // Whether the text was accepted, and the place after its line.
+// Stays: a refused text has a line too, so the place is told either way, and both answers would hold the same number.
 #[derive(Clone, Copy)]
 pub struct Reported {
     pub accepted: bool,

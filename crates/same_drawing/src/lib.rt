@@ -119,12 +119,11 @@ pub fn same_cells(atoms1: &[i32], a: AtomId, atoms2: &[i32], b: AtomId) -> bool
     isotope & hydrogens & charge & extension
 }
 
-// 0 or 1.
-// Stays: the cells of the matrix are numbers, as `match_cell` and the definitions over it state them.
+// 0 or 1: the cells of the matrix are numbers.
 fn flag(b: bool) -> u8
     ensures { result ≡ flag b }
 {
-    if b { 1 } else { 0 }
+    u8::from(b)
 }
 
 // Whether an atom may go to another: their keys are equal, and their cells match.

@@ -29,13 +29,6 @@ flag_one false = refl
 flag_true : (b : Bool) → flag b ≡ 1 → b ≡ true
 flag_true b e = sym (flag_one b) ∙ eq-eqb (flag b) 1 e
 
--- the flag that a test told
-pub flag-told : {r b : Bool} → r ≡ b → r ≡ true → 1 ≡ flag b
-flag-told e h = sym (ap flag (sym e ∙ h))
-
-pub flag-failed : {r b : Bool} → r ≡ b → r ≡ false → 0 ≡ flag b
-flag-failed e h = sym (ap flag (sym e ∙ h))
-
 -- the same bond with the same flags
 same-free : (x y z : ℕ) {e f : ℕ} {c : Bool} {need need' : List ℕ} → need ≡ need' → x ≡ e → y ≡ f → eqb z 1 ≡ c → (eqb z 1 && flagged need x && flagged need y) ≡ (c && flagged need' e && flagged need' f)
 same-free x y z p q r s = rw (p, q, r, s)

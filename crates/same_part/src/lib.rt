@@ -30,17 +30,12 @@ pub struct Part<'a> {
 }
 
 // 1 for a bond that can be chosen.
-// Stays: the marks are numbers, as `open_flag` and `Opens` state them.
 fn open_flag(links: Links, need: &[u8], k: BondId) -> u8
     requires ends { Ends links.ends.first.now links.ends.second.now need.now k.0 }
     requires k_in_bounds { k.0 < length links.elided.now }
     ensures { result ≡ open_flag links.entry.ends.first.now links.entry.ends.second.now links.entry.elided.now need.now k.0 }
 {
-    if matching_search::choosable(links, need, k) {
-        1
-    } else {
-        0
-    }
+    u8::from(matching_search::choosable(links, need, k))
 }
 
 // 1 for each bond that can be chosen, into the first cells.

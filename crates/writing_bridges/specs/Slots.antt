@@ -1,5 +1,5 @@
 -- auxiliary: the bridges that are open, in an array: a slot holds 0, or the number of a bridge bond plus 1 (01, Writing)
-use Rattle.std.specs.Prelude.{ℕ, suc, ◌+◌, ◌-◌, ◌<◌, ◌≤◌, ◌≡◌, Bool, true, ◌&&◌, List, [], ◌∷◌, ◌++◌, eqb, ltb, length, get_or, drop}
+use Rattle.std.specs.Prelude.{ℕ, suc, ◌+◌, ◌-◌, ◌<◌, ◌≤◌, ◌≡◌, Bool, true, ◌&&◌, List, [], ◌∷◌, ◌++◌, eqb, ltb, length, get_or, drop, Option, Some, None}
 use Rattle.loops.specs.Loop.{pick, up_to}
 use Rattle.ids.specs.Limits.{bridges}
 use Rattle.writing_walk.specs.Token.{Bond, eq_bond}
@@ -22,6 +22,11 @@ index_of x (y ∷ l) = pick (eqb y x) 0 (suc (index_of x l))
 pub record Looked (x : ℕ) (l : List ℕ) (i : ℕ) : Type 0 where
   pub within : i ≤ length l
   pub same : index_of x l ≡ i + index_of x (drop i l)
+
+-- the first place of x in an array was found, or x is not there
+abbrev pub Found : ℕ → List ℕ → Option ℕ → Type 0
+Found x l (Some i) = (i ≡ index_of x l) × (i < length l)
+Found x l None = length l ≡ index_of x l
 
 -- of k numbers that have the end x, the one with the least key from a bound on; k where there is none. j: how many were looked at
 pub record Near (ends keys : List ℕ) (x from k j r : ℕ) : Type 0 where

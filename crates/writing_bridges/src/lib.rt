@@ -7,7 +7,7 @@ ghost use Rattle.table.specs.Limits.{max_bonds};
 ghost use Rattle.ids.specs.Limits.{bridges};
 ghost use Rattle.buffer.specs.Buffer.{buffer_at, Wrote};
 ghost use Rattle.writing.specs.Spell.{kind_bytes, bridge_bytes};
-ghost use Rattle.writing_bridges.specs.Slots.{index_of, Looked, Near, Released, Inserted, Closed, Opened, Ended};
+ghost use Rattle.writing_bridges.specs.Slots.{Looked, Found, Near, Released, Inserted, Closed, Opened, Ended};
 ghost use Rattle.writing_bridges.specs.Unused.{Marked};
 
 use ids::BRIDGES;
@@ -19,31 +19,31 @@ pub mod unused;
 // How many bridge numbers there are: a slot for each, 0 where it is free, else the number of its bond plus 1.
 pub const SLOTS: usize = BRIDGES - 1;
 
-// The first slot with a content from a slot on; the number of slots where there is none.
-fn slot_from(slots: &[u16], x: usize, from: usize) -> usize
+// The first slot with a content from a slot on.
+fn slot_from(slots: &[u16], x: usize, from: usize) -> Option<usize>
     requires { Looked x slots.now from }
-    ensures { result ≡ index_of x slots.now }
+    ensures { Found x slots.now result }
 {
     for i in from..slots.len() {
         if slots[i] as usize == x {
-            return i;
+            return Some(i);
         }
     }
-    slots.len()
+    None
 }
 
-// The first slot with a content; the number of slots where there is none. It is mostly one of the first two.
-fn slot_of(slots: &[u16], x: usize) -> usize
-    ensures { result ≡ index_of x slots.now }
+// The first slot with a content. It is mostly one of the first two.
+fn slot_of(slots: &[u16], x: usize) -> Option<usize>
+    ensures { Found x slots.now result }
 {
     if slots.len() < 2 {
         return slot_from(slots, x, 0);
     }
     if slots[0] as usize == x {
-        return 0;
+        return Some(0);
     }
     if slots[1] as usize == x {
-        return 1;
+        return Some(1);
     }
     slot_from(slots, x, 2)
 }
@@ -116,11 +116,10 @@ fn close_bond(slots: &mut [u16], out: &mut [u8], at: usize, i: UnusedId) -> usiz
     requires { (length slots.old < bridges) × (i.0 < max_bonds) }
     ensures { Released i.0 slots.old slots.new (buffer_at out.old at) (buffer_at out.new result) }
 {
-    let r = slot_of(slots, i.0 + 1);
-    if slots.len() <= r {
-        return at;
+    match slot_of(slots, i.0 + 1) {
+        Some(r) => write_slot(slots, out, at, 0, r, 0),
+        None => at,
     }
-    write_slot(slots, out, at, 0, r, 0)
 }
 
 // The bond i opens: the lowest free bridge number is written after its symbol. The place after it; None where no number is free.
@@ -134,14 +133,12 @@ fn open_bond(
     requires { (length slots.old < bridges) × (i.0 < max_bonds) }
     ensures { Inserted i.0 kind slots.old slots.new (is_some result) (buffer_at out.old at) (buffer_at out.new (unwrap_or result 0)) }
 {
-    let r = slot_of(slots, 0);
-    if slots.len() <= r {
-        return None;
-    }
+    let r = slot_of(slots, 0)?;
     Some(write_slot(slots, out, at, kind, r, i.0 + 1))
 }
 
 // What closes at the atom x, by ascending other end from a bound on.
+// Stays: closing and opening differ in more than a step: each promises of its own bytes and slots, and only opening can fail.
 fn close_from(
     bonds: UnusedBonds,
     x: WalkNumber,

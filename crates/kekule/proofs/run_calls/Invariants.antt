@@ -1,4 +1,3 @@
-use Prim.Native.Nat.{◌-◌}
 use Rattle.kekule.specs.Kekule.{call_on}
 use Rattle.kekule.proofs.Calls.{Calling}
 use Rattle.kekule.proofs.run_calls.Given as goal

@@ -1,6 +1,6 @@
-use mathlib.Core.Path.{refl, sym}
+use mathlib.Core.Path.{refl}
 use native.Mathlib.Omega.{arith}
-use Rattle.table_graph.proofs.Graph.{built-shape, length-first, length-second, length-elided, length-flags}
+use Rattle.table_graph.proofs.Graph.{built-shape}
 use Rattle.kekule.proofs.Kekule.{first-built, next_built}
 use Rattle.kekule_plain.proofs.search_graph.Goals as goal
 

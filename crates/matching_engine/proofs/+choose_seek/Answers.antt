@@ -1,11 +1,13 @@
 use mathlib.Core.Path.{refl, ap, ◌∙◌}
 use native.Mathlib.Omega.{arith}
+use Rattle.std.specs.Prelude.{Ok}
+use Rattle.std.proofs.lemmas.Result.{err_from_is_err_and}
 use lib.ListN.{length, length-set}
 use Rattle.matching_search.proofs.Flags.{not-true, not-false}
 use Rattle.matching_search.proofs.Choice.{ends-here, here3, shape-next}
 use Rattle.matching_certified.proofs.Reason.{tables}
 use Rattle.matching_engine.proofs.Lasts.{lasts-marked}
-use Rattle.matching_engine.proofs.Tried.{inside, not_chosen, spent, chosen, shape-along, lasts-along, along-told, along-step, along-none, along-found, along-end}
+use Rattle.matching_engine.proofs.Tried.{inside, not_chosen, spent, chosen, shape-along, lasts-along, along-as, along-step, along-none, along-all}
 use Rattle.matching_engine.proofs.+choose_seek.Goals as goal
 
 pub choose-choosable-requires : goal.choose-choosable-requires
@@ -32,35 +34,31 @@ choose-shape_of-row t c = c.seek-got.auto.row ∙ length-set c.args.row.now c.ar
 pub choose-returns : goal.choose-returns
 choose-returns t c = chosen c.requires.shape c.requires.k_in_bounds.0 c.choosable.ensures (not-false c.choosable.result c.if-not-choosable.false-raw) c.mark.ensures c.seek-got.ensures c.mark-2.ensures
 
-pub seek-choose-got-requires : goal.seek-choose-got-requires
-seek-choose-got-requires t c = (omega (arith, c.loop-at.invariant.begun), (shape-along c.requires.shape c.loop-at.invariant, (c.loop-at-test.true, lasts-along c.requires.shape c.loop-at.invariant c.requires.lasts)))
+pub seek-choose-requires : goal.seek-choose-requires
+seek-choose-requires t c = (omega (arith, c.loop-at.invariant.begun), (shape-along c.requires.shape c.loop-at.invariant, (c.loop-at-test.true, lasts-along c.requires.shape c.loop-at.invariant c.requires.lasts)))
 
-pub seek-shape_of-need-in_default : goal.seek-shape_of-need-in_default
-seek-shape_of-need-in_default t c = c.choose-got.auto.need ∙ ap length c.loop-at.invariant.flags
+pub seek-returns-in_err-found : goal.seek-returns-in_err-found
+seek-returns-in_err-found t c =
+    let e = err_from_is_err_and c.from_residual.result c.from_residual.ensures.1 in
+    rw (e.1, e.2) (along-as c.requires.shape c.loop-at.invariant c.loop-at-test.true c.choose.ensures c.in_err-found.was (λ q. cc))
 
-pub seek-shape_of-row-in_default : goal.seek-shape_of-row-in_default
-seek-shape_of-row-in_default t c = c.choose-got.auto.row ∙ c.loop-at.invariant.long
-
-pub seek-returns-in_default : goal.seek-returns-in_default
-seek-returns-in_default t c = along-told c.requires.shape c.loop-at.invariant c.loop-at-test.true c.choose-got.ensures c.in_default.not-Absent
+pub seek-returns-then-found : goal.seek-returns-then-found
+seek-returns-then-found t c = along-as c.requires.shape c.loop-at.invariant c.loop-at-test.true c.choose.ensures (c.in_ok-found.was ∙ ap Ok c.if-found.true) (λ q. cc)
 
 pub seek-dead_end-requires : goal.seek-dead_end-requires
-seek-dead_end-requires t c = record { bond_tables = tables (shape-along c.requires.shape (along-step c.requires.shape c.loop-at.invariant c.loop-at-test.true c.choose-got.ensures c.in-Absent.is c.choose-got.auto.row)); lasts = lasts-along c.requires.shape (along-step c.requires.shape c.loop-at.invariant c.loop-at-test.true c.choose-got.ensures c.in-Absent.is c.choose-got.auto.row) c.requires.lasts }
+seek-dead_end-requires t c = record { bond_tables = tables (shape-along c.requires.shape (along-step c.requires.shape c.loop-at.invariant c.loop-at-test.true c.choose.ensures (c.in_ok-found.was ∙ ap Ok c.if-found.false) c.choose.auto.row)); lasts = lasts-along c.requires.shape (along-step c.requires.shape c.loop-at.invariant c.loop-at-test.true c.choose.ensures (c.in_ok-found.was ∙ ap Ok c.if-found.false) c.choose.auto.row) c.requires.lasts }
 
 pub seek-shape_of-need-then-dead_end : goal.seek-shape_of-need-then-dead_end
-seek-shape_of-need-then-dead_end t c = c.choose-got.auto.need ∙ ap length c.loop-at.invariant.flags
+seek-shape_of-need-then-dead_end t c = c.choose.auto.need ∙ ap length c.loop-at.invariant.flags
 
 pub seek-shape_of-row-then-dead_end : goal.seek-shape_of-row-then-dead_end
-seek-shape_of-row-then-dead_end t c = simp length-set (c.choose-got.auto.row ∙ c.loop-at.invariant.long)
+seek-shape_of-row-then-dead_end t c = simp length-set (c.choose.auto.row ∙ c.loop-at.invariant.long)
 
 pub seek-returns-then-dead_end : goal.seek-returns-then-dead_end
-seek-returns-then-dead_end t c = along-none c.requires.shape (along-step c.requires.shape c.loop-at.invariant c.loop-at-test.true c.choose-got.ensures c.in-Absent.is c.choose-got.auto.row) (c.dead_end.ensures c.if-dead_end.true)
+seek-returns-then-dead_end t c = along-none c.requires.shape (along-step c.requires.shape c.loop-at.invariant c.loop-at-test.true c.choose.ensures (c.in_ok-found.was ∙ ap Ok c.if-found.false) c.choose.auto.row) (c.dead_end.ensures c.if-dead_end.true)
 
 pub seek-loop-at-preserved : goal.seek-loop-at-preserved
-seek-loop-at-preserved t c = along-step c.requires.shape c.loop-at.invariant c.loop-at-test.true c.choose-got.ensures c.in-Absent.is c.choose-got.auto.row
+seek-loop-at-preserved t c = along-step c.requires.shape c.loop-at.invariant c.loop-at-test.true c.choose.ensures (c.in_ok-found.was ∙ ap Ok c.if-found.false) c.choose.auto.row
 
-pub seek-returns-then-all_paired : goal.seek-returns-then-all_paired
-seek-returns-then-all_paired t c = along-found c.requires.shape c.loop-at.invariant c.loop-at-test.false c.all_paired.ensures c.if-all_paired.true
-
-pub seek-returns-else-all_paired : goal.seek-returns-else-all_paired
-seek-returns-else-all_paired t c = along-end c.requires.shape c.loop-at.invariant c.loop-at-test.false c.all_paired.ensures c.if-all_paired.false
+pub seek-returns : goal.seek-returns
+seek-returns t c = along-all c.requires.shape c.loop-at.invariant c.loop-at-test.false c.all_paired.result c.all_paired.ensures

@@ -52,38 +52,38 @@ later-returns-else-found t c = let wide = c.force-forcing.auto.pairs in
     let again = forced-back c.requires.shape c.requires.roomy c.force-forcing.ensures wide c.later_left-found.ensures.searched.same front c.undo.ensures in
     record { searched = without-searched c.requires.shape c.requires.roomy c.force-forcing.ensures wide c.requires.row_value c.set_zeros.ensures c.later_left-found.ensures.searched again front (λ y. absurd (never (sym c.if-found.false ∙ y))) (λ n. refl); el_unchanged = c.later_left-found.ensures.el_unchanged }
 
-pub later_left-lowest_free-b-requires : goal.later_left-lowest_free-b-requires
-later_left-lowest_free-b-requires t c = tables-of c.requires.shape
+pub later_left-lowest_free-requires : goal.later_left-lowest_free-requires
+later_left-lowest_free-requires t c = tables-of c.requires.shape
 
-pub later_left-returns-then-ends-at : goal.later_left-returns-then-ends-at
-later_left-returns-then-ends-at t c = record { searched = following-none c.requires.shape c.requires.row_value c.lowest_free-b.ensures c.if-ends-at.true; el_unchanged = refl }
+pub later_left-returns-in_default : goal.later_left-returns-in_default
+later_left-returns-in_default t c = record { searched = following-none c.requires.shape c.requires.row_value refl c.in_default.ensures; el_unchanged = refl }
 
-pub later_left-bounds-row-at : goal.later_left-bounds-row-at
-later_left-bounds-row-at t c = omega (arith, c.requires.shape.room, c.if-ends-at.false)
+pub later_left-bounds-row-b : goal.later_left-bounds-row-b
+later_left-bounds-row-b t c = omega (arith, c.requires.shape.room, c.in-Some.ensures.1)
 
 pub later_left-later_with-requires : goal.later_left-later_with-requires
-later_left-later_with-requires t c = (omega arith, (c.requires.shape, ((c.requires.roomy, lowest-chosen c.requires.shape c.lowest_free-b.ensures c.if-ends-at.false), (c.requires.row_value, c.if-row-at-eq1.true))))
+later_left-later_with-requires t c = (omega arith, (c.requires.shape, ((c.requires.roomy, lowest-chosen c.requires.shape c.in-Some.ensures.0 c.in-Some.ensures.1), (c.requires.row_value, c.if-row-b-eq1.true))))
 
 pub later_left-returns-then-later_with : goal.later_left-returns-then-later_with
-later_left-returns-then-later_with t c = record { searched = following-found c.requires.shape c.requires.row_value c.lowest_free-b.ensures c.if-ends-at.false c.if-row-at-eq1.true c.later_with.ensures.searched c.if-later_with.true; el_unchanged = c.later_with.ensures.el_unchanged }
+later_left-returns-then-later_with t c = record { searched = following-found c.requires.shape c.requires.row_value c.in-Some.ensures.0 c.in-Some.ensures.1 c.if-row-b-eq1.true c.later_with.ensures.searched c.if-later_with.true; el_unchanged = c.later_with.ensures.el_unchanged }
 
 pub later_left-first_without-requires : goal.later_left-first_without-requires
 later_left-first_without-requires t c = record {
   shape = shape-again c.requires.shape c.later_with.ensures.el_unchanged c.later_with.ensures.searched.same c.later_with.auto.row;
   roomy = (
     roomy-again c.requires.shape c.later_with.ensures.el_unchanged c.later_with.ensures.searched.same c.later_with.auto.pairs c.requires.roomy,
-    chosen-again c.requires.shape c.later_with.ensures.el_unchanged c.later_with.ensures.searched.same (lowest-chosen c.requires.shape c.lowest_free-b.ensures c.if-ends-at.false),
+    chosen-again c.requires.shape c.later_with.ensures.el_unchanged c.later_with.ensures.searched.same (lowest-chosen c.requires.shape c.in-Some.ensures.0 c.in-Some.ensures.1),
   );
 }
 
-pub later_left-returns-then-row-at-eq1 : goal.later_left-returns-then-row-at-eq1
-later_left-returns-then-row-at-eq1 t c = record { searched = following-then c.requires.shape c.requires.row_value c.lowest_free-b.ensures c.if-ends-at.false c.if-row-at-eq1.true c.later_with.ensures.searched c.if-later_with.false c.later_with.ensures.el_unchanged c.first_without.ensures.searched; el_unchanged = c.first_without.ensures.el_unchanged ∙ c.later_with.ensures.el_unchanged }
+pub later_left-returns-then-row-b-eq1 : goal.later_left-returns-then-row-b-eq1
+later_left-returns-then-row-b-eq1 t c = record { searched = following-then c.requires.shape c.requires.row_value c.in-Some.ensures.0 c.in-Some.ensures.1 c.if-row-b-eq1.true c.later_with.ensures.searched c.if-later_with.false c.later_with.ensures.el_unchanged c.first_without.ensures.searched; el_unchanged = c.first_without.ensures.el_unchanged ∙ c.later_with.ensures.el_unchanged }
 
 pub later_left-later_without-requires : goal.later_left-later_without-requires
-later_left-later_without-requires t c = (omega arith, (c.requires.shape, ((c.requires.roomy, lowest-chosen c.requires.shape c.lowest_free-b.ensures c.if-ends-at.false), (c.requires.row_value, bit-zero c.requires.shape c.requires.row_value c.lowest_free-b.ensures c.if-ends-at.false c.if-row-at-eq1.false))))
+later_left-later_without-requires t c = (omega arith, (c.requires.shape, ((c.requires.roomy, lowest-chosen c.requires.shape c.in-Some.ensures.0 c.in-Some.ensures.1), (c.requires.row_value, bit-zero c.requires.shape c.requires.row_value c.in-Some.ensures.0 c.in-Some.ensures.1 c.if-row-b-eq1.false))))
 
 pub later_left-returns : goal.later_left-returns
-later_left-returns t c = record { searched = following-skipped c.requires.shape c.requires.row_value c.lowest_free-b.ensures c.if-ends-at.false (bit-zero c.requires.shape c.requires.row_value c.lowest_free-b.ensures c.if-ends-at.false c.if-row-at-eq1.false) c.later_without.ensures.searched; el_unchanged = c.later_without.ensures.el_unchanged }
+later_left-returns t c = record { searched = following-skipped c.requires.shape c.requires.row_value c.in-Some.ensures.0 c.in-Some.ensures.1 (bit-zero c.requires.shape c.requires.row_value c.in-Some.ensures.0 c.in-Some.ensures.1 c.if-row-b-eq1.false) c.later_without.ensures.searched; el_unchanged = c.later_without.ensures.el_unchanged }
 
 pub later_with-bounds-row-at : goal.later_with-bounds-row-at
 later_with-bounds-row-at t c = omega (arith, c.requires.roomy.1.inside, c.requires.shape.room)

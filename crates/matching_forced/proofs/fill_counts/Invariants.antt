@@ -1,4 +1,3 @@
-use Prim.Native.Nat.{◌-◌}
 use Rattle.matching_forced.proofs.Tallies.{Tallied}
 use Rattle.matching_forced.proofs.fill_counts.Given as goal
 

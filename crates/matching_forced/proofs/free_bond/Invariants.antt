@@ -1,4 +1,3 @@
-use Prim.Native.Nat.{◌-◌}
 use lib.ListN.{length}
 use Rattle.matching.specs.Model.{bonds_of}
 use Rattle.matching_forced.specs.Forced.{free_of}

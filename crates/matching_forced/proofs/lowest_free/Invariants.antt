@@ -1,4 +1,3 @@
-use Prim.Native.Nat.{◌-◌}
 use lib.ListN.{length}
 use Rattle.matching.specs.Graph.{nth_bond}
 use Rattle.matching.specs.Model.{free, bonds_of}

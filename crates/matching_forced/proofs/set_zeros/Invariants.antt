@@ -1,4 +1,3 @@
-use Prim.Native.Nat.{◌-◌}
 use Rattle.matching_forced.proofs.Listed.{Clearing}
 use Rattle.matching_forced.proofs.set_zeros.Given as goal
 

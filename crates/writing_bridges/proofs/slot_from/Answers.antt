@@ -12,7 +12,7 @@ pub overflow_cast-slots : goal.overflow_cast-slots
 overflow_cast-slots c = omega (arith, c.shared_slice_known-1.given c.loop-i.i)
 
 pub returns-then-slots-i : goal.returns-then-slots-i
-returns-then-slots-i c = looked-hit c.loop-i.invariant c.loop-i-test.true c.if-slots-i.true
+returns-then-slots-i c = (looked-hit c.loop-i.invariant c.loop-i-test.true c.if-slots-i.true, c.loop-i-test.true)
 
 pub loop-i-preserved : goal.loop-i-preserved
 loop-i-preserved c = looked-pass c.loop-i.invariant c.loop-i-test.true c.if-slots-i.false

@@ -3,4 +3,4 @@ use Rattle.balsa.specs.Releases.{release_reply}
 use Rattle.balsa.proofs.lease_calls.balsa_lease_release.Goals as goal
 
 pub returns : goal.returns
-returns c = c.release_reply.ensures ∙ ap release_reply c.release.ensures
+returns c = c.from.ensures ∙ ap release_reply c.release.ensures

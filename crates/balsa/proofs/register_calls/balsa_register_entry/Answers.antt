@@ -3,4 +3,4 @@ use Rattle.balsa.specs.Registers.{entry_reply}
 use Rattle.balsa.proofs.register_calls.balsa_register_entry.Goals as goal
 
 pub returns : goal.returns
-returns c = c.entry_reply.ensures ∙ ap entry_reply c.entry.ensures
+returns c = c.from.ensures ∙ ap entry_reply c.entry.ensures

@@ -2,4 +2,4 @@ use mathlib.Core.Path.{◌∙◌}
 use Rattle.balsa.proofs.reporting.balsa_report.Goals as goal
 
 pub returns : goal.returns
-returns c = c.report_reply.ensures _ ∙ c.report.ensures
+returns c = c.from.ensures _ ∙ c.report.ensures
