@@ -47,25 +47,27 @@ struct Graph<'a> {
 }
 
 impl<'a> Graph<'a> {
-    // The graph of n atoms and m bonds.
-    fn new(drawing: Drawing<'a>, n: usize, m: usize) -> Graph<'a>
-        requires { m ≤ max_bonds }
-    {
-        let Drawing { bonds, keys } = drawing;
-        let mut graph = Graph {
+    // The graph of n atoms without bonds.
+    fn new(keys: &'a [u64], n: usize) -> Graph<'a> {
+        Graph {
             n,
             keys,
             firsts: [0; MAX_ATOMS],
             halves: [Half { to: 0, next: 0 }; HALVES],
-        };
+        }
+    }
+
+    // Adds m bonds.
+    fn link(&mut self, bonds: &[i32], m: usize)
+        requires { m ≤ max_bonds }
+    {
         for k in 0..m {
             let bond = row::get_bond(bonds, BondId(k));
             let first = cell::number(bond.first);
             let second = cell::number(bond.second);
-            graph.hook(first, second, 2 * k + 1);
-            graph.hook(second, first, 2 * k + 2);
+            self.hook(first, second, 2 * k + 1);
+            self.hook(second, first, 2 * k + 2);
         }
-        graph
     }
 
     // Adds a half-bond from an atom to another.
@@ -178,22 +180,26 @@ struct Plan {
 }
 
 impl Plan {
-    // The plan of all atoms.
-    fn new(graph: &Graph) -> Plan {
-        let mut plan = Plan {
-            steps: [Step {
-                atom: 0,
-                from: None,
-            }; MAX_ATOMS],
+    // The plan of no atoms.
+    fn new() -> Plan {
+        let step = Step {
+            atom: 0,
+            from: None,
+        };
+        Plan {
+            steps: [step; MAX_ATOMS],
             len: 0,
             queued: [false; MAX_ATOMS],
-        };
-        for a in 0..graph.n {
-            let begun = plan.len;
-            plan.queue(narrow(a), None);
-            plan.queue_part(graph, begun);
         }
-        plan
+    }
+
+    // Adds all atoms of a graph.
+    fn queue_all(&mut self, graph: &Graph) {
+        for a in 0..graph.n {
+            let begun = self.len;
+            self.queue(narrow(a), None);
+            self.queue_part(graph, begun);
+        }
     }
 
     // One atom more, if it is not among them.
@@ -271,14 +277,6 @@ enum Candidate {
 }
 
 impl Candidate {
-    // The atom in the graph.
-    fn atom(self, graph: &Graph) -> Option<u16> {
-        match self {
-            Candidate::Atom(b) => Some(b),
-            Candidate::Half(h) => graph.end(h),
-        }
-    }
-
     // The candidate after this one.
     fn after(self, graph: &Graph) -> Option<Candidate> {
         match self {
@@ -339,18 +337,44 @@ impl<'a> Search<'a> {
         image(&self.back, b).is_none() && self.graph1.same_key(a, self.graph2, b)
     }
 
-    // The first candidate from one on whose atom is free and has the key of a, with that atom.
-    fn free_candidate(&self, a: u16, cursor: Option<Candidate>) -> Option<(Candidate, u16)> {
-        let mut next = cursor;
-        for _ in 0..MAX_ATOMS {
-            let c = next?;
-            let b = c.atom(self.graph2)?;
-            if self.is_free(a, b) {
-                return Some((c, b));
+    // The first atom from one on that is free and has the key of a.
+    fn free_atom(&self, a: u16, from: u16) -> Option<u16> {
+        for b in usize::from(from)..self.graph2.n {
+            if self.is_free(a, narrow(b)) {
+                return Some(narrow(b));
             }
-            next = c.after(self.graph2);
         }
         None
+    }
+
+    // The first half-bond of an atom from one on that leads to an atom that is free and has the key of a, with that atom.
+    fn free_half(&self, a: u16, from: u16) -> Option<(u16, u16)> {
+        let mut h = from;
+        for _ in 0..MAX_ATOMS {
+            let Half { to, next } = *self.graph2.halves.get(usize::from(h))?;
+            if self.is_free(a, to) {
+                return Some((h, to));
+            }
+            if next == 0 {
+                return None;
+            }
+            h = next;
+        }
+        None
+    }
+
+    // The first candidate from one on whose atom is free and has the key of a, with that atom.
+    fn free_candidate(&self, a: u16, cursor: Option<Candidate>) -> Option<(Candidate, u16)> {
+        match cursor? {
+            Candidate::Atom(from) => {
+                let b = self.free_atom(a, from)?;
+                Some((Candidate::Atom(b), b))
+            }
+            Candidate::Half(from) => {
+                let (h, b) = self.free_half(a, from)?;
+                Some((Candidate::Half(h), b))
+            }
+        }
     }
 
     // Whether the atom a may go to b beside those that are placed.
@@ -465,9 +489,12 @@ pub fn guess(
 ) -> bool
     requires { (n ≤ max_atoms) × (m ≤ max_bonds) }
 {
-    let graph1 = Graph::new(drawing1, n, m);
-    let graph2 = Graph::new(drawing2, n, m);
-    let plan = Plan::new(&graph1);
+    let mut graph1 = Graph::new(drawing1.keys, n);
+    let mut graph2 = Graph::new(drawing2.keys, n);
+    let mut plan = Plan::new();
+    graph1.link(drawing1.bonds, m);
+    graph2.link(drawing2.bonds, m);
+    plan.queue_all(&graph1);
     let mut search = Search {
         graph1: &graph1,
         graph2: &graph2,
