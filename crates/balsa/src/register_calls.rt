@@ -1,6 +1,6 @@
 // The register's calls for C and Rust.
 ghost use Rattle.std.specs.Prelude.{◌≡◌};
-ghost use Rattle.register.specs.Answers.{code_of, told, emptied_of, stepped_of, added_of, none, found_out, found_of};
+ghost use Rattle.register.specs.Answers.{told, emptied_of, stepped_of, added_of, none, found_out, found_of};
 ghost use Rattle.register_walk.specs.Walk.{stays, walked_out, walked_of};
 ghost use Rattle.balsa.specs.Registers.{entry_reply, walk_reply};
 
@@ -50,22 +50,12 @@ impl From<Result<Option<Found>, RegisterError>> for EntryReply {
     }
 }
 
-// The code of an answer: 0, or the refusal's.
-fn code(answer: Result<(), RegisterError>) -> u32
-    ensures { result ≡ code_of answer }
-{
-    match answer {
-        Ok(()) => 0,
-        Err(e) => u32::from(e),
-    }
-}
-
 // Empties a register of full length: 0 or 1.
 #[unsafe(no_mangle)]
 pub extern "C" fn balsa_register_empty(reg: &mut [u8]) -> u32
     ensures { told result reg.new ≡ emptied_of reg.old }
 {
-    code(register::empty(reg))
+    register::code(register::empty(reg))
 }
 
 // Adds an entry: 0, 1, 17 or 18.
@@ -73,7 +63,7 @@ pub extern "C" fn balsa_register_empty(reg: &mut [u8]) -> u32
 pub extern "C" fn balsa_register_add(reg: &mut [u8], tag: u16, body: &[u8]) -> u32
     ensures { told result reg.new ≡ added_of reg.old tag body.now }
 {
-    code(register::add(reg, tag, body))
+    register::code(register::add(reg, tag, body))
 }
 
 // Step k of adding, at most one byte: 0, 1, 17 or 18. Past the last step nothing changes.
@@ -81,7 +71,7 @@ pub extern "C" fn balsa_register_add(reg: &mut [u8], tag: u16, body: &[u8]) -> u
 pub extern "C" fn balsa_register_step(reg: &mut [u8], tag: u16, body: &[u8], k: usize) -> u32
     ensures { told result reg.new ≡ stepped_of reg.old tag body.now k }
 {
-    code(register::step(reg, tag, body, k))
+    register::code(register::step(reg, tag, body, k))
 }
 
 // The entry at a place counted from 0: code 0, 1 or 17.

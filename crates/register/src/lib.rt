@@ -2,7 +2,7 @@
 #![tactic(auto)]
 
 ghost use Rattle.std.specs.Prelude.{◌≡◌, OnOk};
-ghost use Rattle.register.specs.Answers.{error_code, out, emptied_of, stepped_of, added_of, found_out, found_of, body_at, ready_of, Ready, room_of, Room};
+ghost use Rattle.register.specs.Answers.{error_code, code_of, out, emptied_of, stepped_of, added_of, found_out, found_of, body_at, ready_of, Ready, room_of, Room};
 
 use contents::SIZE;
 
@@ -30,6 +30,16 @@ impl From<RegisterError> for u32 {
             RegisterError::Invalid => 17,
             RegisterError::Full => 18,
         }
+    }
+}
+
+// The code of an answer: 0, or that of the refusal.
+pub fn code(answer: Result<(), RegisterError>) -> u32
+    ensures { result ≡ code_of answer }
+{
+    match answer {
+        Ok(()) => 0,
+        Err(e) => u32::from(e),
     }
 }
 

@@ -13,7 +13,7 @@ use Rattle.register.specs.declared.RegisterError.{RegisterError}
 use Rattle.register.specs.declared.RegisterError.TheVariants.{Short, Invalid, Full}
 use Rattle.register.specs.Answers.{error_code, refusing, none, FoundOut, found_of}
 use Rattle.register.proofs.Rules.{valid-is}
-use Rattle.register_walk.specs.Walk.{WalkOut, stays, walked_of}
+use Rattle.register_walk.specs.Walk.{WalkOut, stays, started_of, walked_of}
 
 -- the step that the numbers of a reading lead to
 abbrev from_found : ℕ → FoundOut → WalkOut
@@ -32,6 +32,17 @@ module _ (r : List ℕ) (p : ℕ) where
   pub step-law : (f : FoundOut) → f ≡ found_of r p → from_found p f ≡ walked_of r p
   step-law f e = ap (from_found p) e ∙ step_by _ _ _ refl refl refl
 
+  start-by : (a b c : Bool) → ltb (length r) size ≡ a → valid r ≡ b → ltb p (count r) ≡ c → (found_of r p).code ≡ started_of r
+  unfolding found_of started_of refusing
+  start-by true b c x y z = simp x
+  start-by false false c x y z = simp (x, y)
+  start-by false true false x y z = simp (x, y, z)
+  start-by false true true x y z = simp (x, y, z)
+
+  -- the code of reading an entry is that of the start
+  pub start-law : (f : FoundOut) → f ≡ found_of r p → f.code ≡ started_of r
+  start-law f e = ap (λ o. o.code) e ∙ start-by _ _ _ refl refl refl
+
   -- the refusals
   pub refused : (e : RegisterError) → none (error_code e) ≡ found_of r p → stays p (error_code e) ≡ walked_of r p
   refused Short h = step-law _ h
@@ -48,3 +59,10 @@ module _ (r : List ℕ) (p : ℕ) where
   -- an entry is found only below 64
   pub found_within : (f : FoundOut) → f ≡ found_of r p → f.found ≡ 1 → p < max_entries
   found_within f e h = within_by _ _ _ refl refl refl (sym (ap (λ o. o.found) e) ∙ h)
+
+-- a register whose layout breaks a rule is told so at the start, and at each step
+pub invalid_start : (r : List ℕ) → none 17 ≡ found_of r 0 → started_of r ≡ 17
+invalid_start r h = sym (start-law r 0 _ h)
+
+pub invalid_step : (r : List ℕ) (p : ℕ) → none 17 ≡ found_of r p → walked_of r p ≡ stays p 17
+invalid_step r p h = sym (refused r p Invalid h)

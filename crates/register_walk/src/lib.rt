@@ -15,6 +15,7 @@ pub struct Step {
 }
 
 // Whether a walk can start. Refusals 1, 17.
+#[tactic(auto, using(crate::proofs::Steps::invalid_start))]
 pub fn start(register: &[u8]) -> Result<(), RegisterError>
     ensures { code_of result ≡ started_of register.now }
 {
@@ -22,6 +23,7 @@ pub fn start(register: &[u8]) -> Result<(), RegisterError>
 }
 
 // A step of a walk from a place counted from 0, in plain parameters; none past the last entry. Refusals 1, 17; these and the end leave the place as it was.
+#[tactic(auto, using(crate::proofs::Steps::invalid_step))]
 pub fn walk_at(register: &[u8], place: usize) -> Result<Option<Step>, RegisterError>
     ensures { walked_out place result ≡ walked_of register.now place }
 {
@@ -35,8 +37,8 @@ pub fn walk_at(register: &[u8], place: usize) -> Result<Option<Step>, RegisterEr
     }
 }
 
-// The place after a step from a place.
-fn place_after(walked: Result<Option<Step>, RegisterError>, place: usize) -> usize
+// The place of the next step, after one from a place was answered so.
+fn next_place(walked: Result<Option<Step>, RegisterError>, place: usize) -> usize
     ensures { result ≡ (walked_out place walked).next }
 {
     match walked {
@@ -44,6 +46,13 @@ fn place_after(walked: Result<Option<Step>, RegisterError>, place: usize) -> usi
         Ok(None) => place,
         Err(_) => place,
     }
+}
+
+// internal: the place after a step from a place.
+pub fn place_after(register: &[u8], place: usize) -> usize
+    ensures { result ≡ (walked_of register.now place).next }
+{
+    next_place(walk_at(register, place), place)
 }
 
 // A walk that holds the register and the place of its next step. Any register may be held: `start` says whether it can be walked, and so does each step.
@@ -72,6 +81,6 @@ pub fn next<'s, 'a>(r: &'s mut RegisterReader<'a>) -> Result<Option<Step>, Regis
     ensures { (walked_out r.old.next result ≡ walked_of r.old.register.now r.old.next) × (r.new.register ≡ r.old.register) × (r.new.next ≡ (walked_of r.old.register.now r.old.next).next) }
 {
     let walked = walk_at(r.register, r.next);
-    r.next = place_after(walked, r.next);
+    r.next = next_place(walked, r.next);
     walked
 }
