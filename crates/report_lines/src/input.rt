@@ -57,7 +57,7 @@ impl Line {
         }
         Filled {
             done: false,
-            at: s.len(),
+            at: from.max(s.len()),
             line: self,
         }
     }
