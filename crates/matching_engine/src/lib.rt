@@ -111,18 +111,18 @@ fn spend(budget: &mut usize) -> bool {
 // The first matching of the bonds from k on that chooses the bond k, if it can be chosen: whether there is one.
 #[cycle(choose_seek)]
 fn choose(
-    links: Links,
+    links: &Links,
     need: &mut [u8],
     row: &mut [u8],
     last: &[usize],
     k: BondId,
     budget: &mut usize,
 ) -> Result<bool, GaveUp>
-    requires shape { Shape links.ends.first.now links.ends.second.now links.elided.now need.old row.old k.0 }
-    requires k_in_bounds { (k.0 < length links.ends.first.now) × Lasts links.ends.first.now links.ends.second.now links.elided.now need.old last.now }
-    ensures { Tried need.old row.old k.0 (length links.entry.ends.first.now) (paired_bond links.entry.ends.first.now links.entry.ends.second.now links.entry.elided.now need.old k.0) result need.new row.new }
+    requires shape { Shape links.now.ends.first.now links.now.ends.second.now links.now.elided.now need.old row.old k.0 }
+    requires k_in_bounds { (k.0 < length links.now.ends.first.now) × Lasts links.now.ends.first.now links.now.ends.second.now links.now.elided.now need.old last.now }
+    ensures { Tried need.old row.old k.0 (length links.now.ends.first.now) (paired_bond links.now.ends.first.now links.now.ends.second.now links.now.elided.now need.old k.0) result need.new row.new }
 {
-    if !matching_search::choosable(links, need, k) {
+    if !matching_search::choosable(*links, need, k) {
         return Ok(false);
     }
     if !spend(budget) {
@@ -140,16 +140,16 @@ fn choose(
 // The first matching of the bonds from k on, under a budget.
 #[cycle(choose_seek)]
 fn seek(
-    links: Links,
+    links: &Links,
     need: &mut [u8],
     row: &mut [u8],
     last: &[usize],
     k: BondId,
     budget: &mut usize,
 ) -> Result<bool, GaveUp>
-    requires shape { Shape links.ends.first.now links.ends.second.now links.elided.now need.old row.old k.0 }
-    requires lasts { Lasts links.ends.first.now links.ends.second.now links.elided.now need.old last.now }
-    ensures { Tried need.old row.old k.0 (length links.entry.ends.first.now) (all_from links.entry.ends.first.now links.entry.ends.second.now links.entry.elided.now need.old k.0) result need.new row.new }
+    requires shape { Shape links.now.ends.first.now links.now.ends.second.now links.now.elided.now need.old row.old k.0 }
+    requires lasts { Lasts links.now.ends.first.now links.now.ends.second.now links.now.elided.now need.old last.now }
+    ensures { Tried need.old row.old k.0 (length links.now.ends.first.now) (all_from links.now.ends.first.now links.now.ends.second.now links.now.elided.now need.old k.0) result need.new row.new }
 {
     for at in k.0..links.ends.first.len() {
         let found = choose(links, need, row, last, BondId(at), budget)?;
@@ -157,7 +157,7 @@ fn seek(
             return Ok(true);
         }
         row[at] = 0;
-        if dead_end(links, need, last, BondId(at)) {
+        if dead_end(*links, need, last, BondId(at)) {
             return Ok(false);
         }
     }
@@ -171,7 +171,7 @@ fn seek_any(links: Links, need: &mut [u8], row: &mut [u8], last: &[usize], k: Bo
     ensures { Searched need.old row.old k.0 (length links.entry.ends.first.now) (all_from links.entry.ends.first.now links.entry.ends.second.now links.entry.elided.now need.old k.0) result need.new row.new }
 {
     let mut budget = BUDGET;
-    let got = seek(links, need, row, last, k, &mut budget);
+    let got = seek(&links, need, row, last, k, &mut budget);
     match got {
         Ok(true) => true,
         Ok(false) => {
@@ -193,10 +193,10 @@ pub fn seek_from(links: Links, need: &mut [u8], row: &mut [u8], k: BondId) -> bo
 }
 
 // The first matching of the bonds from k on that comes after the row, written over it; zeros where there is none.
-fn later(links: Links, need: &mut [u8], row: &mut [u8], last: &[usize], k: BondId) -> bool
-    requires shape { Shape links.ends.first.now links.ends.second.now links.elided.now need.old row.old k.0 }
-    requires k_value { (matching_from links.ends.first.now links.ends.second.now links.elided.now need.old (part (length links.ends.first.now) row.old k.0) k.0 ≡ true) × Lasts links.ends.first.now links.ends.second.now links.elided.now need.old last.now }
-    ensures { Searched need.old row.old k.0 (length links.entry.ends.first.now) (later_from links.entry.ends.first.now links.entry.ends.second.now links.entry.elided.now need.old (part (length links.entry.ends.first.now) row.old k.0) k.0) result need.new row.new }
+fn later(links: &Links, need: &mut [u8], row: &mut [u8], last: &[usize], k: BondId) -> bool
+    requires shape { Shape links.now.ends.first.now links.now.ends.second.now links.now.elided.now need.old row.old k.0 }
+    requires k_value { (matching_from links.now.ends.first.now links.now.ends.second.now links.now.elided.now need.old (part (length links.now.ends.first.now) row.old k.0) k.0 ≡ true) × Lasts links.now.ends.first.now links.now.ends.second.now links.now.elided.now need.old last.now }
+    ensures { Searched need.old row.old k.0 (length links.now.ends.first.now) (later_from links.now.ends.first.now links.now.ends.second.now links.now.elided.now need.old (part (length links.now.ends.first.now) row.old k.0) k.0) result need.new row.new }
 {
     let at = k.0;
     if at == links.ends.first.len() {
@@ -211,7 +211,7 @@ fn later(links: Links, need: &mut [u8], row: &mut [u8], last: &[usize], k: BondI
             return true;
         }
         row[at] = 0;
-        return seek_any(links, need, row, last, BondId(next));
+        return seek_any(*links, need, row, last, BondId(next));
     }
     later(links, need, row, last, BondId(next))
 }
@@ -293,13 +293,13 @@ pub fn next(links: Links, need: &mut [u8], row: &mut [u8]) -> MatchingAnswer
     ensures need_unchanged { need.new ≡ need.old }
     ensures row_after { reply result row.new ≡ row_next (is_matching need.old (bonds_of links.entry.ends.first.now links.entry.ends.second.now links.entry.elided.now)) (length links.entry.ends.first.now) (length row.old) (take (length links.entry.ends.first.now) row.old) }
 {
-    if !matching_search::is_matching(links, need, row, BondId(0)) {
+    if !matching_search::is_matching(&links, need, row, BondId(0)) {
         matching_search::clear(row, BondId(0));
         return MatchingAnswer::Refused;
     }
     let mut last = [0usize; MAX_ATOMS];
     fill_lasts(links, need, &mut last);
-    let found = later(links, need, row, &last, BondId(0));
+    let found = later(&links, need, row, &last, BondId(0));
     matching_search::clear(row, BondId(links.ends.first.len()));
     if found {
         MatchingAnswer::Given

@@ -534,7 +534,7 @@ pub fn next_forced(
     requires roomy { Roomy ends.first.now ends.second.now el.old need.old pairs.old }
     ensures { reply result row.new ≡ row_next (is_matching need.old (bonds_of ends.entry.first.now ends.entry.second.now el.old)) (length ends.entry.first.now) (length row.old) (take (length ends.entry.first.now) row.old) }
 {
-    if !matching_search::is_matching(Links { ends, elided: el }, need, row, BondId(0)) {
+    if !matching_search::is_matching(&Links { ends, elided: el }, need, row, BondId(0)) {
         matching_search::clear(row, BondId(0));
         return MatchingAnswer::Refused;
     }

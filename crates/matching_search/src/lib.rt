@@ -56,16 +56,16 @@ pub fn mark(ends: EndTables, need: &mut [u8], k: BondId, x: u8)
 }
 
 // internal: the first matching of the bonds from k on, written to the row from k on; zeros where there is none.
-pub fn seek(links: Links, need: &mut [u8], row: &mut [u8], k: BondId) -> bool
-    requires { Shape links.ends.first.now links.ends.second.now links.elided.now need.old row.old k.0 }
-    ensures { Searched need.old row.old k.0 (length links.entry.ends.first.now) (all_from links.entry.ends.first.now links.entry.ends.second.now links.entry.elided.now need.old k.0) result need.new row.new }
+pub fn seek(links: &Links, need: &mut [u8], row: &mut [u8], k: BondId) -> bool
+    requires { Shape links.now.ends.first.now links.now.ends.second.now links.now.elided.now need.old row.old k.0 }
+    ensures { Searched need.old row.old k.0 (length links.now.ends.first.now) (all_from links.now.ends.first.now links.now.ends.second.now links.now.elided.now need.old k.0) result need.new row.new }
 {
     let at = k.0;
     if at == links.ends.first.len() {
         return all_paired(need);
     }
     let next = at + 1;
-    if choosable(links, need, k) {
+    if choosable(*links, need, k) {
         mark(links.ends, need, k, 0);
         row[at] = 1;
         let found = seek(links, need, row, BondId(next));
@@ -81,9 +81,9 @@ pub fn seek(links: Links, need: &mut [u8], row: &mut [u8], k: BondId) -> bool
 }
 
 // internal: the row from k on is a matching of the bonds from k on.
-pub fn is_matching(links: Links, need: &mut [u8], row: &[u8], k: BondId) -> bool
-    requires { Shape links.ends.first.now links.ends.second.now links.elided.now need.old row.now k.0 }
-    ensures { (result ≡ matching_from links.entry.ends.first.now links.entry.ends.second.now links.entry.elided.now need.old (part (length links.entry.ends.first.now) row.now k.0) k.0) × (need.new ≡ need.old) }
+pub fn is_matching(links: &Links, need: &mut [u8], row: &[u8], k: BondId) -> bool
+    requires { Shape links.now.ends.first.now links.now.ends.second.now links.now.elided.now need.old row.now k.0 }
+    ensures { (result ≡ matching_from links.now.ends.first.now links.now.ends.second.now links.now.elided.now need.old (part (length links.now.ends.first.now) row.now k.0) k.0) × (need.new ≡ need.old) }
 {
     let at = k.0;
     if at == links.ends.first.len() {
@@ -97,7 +97,7 @@ pub fn is_matching(links: Links, need: &mut [u8], row: &[u8], k: BondId) -> bool
     if x != 1 {
         return false;
     }
-    if !choosable(links, need, k) {
+    if !choosable(*links, need, k) {
         return false;
     }
     mark(links.ends, need, k, 0);
@@ -127,10 +127,10 @@ pub fn fits(links: Links, need: &mut [u8], row: &[u8]) -> bool
 }
 
 // internal: the first matching of the bonds from k on that comes after the row, written over it; zeros where there is none.
-pub fn later(links: Links, need: &mut [u8], row: &mut [u8], k: BondId) -> bool
-    requires shape { Shape links.ends.first.now links.ends.second.now links.elided.now need.old row.old k.0 }
-    requires k_value { matching_from links.ends.first.now links.ends.second.now links.elided.now need.old (part (length links.ends.first.now) row.old k.0) k.0 ≡ true }
-    ensures { Searched need.old row.old k.0 (length links.entry.ends.first.now) (later_from links.entry.ends.first.now links.entry.ends.second.now links.entry.elided.now need.old (part (length links.entry.ends.first.now) row.old k.0) k.0) result need.new row.new }
+pub fn later(links: &Links, need: &mut [u8], row: &mut [u8], k: BondId) -> bool
+    requires shape { Shape links.now.ends.first.now links.now.ends.second.now links.now.elided.now need.old row.old k.0 }
+    requires k_value { matching_from links.now.ends.first.now links.now.ends.second.now links.now.elided.now need.old (part (length links.now.ends.first.now) row.old k.0) k.0 ≡ true }
+    ensures { Searched need.old row.old k.0 (length links.now.ends.first.now) (later_from links.now.ends.first.now links.now.ends.second.now links.now.elided.now need.old (part (length links.now.ends.first.now) row.old k.0) k.0) result need.new row.new }
 {
     let at = k.0;
     if at == links.ends.first.len() {
@@ -173,7 +173,7 @@ pub fn first(links: Links, need: &mut [u8], row: &mut [u8]) -> MatchingAnswer
     ensures need_unchanged { need.new ≡ need.old }
     ensures row_after { reply result row.new ≡ row_first (is_matching need.old (bonds_of links.entry.ends.first.now links.entry.ends.second.now links.entry.elided.now)) (length links.entry.ends.first.now) (length row.old) }
 {
-    let found = seek(links, need, row, BondId(0));
+    let found = seek(&links, need, row, BondId(0));
     clear(row, BondId(links.ends.first.len()));
     if found {
         MatchingAnswer::Given
@@ -188,11 +188,11 @@ pub fn next(links: Links, need: &mut [u8], row: &mut [u8]) -> MatchingAnswer
     ensures need_unchanged { need.new ≡ need.old }
     ensures row_after { reply result row.new ≡ row_next (is_matching need.old (bonds_of links.entry.ends.first.now links.entry.ends.second.now links.entry.elided.now)) (length links.entry.ends.first.now) (length row.old) (take (length links.entry.ends.first.now) row.old) }
 {
-    if !is_matching(links, need, row, BondId(0)) {
+    if !is_matching(&links, need, row, BondId(0)) {
         clear(row, BondId(0));
         return MatchingAnswer::Refused;
     }
-    let found = later(links, need, row, BondId(0));
+    let found = later(&links, need, row, BondId(0));
     clear(row, BondId(links.ends.first.len()));
     if found {
         MatchingAnswer::Given

@@ -11,10 +11,10 @@ use ids::BondId;
 use matching::Links;
 
 // The first matching of the bonds from k on that comes after the row and differs from it before `to`, written over it; zeros where there is none.
-fn later(links: Links, need: &mut [u8], row: &mut [u8], k: BondId, to: BondId) -> bool
-    requires shape { Shape links.ends.first.now links.ends.second.now links.elided.now need.old row.old k.0 }
-    requires k_value { (matching_from links.ends.first.now links.ends.second.now links.elided.now need.old (part (length links.ends.first.now) row.old k.0) k.0 ≡ true) × (k.0 ≤ to.0) × (to.0 ≤ length links.ends.first.now) }
-    ensures { Searched need.old row.old k.0 (length links.entry.ends.first.now) (later_from links.entry.ends.first.now links.entry.ends.second.now links.entry.elided.now need.old (take (to.0 - k.0) (part (length links.entry.ends.first.now) row.old k.0)) k.0) result need.new row.new }
+fn later(links: &Links, need: &mut [u8], row: &mut [u8], k: BondId, to: BondId) -> bool
+    requires shape { Shape links.now.ends.first.now links.now.ends.second.now links.now.elided.now need.old row.old k.0 }
+    requires k_value { (matching_from links.now.ends.first.now links.now.ends.second.now links.now.elided.now need.old (part (length links.now.ends.first.now) row.old k.0) k.0 ≡ true) × (k.0 ≤ to.0) × (to.0 ≤ length links.now.ends.first.now) }
+    ensures { Searched need.old row.old k.0 (length links.now.ends.first.now) (later_from links.now.ends.first.now links.now.ends.second.now links.now.elided.now need.old (take (to.0 - k.0) (part (length links.now.ends.first.now) row.old k.0)) k.0) result need.new row.new }
 {
     let at = k.0;
     if at == to.0 {
@@ -30,7 +30,7 @@ fn later(links: Links, need: &mut [u8], row: &mut [u8], k: BondId, to: BondId) -
             return true;
         }
         row[at] = 0;
-        return matching_engine::seek_from(links, need, row, BondId(next));
+        return matching_engine::seek_from(*links, need, row, BondId(next));
     }
     later(links, need, row, BondId(next), to)
 }
@@ -42,7 +42,7 @@ pub fn skip(links: Links, need: &mut [u8], row: &mut [u8], to: BondId) -> bool
     ensures need_unchanged { need.new ≡ need.old }
     ensures skipped { Skipped (later_than (is_matching need.old (bonds_of links.entry.ends.first.now links.entry.ends.second.now links.entry.elided.now)) (length links.entry.ends.first.now) to.0 row.old) (length row.old) result row.new }
 {
-    let found = later(links, need, row, BondId(0), to);
+    let found = later(&links, need, row, BondId(0), to);
     matching_search::clear(row, BondId(links.ends.first.len()));
     found
 }

@@ -3,4 +3,4 @@ use lib.ListN.{length}
 use Rattle.matching_search.proofs.+later.Given as goal
 
 abbrev pub decreases-later : goal.decreases-later
-decreases-later l = length l.links.ends.first.now - l.k.0
+decreases-later l = length l.links.now.ends.first.now - l.k.0

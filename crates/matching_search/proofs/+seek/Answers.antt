@@ -7,9 +7,6 @@ use Rattle.matching_search.proofs.+seek.Goals as goal
 pub returns-then-at-links : goal.returns-then-at-links
 returns-then-at-links t c = at-end c.requires c.if-at-links.true c.all_paired.ensures
 
-pub overflow_add-next : goal.overflow_add-next
-overflow_add-next t c = omega (arith, c.well_formed.0.0, c.requires.upto, c.if-at-links.false)
-
 pub choosable-requires : goal.choosable-requires
 choosable-requires t c = record { ends = ends-here c.requires c.if-at-links.false refl; k_in_bounds = here3 c.requires c.if-at-links.false }
 

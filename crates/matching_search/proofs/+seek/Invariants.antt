@@ -3,4 +3,4 @@ use lib.ListN.{length}
 use Rattle.matching_search.proofs.+seek.Given as goal
 
 abbrev pub decreases-seek : goal.decreases-seek
-decreases-seek l = length l.links.ends.first.now - l.k.0
+decreases-seek l = length l.links.now.ends.first.now - l.k.0
