@@ -144,30 +144,30 @@ fn barred_by(links: Links, need: &[u8], lab: &[usize; MAX_ATOMS], k: BondId) -> 
 }
 
 // The bonds from k on have no matching, for a reason that was found and checked.
-fn hopeless(links: Links, need: &[u8], k: BondId, mate: &mut [u16; MAX_ATOMS]) -> bool
-    requires { BondTables links.ends.first.now links.ends.second.now links.elided.now need.now k.0 }
-    ensures { result ≡ true → all_from links.entry.ends.first.now links.entry.ends.second.now links.entry.elided.now need.now k.0 ≡ [] }
+fn hopeless(links: &Links, need: &[u8], k: BondId, mate: &mut [u16; MAX_ATOMS]) -> bool
+    requires { BondTables links.now.ends.first.now links.now.ends.second.now links.now.elided.now need.now k.0 }
+    ensures { result ≡ true → all_from links.now.ends.first.now links.now.ends.second.now links.now.elided.now need.now k.0 ≡ [] }
 {
     let mut lab = [OUTSIDE; MAX_ATOMS];
-    if matching_blossom::propose(links, need, k, mate, &mut lab) {
-        return barred_by(links, need, &lab, k);
+    if matching_blossom::propose(*links, need, k, mate, &mut lab) {
+        return barred_by(*links, need, &lab, k);
     }
     false
 }
 
 // The first matching of the bonds from k on, written to the row from k on; zeros where there is none.
 fn seek_from(
-    links: Links,
+    links: &Links,
     need: &mut [u8],
     row: &mut [u8],
     k: BondId,
     mate: &mut [u16; MAX_ATOMS],
 ) -> bool
-    requires { Shape links.ends.first.now links.ends.second.now links.elided.now need.old row.old k.0 }
-    ensures { Searched need.old row.old k.0 (length links.entry.ends.first.now) (all_from links.entry.ends.first.now links.entry.ends.second.now links.entry.elided.now need.old k.0) result need.new row.new }
+    requires { Shape links.now.ends.first.now links.now.ends.second.now links.now.elided.now need.old row.old k.0 }
+    ensures { Searched need.old row.old k.0 (length links.now.ends.first.now) (all_from links.now.ends.first.now links.now.ends.second.now links.now.elided.now need.old k.0) result need.new row.new }
 {
     for at in k.0..links.ends.first.len() {
-        if matching_search::choosable(links, need, BondId(at)) {
+        if matching_search::choosable(*links, need, BondId(at)) {
             if hopeless(links, need, BondId(at), mate) {
                 matching_search::blank(row, BondId(at), BondId(links.ends.first.len()));
                 return false;
@@ -191,5 +191,5 @@ pub fn seek(links: Links, need: &mut [u8], row: &mut [u8], k: BondId) -> bool
     ensures { Searched need.old row.old k.0 (length links.entry.ends.first.now) (all_from links.entry.ends.first.now links.entry.ends.second.now links.entry.elided.now need.old k.0) result need.new row.new }
 {
     let mut mate = [EMPTY; MAX_ATOMS];
-    seek_from(links, need, row, k, &mut mate)
+    seek_from(&links, need, row, k, &mut mate)
 }
