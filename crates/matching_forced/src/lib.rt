@@ -154,14 +154,20 @@ fn take_turn(links: Links, need: &[u8]) -> Turn
 }
 
 // internal: the forced list, filled into pairs from its start; need is left with the flags of the atoms that stay unpaired.
-pub fn force(links: Links, need: &mut [u8], pairs: &mut [u16]) -> Forcing
-    requires bond_tables { BondTables links.ends.first.now links.ends.second.now links.elided.now need.old 0 }
-    requires roomy { Roomy links.ends.first.now links.ends.second.now links.elided.now need.old pairs.old }
-    ensures { Filled (bonds_of links.entry.ends.first.now links.entry.ends.second.now links.entry.elided.now) need.old pairs.old result.count result.stuck need.new pairs.new }
+pub fn force(ends: &EndTables, elided: &[u8], need: &mut [u8], pairs: &mut [u16]) -> Forcing
+    requires bond_tables { BondTables ends.now.first.now ends.now.second.now elided.now need.old 0 }
+    requires roomy { Roomy ends.now.first.now ends.now.second.now elided.now need.old pairs.old }
+    ensures { Filled (bonds_of ends.now.first.now ends.now.second.now elided.now) need.old pairs.old result.count result.stuck need.new pairs.new }
 {
     let mut n = 0;
     loop {
-        let turn = take_turn(links, need);
+        let turn = take_turn(
+            Links {
+                ends: *ends,
+                elided,
+            },
+            need,
+        );
         match turn {
             Turn::Stuck => return Forcing {
                 count: n,
@@ -173,7 +179,7 @@ pub fn force(links: Links, need: &mut [u8], pairs: &mut [u16]) -> Forcing
             },
             Turn::Pair(bond) => {
                 pairs[n] = bond.0 as u16;
-                matching_search::mark(links.ends, need, bond, 0);
+                matching_search::mark(*ends, need, bond, 0);
                 n += 1;
             }
         }
@@ -203,14 +209,14 @@ fn set_zeros(row: &mut [u8], pairs: &[u16], n: usize)
 }
 
 // Takes the first n pairs back, the last first: their atoms are unpaired again.
-fn undo(ends: EndTables, need: &mut [u8], pairs: &[u16], n: usize)
-    requires ones { Ones ends.first.now pairs.now n }
-    requires by_index { (k : ℕ) → k < length ends.first.now → Ends ends.first.now ends.second.now need.old k }
-    ensures { need.new ≡ undone ends.entry.first.now ends.entry.second.now (take n pairs.now) need.old }
+fn undo(ends: &EndTables, need: &mut [u8], pairs: &[u16], n: usize)
+    requires ones { Ones ends.now.first.now pairs.now n }
+    requires by_index { (k : ℕ) → k < length ends.now.first.now → Ends ends.now.first.now ends.now.second.now need.old k }
+    ensures { need.new ≡ undone ends.now.first.now ends.now.second.now (take n pairs.now) need.old }
 {
     for i in (0..n).rev() {
         let k = pairs[i] as usize;
-        matching_search::mark(ends, need, BondId(k), 1);
+        matching_search::mark(*ends, need, BondId(k), 1);
     }
 }
 
@@ -230,7 +236,7 @@ fn lowest_free(links: Links, need: &[u8]) -> Option<BondId>
 // The first matching with the free bond b.
 #[cycle(choose_seek_with_bond_without_bond)]
 fn with_bond(
-    ends: EndTables,
+    ends: &EndTables,
     el: &mut [u8],
     need: &mut [u8],
     row: &mut [u8],
@@ -238,14 +244,14 @@ fn with_bond(
     b: BondId,
     budget: &mut usize,
 ) -> Result<bool, GaveUp>
-    requires shape { Shape ends.first.now ends.second.now el.old need.old row.old 0 }
-    requires roomy { Roomy ends.first.now ends.second.now el.old need.old pairs.old × Chosen ends.first.now ends.second.now el.old need.old b.0 }
-    ensures tried { Tried need.old row.old 0 (length ends.entry.first.now) (taken_of (bonds_of ends.entry.first.now ends.entry.second.now el.old) need.old b.0) result need.new row.new }
+    requires shape { Shape ends.now.first.now ends.now.second.now el.old need.old row.old 0 }
+    requires roomy { Roomy ends.now.first.now ends.now.second.now el.old need.old pairs.old × Chosen ends.now.first.now ends.now.second.now el.old need.old b.0 }
+    ensures tried { Tried need.old row.old 0 (length ends.now.first.now) (taken_of (bonds_of ends.now.first.now ends.now.second.now el.old) need.old b.0) result need.new row.new }
     ensures el_unchanged { el.new ≡ el.old }
 {
-    matching_search::mark(ends, need, b, 0);
+    matching_search::mark(*ends, need, b, 0);
     let got = seek(ends, el, need, row, pairs, budget);
-    matching_search::mark(ends, need, b, 1);
+    matching_search::mark(*ends, need, b, 1);
     let found = got?;
     if found {
         row[b.0] = 1;
@@ -256,7 +262,7 @@ fn with_bond(
 // The first matching without the free bond b.
 #[cycle(choose_seek_with_bond_without_bond)]
 fn without_bond(
-    ends: EndTables,
+    ends: &EndTables,
     el: &mut [u8],
     need: &mut [u8],
     row: &mut [u8],
@@ -264,9 +270,9 @@ fn without_bond(
     b: BondId,
     budget: &mut usize,
 ) -> Result<bool, GaveUp>
-    requires shape { Shape ends.first.now ends.second.now el.old need.old row.old 0 }
-    requires roomy { Roomy ends.first.now ends.second.now el.old need.old pairs.old × Chosen ends.first.now ends.second.now el.old need.old b.0 }
-    ensures tried { Tried need.old row.old 0 (length ends.entry.first.now) (left_of (bonds_of ends.entry.first.now ends.entry.second.now el.old) need.old b.0) result need.new row.new }
+    requires shape { Shape ends.now.first.now ends.now.second.now el.old need.old row.old 0 }
+    requires roomy { Roomy ends.now.first.now ends.now.second.now el.old need.old pairs.old × Chosen ends.now.first.now ends.now.second.now el.old need.old b.0 }
+    ensures tried { Tried need.old row.old 0 (length ends.now.first.now) (left_of (bonds_of ends.now.first.now ends.now.second.now el.old) need.old b.0) result need.new row.new }
     ensures el_unchanged { el.new ≡ el.old }
 {
     let at = b.0;
@@ -279,7 +285,7 @@ fn without_bond(
 // The search on what is left after the forced pairs: none where an atom is stuck; else the lowest free bond is chosen, and then left.
 #[cycle(choose_seek_with_bond_without_bond)]
 fn choose(
-    ends: EndTables,
+    ends: &EndTables,
     el: &mut [u8],
     need: &mut [u8],
     row: &mut [u8],
@@ -287,16 +293,22 @@ fn choose(
     stuck: bool,
     budget: &mut usize,
 ) -> Result<bool, GaveUp>
-    requires shape { Shape ends.first.now ends.second.now el.old need.old row.old 0 }
-    requires roomy { Roomy ends.first.now ends.second.now el.old need.old pairs.old }
-    requires need_value { stuck ≡ true → all_of (bonds_of ends.first.now ends.second.now el.old) need.old ≡ [] }
-    ensures tried { Tried need.old row.old 0 (length ends.entry.first.now) (all_of (bonds_of ends.entry.first.now ends.entry.second.now el.old) need.old) result need.new row.new }
+    requires shape { Shape ends.now.first.now ends.now.second.now el.old need.old row.old 0 }
+    requires roomy { Roomy ends.now.first.now ends.now.second.now el.old need.old pairs.old }
+    requires need_value { stuck ≡ true → all_of (bonds_of ends.now.first.now ends.now.second.now el.old) need.old ≡ [] }
+    ensures tried { Tried need.old row.old 0 (length ends.now.first.now) (all_of (bonds_of ends.now.first.now ends.now.second.now el.old) need.old) result need.new row.new }
     ensures el_unchanged { el.new ≡ el.old }
 {
     if stuck {
         return Ok(false);
     }
-    let Some(b) = lowest_free(Links { ends, elided: el }, need) else {
+    let Some(b) = lowest_free(
+        Links {
+            ends: *ends,
+            elided: el,
+        },
+        need,
+    ) else {
         matching_search::blank(row, BondId(0), BondId(ends.first.len()));
         return Ok(matching_search::all_paired(need));
     };
@@ -313,19 +325,19 @@ fn choose(
 // The first matching, under a budget: the forced pairs, then what is left.
 #[cycle(choose_seek_with_bond_without_bond)]
 fn seek(
-    ends: EndTables,
+    ends: &EndTables,
     el: &mut [u8],
     need: &mut [u8],
     row: &mut [u8],
     pairs: &mut [u16],
     budget: &mut usize,
 ) -> Result<bool, GaveUp>
-    requires shape { Shape ends.first.now ends.second.now el.old need.old row.old 0 }
-    requires roomy { Roomy ends.first.now ends.second.now el.old need.old pairs.old }
-    ensures tried { Tried need.old row.old 0 (length ends.entry.first.now) (all_of (bonds_of ends.entry.first.now ends.entry.second.now el.old) need.old) result need.new row.new }
+    requires shape { Shape ends.now.first.now ends.now.second.now el.old need.old row.old 0 }
+    requires roomy { Roomy ends.now.first.now ends.now.second.now el.old need.old pairs.old }
+    ensures tried { Tried need.old row.old 0 (length ends.now.first.now) (all_of (bonds_of ends.now.first.now ends.now.second.now el.old) need.old) result need.new row.new }
     ensures el_unchanged { el.new ≡ el.old }
 {
-    let forcing = force(Links { ends, elided: el }, need, pairs);
+    let forcing = force(ends, el, need, pairs);
     let n = forcing.count;
     *budget = budget.saturating_sub(n).saturating_sub(1);
     let got = choose(ends, el, need, row, &mut pairs[n..], forcing.stuck, budget);
@@ -339,15 +351,15 @@ fn seek(
 
 // The first matching, written to the row up to the last bond; zeros where there is none. Where the budget is spent, the certified search answers.
 fn seek_any(
-    ends: EndTables,
+    ends: &EndTables,
     el: &mut [u8],
     need: &mut [u8],
     row: &mut [u8],
     pairs: &mut [u16],
 ) -> bool
-    requires shape { Shape ends.first.now ends.second.now el.old need.old row.old 0 }
-    requires roomy { Roomy ends.first.now ends.second.now el.old need.old pairs.old }
-    ensures searched { Searched need.old row.old 0 (length ends.entry.first.now) (all_of (bonds_of ends.entry.first.now ends.entry.second.now el.old) need.old) result need.new row.new }
+    requires shape { Shape ends.now.first.now ends.now.second.now el.old need.old row.old 0 }
+    requires roomy { Roomy ends.now.first.now ends.now.second.now el.old need.old pairs.old }
+    ensures searched { Searched need.old row.old 0 (length ends.now.first.now) (all_of (bonds_of ends.now.first.now ends.now.second.now el.old) need.old) result need.new row.new }
     ensures el_unchanged { el.new ≡ el.old }
 {
     let mut budget = BUDGET;
@@ -358,7 +370,15 @@ fn seek_any(
             matching_search::blank(row, BondId(0), BondId(ends.first.len()));
             false
         }
-        Err(GaveUp) => matching_certified::seek(Links { ends, elided: el }, need, row, BondId(0)),
+        Err(GaveUp) => matching_certified::seek(
+            Links {
+                ends: *ends,
+                elided: el,
+            },
+            need,
+            row,
+            BondId(0),
+        ),
     }
 }
 
@@ -383,9 +403,9 @@ pub fn first_forced(
     ensures { FirstReply (bonds_of ends.entry.first.now ends.entry.second.now el.old) need.old row.old pairs.old result.answer result.count row.new pairs.new }
 {
     let m = ends.first.len();
-    let forcing = force(Links { ends, elided: el }, need, pairs);
+    let forcing = force(&ends, el, need, pairs);
     let n = forcing.count;
-    let found = seek_any(ends, el, need, row, &mut pairs[n..]);
+    let found = seek_any(&ends, el, need, row, &mut pairs[n..]);
     matching_search::clear(row, BondId(m));
     if found {
         set_ones(row, pairs, n);
@@ -405,24 +425,24 @@ pub fn first_forced(
 // The first matching after the row that has the free bond b, as the row has it.
 #[cycle(later_later_left_later_with_later_without)]
 fn later_with(
-    ends: EndTables,
+    ends: &EndTables,
     el: &mut [u8],
     need: &mut [u8],
     row: &mut [u8],
     pairs: &mut [u16],
     b: BondId,
 ) -> bool
-    requires shape { Shape ends.first.now ends.second.now el.old need.old row.old 0 }
-    requires roomy { Roomy ends.first.now ends.second.now el.old need.old pairs.old × Chosen ends.first.now ends.second.now el.old need.old b.0 }
-    requires row_value { (is_of (bonds_of ends.first.now ends.second.now el.old) need.old (take (length ends.first.now) row.old) ≡ true) × (get_or row.old b.0 0 ≡ 1) }
-    ensures searched { Searched need.old row.old 0 (length ends.entry.first.now) (later_with (bonds_of ends.entry.first.now ends.entry.second.now el.old) need.old (take (length ends.entry.first.now) row.old) b.0) result need.new row.new }
+    requires shape { Shape ends.now.first.now ends.now.second.now el.old need.old row.old 0 }
+    requires roomy { Roomy ends.now.first.now ends.now.second.now el.old need.old pairs.old × Chosen ends.now.first.now ends.now.second.now el.old need.old b.0 }
+    requires row_value { (is_of (bonds_of ends.now.first.now ends.now.second.now el.old) need.old (take (length ends.now.first.now) row.old) ≡ true) × (get_or row.old b.0 0 ≡ 1) }
+    ensures searched { Searched need.old row.old 0 (length ends.now.first.now) (later_with (bonds_of ends.now.first.now ends.now.second.now el.old) need.old (take (length ends.now.first.now) row.old) b.0) result need.new row.new }
     ensures el_unchanged { el.new ≡ el.old }
 {
     let at = b.0;
     row[at] = 0;
-    matching_search::mark(ends, need, b, 0);
+    matching_search::mark(*ends, need, b, 0);
     let found = later(ends, el, need, row, pairs);
-    matching_search::mark(ends, need, b, 1);
+    matching_search::mark(*ends, need, b, 1);
     if found {
         row[at] = 1;
     }
@@ -432,17 +452,17 @@ fn later_with(
 // The first matching after the row without the free bond b, as the row is without it.
 #[cycle(later_later_left_later_with_later_without)]
 fn later_without(
-    ends: EndTables,
+    ends: &EndTables,
     el: &mut [u8],
     need: &mut [u8],
     row: &mut [u8],
     pairs: &mut [u16],
     b: BondId,
 ) -> bool
-    requires shape { Shape ends.first.now ends.second.now el.old need.old row.old 0 }
-    requires roomy { Roomy ends.first.now ends.second.now el.old need.old pairs.old × Chosen ends.first.now ends.second.now el.old need.old b.0 }
-    requires row_value { (is_of (bonds_of ends.first.now ends.second.now el.old) need.old (take (length ends.first.now) row.old) ≡ true) × (get_or row.old b.0 0 ≡ 0) }
-    ensures searched { Searched need.old row.old 0 (length ends.entry.first.now) (later_of (off (bonds_of ends.entry.first.now ends.entry.second.now el.old) b.0) need.old (take (length ends.entry.first.now) row.old)) result need.new row.new }
+    requires shape { Shape ends.now.first.now ends.now.second.now el.old need.old row.old 0 }
+    requires roomy { Roomy ends.now.first.now ends.now.second.now el.old need.old pairs.old × Chosen ends.now.first.now ends.now.second.now el.old need.old b.0 }
+    requires row_value { (is_of (bonds_of ends.now.first.now ends.now.second.now el.old) need.old (take (length ends.now.first.now) row.old) ≡ true) × (get_or row.old b.0 0 ≡ 0) }
+    ensures searched { Searched need.old row.old 0 (length ends.now.first.now) (later_of (off (bonds_of ends.now.first.now ends.now.second.now el.old) b.0) need.old (take (length ends.now.first.now) row.old)) result need.new row.new }
     ensures el_unchanged { el.new ≡ el.old }
 {
     let at = b.0;
@@ -456,16 +476,16 @@ fn later_without(
 // Stays: beside `without_bond` and `later_without`, which differ in the search that they call: a function lent for it would take all
 // these parameters again, and two of the three searches call themselves through it.
 fn first_without(
-    ends: EndTables,
+    ends: &EndTables,
     el: &mut [u8],
     need: &mut [u8],
     row: &mut [u8],
     pairs: &mut [u16],
     b: BondId,
 ) -> bool
-    requires shape { Shape ends.first.now ends.second.now el.old need.old row.old 0 }
-    requires roomy { Roomy ends.first.now ends.second.now el.old need.old pairs.old × Chosen ends.first.now ends.second.now el.old need.old b.0 }
-    ensures searched { Searched need.old row.old 0 (length ends.entry.first.now) (left_of (bonds_of ends.entry.first.now ends.entry.second.now el.old) need.old b.0) result need.new row.new }
+    requires shape { Shape ends.now.first.now ends.now.second.now el.old need.old row.old 0 }
+    requires roomy { Roomy ends.now.first.now ends.now.second.now el.old need.old pairs.old × Chosen ends.now.first.now ends.now.second.now el.old need.old b.0 }
+    ensures searched { Searched need.old row.old 0 (length ends.now.first.now) (left_of (bonds_of ends.now.first.now ends.now.second.now el.old) need.old b.0) result need.new row.new }
     ensures el_unchanged { el.new ≡ el.old }
 {
     let at = b.0;
@@ -478,19 +498,25 @@ fn first_without(
 // What is left after the forced pairs, from a row that is a matching: the lowest free bond is kept as the row has it, and then left.
 #[cycle(later_later_left_later_with_later_without)]
 fn later_left(
-    ends: EndTables,
+    ends: &EndTables,
     el: &mut [u8],
     need: &mut [u8],
     row: &mut [u8],
     pairs: &mut [u16],
 ) -> bool
-    requires shape { Shape ends.first.now ends.second.now el.old need.old row.old 0 }
-    requires roomy { Roomy ends.first.now ends.second.now el.old need.old pairs.old }
-    requires row_value { is_of (bonds_of ends.first.now ends.second.now el.old) need.old (take (length ends.first.now) row.old) ≡ true }
-    ensures searched { Searched need.old row.old 0 (length ends.entry.first.now) (later_of (bonds_of ends.entry.first.now ends.entry.second.now el.old) need.old (take (length ends.entry.first.now) row.old)) result need.new row.new }
+    requires shape { Shape ends.now.first.now ends.now.second.now el.old need.old row.old 0 }
+    requires roomy { Roomy ends.now.first.now ends.now.second.now el.old need.old pairs.old }
+    requires row_value { is_of (bonds_of ends.now.first.now ends.now.second.now el.old) need.old (take (length ends.now.first.now) row.old) ≡ true }
+    ensures searched { Searched need.old row.old 0 (length ends.now.first.now) (later_of (bonds_of ends.now.first.now ends.now.second.now el.old) need.old (take (length ends.now.first.now) row.old)) result need.new row.new }
     ensures el_unchanged { el.new ≡ el.old }
 {
-    let Some(b) = lowest_free(Links { ends, elided: el }, need) else {
+    let Some(b) = lowest_free(
+        Links {
+            ends: *ends,
+            elided: el,
+        },
+        need,
+    ) else {
         return false;
     };
     if row[b.0] == 1 {
@@ -504,14 +530,20 @@ fn later_left(
 
 // The first matching that comes after the row, which is one, written over it; zeros where there is none.
 #[cycle(later_later_left_later_with_later_without)]
-fn later(ends: EndTables, el: &mut [u8], need: &mut [u8], row: &mut [u8], pairs: &mut [u16]) -> bool
-    requires shape { Shape ends.first.now ends.second.now el.old need.old row.old 0 }
-    requires roomy { Roomy ends.first.now ends.second.now el.old need.old pairs.old }
-    requires row_value { is_of (bonds_of ends.first.now ends.second.now el.old) need.old (take (length ends.first.now) row.old) ≡ true }
-    ensures searched { Searched need.old row.old 0 (length ends.entry.first.now) (later_of (bonds_of ends.entry.first.now ends.entry.second.now el.old) need.old (take (length ends.entry.first.now) row.old)) result need.new row.new }
+fn later(
+    ends: &EndTables,
+    el: &mut [u8],
+    need: &mut [u8],
+    row: &mut [u8],
+    pairs: &mut [u16],
+) -> bool
+    requires shape { Shape ends.now.first.now ends.now.second.now el.old need.old row.old 0 }
+    requires roomy { Roomy ends.now.first.now ends.now.second.now el.old need.old pairs.old }
+    requires row_value { is_of (bonds_of ends.now.first.now ends.now.second.now el.old) need.old (take (length ends.now.first.now) row.old) ≡ true }
+    ensures searched { Searched need.old row.old 0 (length ends.now.first.now) (later_of (bonds_of ends.now.first.now ends.now.second.now el.old) need.old (take (length ends.now.first.now) row.old)) result need.new row.new }
     ensures el_unchanged { el.new ≡ el.old }
 {
-    let forcing = force(Links { ends, elided: el }, need, pairs);
+    let forcing = force(ends, el, need, pairs);
     let n = forcing.count;
     set_zeros(row, pairs, n);
     let found = later_left(ends, el, need, row, &mut pairs[n..]);
@@ -538,7 +570,7 @@ pub fn next_forced(
         matching_search::clear(row, BondId(0));
         return MatchingAnswer::Refused;
     }
-    let found = later(ends, el, need, row, pairs);
+    let found = later(&ends, el, need, row, pairs);
     matching_search::clear(row, BondId(ends.first.len()));
     if found {
         MatchingAnswer::Given

@@ -4,7 +4,7 @@ use Rattle.matching_forced.proofs.Filling.{Filling}
 use Rattle.matching_forced.proofs.force.Given as goal
 
 abbrev pub invariant-loop-bond : goal.invariant-loop-bond
-invariant-loop-bond l = Filling l.links.ends.first.now l.links.ends.second.now l.links.elided.now l.initial.need l.initial.pairs l.need l.pairs l.n
+invariant-loop-bond l = Filling l.ends.first.now l.ends.second.now l.elided l.initial.need l.initial.pairs l.need l.pairs l.n
 
 abbrev pub decreases-loop-bond : goal.decreases-loop-bond
-decreases-loop-bond l = free_total (bonds_of l.links.ends.first.now l.links.ends.second.now l.links.elided.now) l.need
+decreases-loop-bond l = free_total (bonds_of l.ends.first.now l.ends.second.now l.elided) l.need
