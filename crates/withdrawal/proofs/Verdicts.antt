@@ -24,7 +24,7 @@ use Rattle.folding.proofs.Claims.{folded-complete}
 use Rattle.withdrawal.specs.declared.verdict.Verdict.{Verdict}
 use Rattle.withdrawal.specs.Withdrawal.{read_text, accepted, drawn}
 use Rattle.withdrawal.specs.Verdict.{Tells, Says}
-use Rattle.withdrawal.proofs.Calls.{code-not-zero}
+use Rattle.withdrawal.proofs.Calls.{code_not_zero}
 
 -- ---- folding
 pub fold-valid : {x z : Molecule} → Complete x → z ≡ folded x → Valid z.atoms z.bonds z.n z.m
@@ -44,7 +44,7 @@ bond_zeros = replicate (bond_cells * max_bonds) (pos 0)
 module _ (s : List ℕ) (a b : List ℤ) (x : Result Counts TextRefusal) (read : told x a b ≡ read_of s atom_zeros bond_zeros) {c : Refusal} {p : ℕ} (e : x ≡ refused_text c p) where
   pub text-refused : accepted s ≡ false
   unfolding read_text
-  text-refused = sym (ap (λ (t : ReadResult). eqb t.code 0) (sym (ap (λ (y : Result Counts TextRefusal). told y a b) e) ∙ read)) ∙ code-not-zero c
+  text-refused = sym (ap (λ (t : ReadResult). eqb t.code 0) (sym (ap (λ (y : Result Counts TextRefusal). told y a b) e) ∙ read)) ∙ code_not_zero c
 
   pub refused_says : (y : Molecule) → Says s y Verdict.Unsure
   refused_says y = inl text-refused

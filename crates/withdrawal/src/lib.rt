@@ -63,6 +63,7 @@ impl WithdrawError {
 }
 
 // Withdraws a text: it becomes a body of the register, with a tag. 1 first, then reading's refusal with its place, then 17 and 18; a refusal changes nothing.
+#[tactic(auto, using(crate::proofs::Calls::code_not_zero), unfolding(crate::specs::Withdrawal::withdraw_of, crate::specs::Withdrawal::read_text))]
 pub fn withdraw(held: &mut [u8], tag: u16, text: &[u8]) -> Result<(), WithdrawError>
     ensures { withdrew_out result held.new ≡ withdraw_of held.old tag text.now }
 {
