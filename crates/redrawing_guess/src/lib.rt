@@ -478,6 +478,7 @@ impl<'a> Search<'a> {
 }
 
 // internal: guesses the images t of the atoms and u of the bonds of a molecule in another with as many of both, within a budget of steps; atoms go to atoms with equal keys. Answers whether there is a guess.
+#[inline(never)]
 pub fn guess(
     drawing1: Drawing,
     drawing2: Drawing,
