@@ -69,6 +69,7 @@ fn draw(
 }
 
 // The text of a molecule with fewer than N atoms and no more than M bonds, into a buffer from its start, and each atom's walk number plus 1: its length; or 14 or 15.
+#[inline(never)]
 fn text_sized<const N: usize, const M: usize>(
     tables: Tables,
     number: &mut [u16],

@@ -140,23 +140,23 @@ fn open_bond(
 // What closes at the atom x, by ascending other end from a bound on.
 // Stays: closing and opening differ in more than a step: each promises of its own bytes and slots, and only opening can fail.
 fn close_from(
-    bonds: UnusedBonds,
+    bonds: &UnusedBonds,
     x: WalkNumber,
     from: WalkNumber,
     slots: &mut [u16],
     out: &mut [u8],
     at: usize,
 ) -> usize
-    requires k_in_bounds { (bonds.count ≤ length bonds.los.now) × (bonds.count ≤ length bonds.his.now) }
-    requires k_le_max_bonds { (bonds.count ≤ max_bonds) × (length slots.old < bridges) }
-    ensures { Closed bonds.entry.los.now bonds.entry.his.now bonds.entry.count x.0 from.0 slots.old slots.new (buffer_at out.old at) (buffer_at out.new result) }
+    requires k_in_bounds { (bonds.now.count ≤ length bonds.now.los.now) × (bonds.now.count ≤ length bonds.now.his.now) }
+    requires k_le_max_bonds { (bonds.now.count ≤ max_bonds) × (length slots.old < bridges) }
+    ensures { Closed bonds.now.los.now bonds.now.his.now bonds.now.count x.0 from.0 slots.old slots.new (buffer_at out.old at) (buffer_at out.new result) }
 {
     let UnusedBonds {
         los,
         his,
         count: k,
         ..
-    } = bonds;
+    } = *bonds;
     let bond = nearest(his, los, k, x, from);
     let i = bond.0;
     if k <= i {
@@ -169,17 +169,17 @@ fn close_from(
 
 // What opens at the atom x, by ascending other end from a bound on. None where the bridge numbers do not suffice.
 fn open_from(
-    bonds: UnusedBonds,
+    bonds: &UnusedBonds,
     x: WalkNumber,
     from: WalkNumber,
     slots: &mut [u16],
     out: &mut [u8],
     at: usize,
 ) -> Option<usize>
-    requires k_in_bounds { (bonds.count ≤ length bonds.los.now) × (bonds.count ≤ length bonds.his.now) }
-    requires k_le_max_bonds { (bonds.count ≤ max_bonds) × (length slots.old < bridges) }
-    requires k_in_bounds_2 { bonds.count ≤ length bonds.kinds.now }
-    ensures { Opened bonds.entry.los.now bonds.entry.his.now bonds.entry.kinds.now bonds.entry.count x.0 from.0 slots.old slots.new (is_some result) (buffer_at out.old at) (buffer_at out.new (unwrap_or result 0)) }
+    requires k_in_bounds { (bonds.now.count ≤ length bonds.now.los.now) × (bonds.now.count ≤ length bonds.now.his.now) }
+    requires k_le_max_bonds { (bonds.now.count ≤ max_bonds) × (length slots.old < bridges) }
+    requires k_in_bounds_2 { bonds.now.count ≤ length bonds.now.kinds.now }
+    ensures { Opened bonds.now.los.now bonds.now.his.now bonds.now.kinds.now bonds.now.count x.0 from.0 slots.old slots.new (is_some result) (buffer_at out.old at) (buffer_at out.new (unwrap_or result 0)) }
 {
     let UnusedBonds {
         los,
@@ -187,7 +187,7 @@ fn open_from(
         kinds,
         count: k,
         ..
-    } = bonds;
+    } = *bonds;
     let bond = nearest(los, his, k, x, from);
     let i = bond.0;
     if k <= i {
@@ -231,6 +231,6 @@ pub fn ring_ends(
         }
         return open_bond(slots, out, at, kinds[i] as usize, UnusedId(i));
     }
-    let at = close_from(bonds, x, WalkNumber(0), slots, out, at);
-    open_from(bonds, x, WalkNumber(0), slots, out, at)
+    let at = close_from(&bonds, x, WalkNumber(0), slots, out, at);
+    open_from(&bonds, x, WalkNumber(0), slots, out, at)
 }

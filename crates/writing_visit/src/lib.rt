@@ -143,17 +143,17 @@ struct Step {
 }
 
 // The other end of a bond at an atom, its kind as seen from there, and the next bond at the atom behind it; m where there is none.
-fn follow(wiring: Wiring, chains: Chains, b: BondId, v: AtomId) -> Step
-    requires b_in_bounds { (b.0 < length wiring.first.now) × (b.0 < length wiring.second.now) }
-    requires b_in_bounds_2 { (b.0 < length chains.after.now) × (b.0 < length chains.behind.now) }
-    requires b_in_bounds_3 { b.0 < length wiring.kinds.now }
-    requires b_bound { (get_or wiring.first.now b.0 0 < max_atoms) × (get_or wiring.second.now b.0 0 < max_atoms) }
-    requires b_bound_2 { (get_or chains.after.now b.0 0 ≤ max_bonds) × (get_or chains.behind.now b.0 0 ≤ max_bonds) }
-    ensures other_value { result.other.0 ≡ pick (eqb (get_or wiring.entry.first.now b.0 0) v.0) (get_or wiring.entry.second.now b.0 0) (get_or wiring.entry.first.now b.0 0) }
-    ensures kind_value { result.kind ≡ pick (eqb (get_or wiring.entry.first.now b.0 0) v.0) (get_or wiring.entry.kinds.now b.0 0) (turned (get_or wiring.entry.kinds.now b.0 0)) }
-    ensures next_value { result.next.0 ≡ pick (eqb (get_or wiring.entry.first.now b.0 0) v.0) (get_or chains.entry.after.now b.0 0) (get_or chains.entry.behind.now b.0 0) }
+fn follow(wiring: &Wiring, chains: &Chains, b: BondId, v: AtomId) -> Step
+    requires b_in_bounds { (b.0 < length wiring.now.first.now) × (b.0 < length wiring.now.second.now) }
+    requires b_in_bounds_2 { (b.0 < length chains.now.after.now) × (b.0 < length chains.now.behind.now) }
+    requires b_in_bounds_3 { b.0 < length wiring.now.kinds.now }
+    requires b_bound { (get_or wiring.now.first.now b.0 0 < max_atoms) × (get_or wiring.now.second.now b.0 0 < max_atoms) }
+    requires b_bound_2 { (get_or chains.now.after.now b.0 0 ≤ max_bonds) × (get_or chains.now.behind.now b.0 0 ≤ max_bonds) }
+    ensures other_value { result.other.0 ≡ pick (eqb (get_or wiring.now.first.now b.0 0) v.0) (get_or wiring.now.second.now b.0 0) (get_or wiring.now.first.now b.0 0) }
+    ensures kind_value { result.kind ≡ pick (eqb (get_or wiring.now.first.now b.0 0) v.0) (get_or wiring.now.kinds.now b.0 0) (turned (get_or wiring.now.kinds.now b.0 0)) }
+    ensures next_value { result.next.0 ≡ pick (eqb (get_or wiring.now.first.now b.0 0) v.0) (get_or chains.now.after.now b.0 0) (get_or chains.now.behind.now b.0 0) }
 {
-    let Chains { after, behind, .. } = chains;
+    let Chains { after, behind, .. } = *chains;
     let i = b.0;
     let first = wiring.first[i] as usize;
     let kind = wiring.kinds[i];
@@ -204,10 +204,10 @@ fn add(
 
 // The part of the walk at an atom, from one of its bonds on (m for none): each atom not yet visited, with all that is reached from it first. The number of atoms visited then. Behind the last bond of an atom the walk goes on in the same turn, so that it calls itself only where it comes back.
 fn visit(
-    wiring: Wiring,
+    wiring: &Wiring,
     n: usize,
     m: usize,
-    chains: Chains,
+    chains: &Chains,
     order: &mut [u16],
     number: &mut [u16],
     up: &mut [u16],
@@ -217,16 +217,16 @@ fn visit(
     from: BondId,
     count: usize,
 ) -> usize
-    requires bonds_fit { BondsFit (wires wiring.first.now wiring.second.now wiring.kinds.now) n m }
-    requires places { Places n m chains.head.now chains.after.now chains.behind.now wiring.first.now wiring.second.now wiring.kinds.now }
-    requires linked { Linked (wires wiring.first.now wiring.second.now wiring.kinds.now) m 0 chains.head.now chains.after.now chains.behind.now }
+    requires bonds_fit { BondsFit (wires wiring.now.first.now wiring.now.second.now wiring.now.kinds.now) n m }
+    requires places { Places n m chains.now.head.now chains.now.after.now chains.now.behind.now wiring.now.first.now wiring.now.second.now wiring.now.kinds.now }
+    requires linked { Linked (wires wiring.now.first.now wiring.now.second.now wiring.now.kinds.now) m 0 chains.now.head.now chains.now.after.now chains.now.behind.now }
     requires room { Room n order.old number.old up.old kind.old }
     requires hub_lt_max_atoms { (hub.0 < max_atoms) × (from.0 ≤ m) }
-    requires from_value { from.0 < m → touching (wires wiring.first.now wiring.second.now wiring.kinds.now) v.0 from.0 ≡ true }
-    ensures grown { Grown n (suc hub.0) (grow (wires wiring.entry.first.now wiring.entry.second.now wiring.entry.kinds.now) n m v.0 from.0) (walk_arrays order.old number.old up.old kind.old count) (walk_arrays order.new number.new up.new kind.new result) }
+    requires from_value { from.0 < m → touching (wires wiring.now.first.now wiring.now.second.now wiring.now.kinds.now) v.0 from.0 ≡ true }
+    ensures grown { Grown n (suc hub.0) (grow (wires wiring.now.first.now wiring.now.second.now wiring.now.kinds.now) n m v.0 from.0) (walk_arrays order.old number.old up.old kind.old count) (walk_arrays order.new number.new up.new kind.new result) }
     ensures kept { Kept order.old number.old up.old kind.old order.new number.new up.new kind.new }
 {
-    let Chains { head, .. } = chains;
+    let Chains { head, .. } = *chains;
     let mut here = v.0;
     let mut parent = hub.0;
     let mut b = from.0;
@@ -280,10 +280,10 @@ fn visit(
 
 // A root of the walk, if the atom was not visited, with all that is reached from it. The number of atoms visited then.
 fn root(
-    wiring: Wiring,
+    wiring: &Wiring,
     n: usize,
     m: usize,
-    chains: Chains,
+    chains: &Chains,
     order: &mut [u16],
     number: &mut [u16],
     up: &mut [u16],
@@ -291,15 +291,15 @@ fn root(
     a: AtomId,
     count: usize,
 ) -> usize
-    requires bonds_fit { BondsFit (wires wiring.first.now wiring.second.now wiring.kinds.now) n m }
-    requires places { Places n m chains.head.now chains.after.now chains.behind.now wiring.first.now wiring.second.now wiring.kinds.now }
-    requires linked { Linked (wires wiring.first.now wiring.second.now wiring.kinds.now) m 0 chains.head.now chains.after.now chains.behind.now }
+    requires bonds_fit { BondsFit (wires wiring.now.first.now wiring.now.second.now wiring.now.kinds.now) n m }
+    requires places { Places n m chains.now.head.now chains.now.after.now chains.now.behind.now wiring.now.first.now wiring.now.second.now wiring.now.kinds.now }
+    requires linked { Linked (wires wiring.now.first.now wiring.now.second.now wiring.now.kinds.now) m 0 chains.now.head.now chains.now.after.now chains.now.behind.now }
     requires room { Room n order.old number.old up.old kind.old }
     requires a_lt_n { a.0 < n }
-    ensures grown { Grown n 0 (root_forest (wires wiring.entry.first.now wiring.entry.second.now wiring.entry.kinds.now) n m a.0) (walk_arrays order.old number.old up.old kind.old count) (walk_arrays order.new number.new up.new kind.new result) }
+    ensures grown { Grown n 0 (root_forest (wires wiring.now.first.now wiring.now.second.now wiring.now.kinds.now) n m a.0) (walk_arrays order.old number.old up.old kind.old count) (walk_arrays order.new number.new up.new kind.new result) }
     ensures kept { Kept order.old number.old up.old kind.old order.new number.new up.new kind.new }
 {
-    let Chains { head, .. } = chains;
+    let Chains { head, .. } = *chains;
     let v = a.0;
     if number[v] != 0 {
         return count;
@@ -452,10 +452,10 @@ fn walk_lists(
     let mut count = 0;
     for a in 0..n {
         count = root(
-            wiring,
+            &wiring,
             n,
             m,
-            chains,
+            &chains,
             order,
             number,
             up,

@@ -34,7 +34,7 @@ offset_bounds-number-a t c = let a = c.args in
     let places = c.requires.places in
     let wq : w < a.n = omega (arith, q, f.ensures.other_value) in
     let wn : w < max_atoms = omega (arith, wq, x) in
-    let wh : w < length a.chains.head.now = omega (arith, wq, places.heads) in
+    let wh : w < length a.chains.now.head.now = omega (arith, wq, places.heads) in
     omega arith
 
 pub bounds-number-a : goal.bounds-number-a
@@ -49,7 +49,7 @@ bounds-number-a t c = let a = c.args in
     let places = c.requires.places in
     let wq : w < a.n = omega (arith, q, f.ensures.other_value) in
     let wn : w < max_atoms = omega (arith, wq, x) in
-    let wh : w < length a.chains.head.now = omega (arith, wq, places.heads) in
+    let wh : w < length a.chains.now.head.now = omega (arith, wq, places.heads) in
     let room = room-kept c.requires.room at.invariant.1 in
     omega (arith, wq, room.number)
 
@@ -99,7 +99,7 @@ add-requires t c = let a = c.args in
     let places = c.requires.places in
     let wq : w < a.n = omega (arith, q, f.ensures.other_value) in
     let wn : w < max_atoms = omega (arith, wq, x) in
-    let wh : w < length a.chains.head.now = omega (arith, wq, places.heads) in
+    let wh : w < length a.chains.now.head.now = omega (arith, wq, places.heads) in
     let k = c.if-n-next.false in
     let room = room-kept c.requires.room at.invariant.1 in
     record { v_lt_max_atoms = (omega arith, omega arith); count_in_bounds = (omega (arith, k, room.order), omega (arith, wq, room.number)); count_in_bounds_2 = (omega (arith, k, room.up), omega (arith, k, room.kind)); parent_le_max_atoms = omega (arith, at.invariant.0.few) }
@@ -116,7 +116,7 @@ offset_bounds-head-a t c = let a = c.args in
     let places = c.requires.places in
     let wq : w < a.n = omega (arith, q, f.ensures.other_value) in
     let wn : w < max_atoms = omega (arith, wq, x) in
-    let wh : w < length a.chains.head.now = omega (arith, wq, places.heads) in
+    let wh : w < length a.chains.now.head.now = omega (arith, wq, places.heads) in
     omega arith
 
 pub bounds-head-a : goal.bounds-head-a
@@ -131,7 +131,7 @@ bounds-head-a t c = let a = c.args in
     let places = c.requires.places in
     let wq : w < a.n = omega (arith, q, f.ensures.other_value) in
     let wn : w < max_atoms = omega (arith, wq, x) in
-    let wh : w < length a.chains.head.now = omega (arith, wq, places.heads) in
+    let wh : w < length a.chains.now.head.now = omega (arith, wq, places.heads) in
     omega (arith, wh)
 
 pub overflow_cast-start : goal.overflow_cast-start
@@ -148,7 +148,7 @@ overflow_cast-start t c = let a = c.args in
     let places = c.requires.places in
     let wq : w < a.n = omega (arith, q, f.ensures.other_value) in
     let wn : w < max_atoms = omega (arith, wq, x) in
-    let wh : w < length a.chains.head.now = omega (arith, wq, places.heads) in
+    let wh : w < length a.chains.now.head.now = omega (arith, wq, places.heads) in
     let g = head-within lk w wh in
     omega arith
 
@@ -184,13 +184,13 @@ loop-b-preserved-then-m-b t c = let a = c.args in
     let places = c.requires.places in
     let wq : w < a.n = omega (arith, q, f.ensures.other_value) in
     let wn : w < max_atoms = omega (arith, wq, x) in
-    let wh : w < length a.chains.head.now = omega (arith, wq, places.heads) in
+    let wh : w < length a.chains.now.head.now = omega (arith, wq, places.heads) in
     let r = next-after-is lk at.b at.here f.result.next.0 h (i.0.here h) f.ensures.next_value in
     let room = room-kept c.requires.room i.1 in
     let l = room.number in
     let d = c.add in
     let kept = kept_set i.1 at.next w (at.parent + 1) f.result.kind d.ensures.order_after d.ensures.number_after d.ensures.up_after d.ensures.kind_after in
-    (left-last fit f.result.next.0 h r _ _ _ _ _ _ i.0 w f.result.kind (get_or a.chains.head.now w 0) f.ensures.other_value c.if-number-a-ne0.false f.ensures.kind_value (lk.heads w wh) (omega arith) _ _ _ _ d.ensures.order_after d.ensures.number_after d.ensures.up_after d.ensures.kind_after c.if-m-b.true (omega (arith, x, c.if-n-next.false)), kept)
+    (left-last fit f.result.next.0 h r _ _ _ _ _ _ i.0 w f.result.kind (get_or a.chains.now.head.now w 0) f.ensures.other_value c.if-number-a-ne0.false f.ensures.kind_value (lk.heads w wh) (omega arith) _ _ _ _ d.ensures.order_after d.ensures.number_after d.ensures.up_after d.ensures.kind_after c.if-m-b.true (omega (arith, x, c.if-n-next.false)), kept)
 
 pub overflow_add-next-in-loop-b : goal.overflow_add-next-in-loop-b
 overflow_add-next-in-loop-b t c = let fit = c.requires.bonds_fit in
@@ -212,7 +212,7 @@ visit-next-requires t c = let a = c.args in
     let places = c.requires.places in
     let wq : w < a.n = omega (arith, q, f.ensures.other_value) in
     let wn : w < max_atoms = omega (arith, wq, x) in
-    let wh : w < length a.chains.head.now = omega (arith, wq, places.heads) in
+    let wh : w < length a.chains.now.head.now = omega (arith, wq, places.heads) in
     let room = room-kept c.requires.room i.1 in
     let l = room.number in
     let k = c.if-n-next.false in
@@ -254,14 +254,14 @@ loop-b-preserved t c = let a = c.args in
     let places = c.requires.places in
     let wq : w < a.n = omega (arith, q, f.ensures.other_value) in
     let wn : w < max_atoms = omega (arith, wq, x) in
-    let wh : w < length a.chains.head.now = omega (arith, wq, places.heads) in
+    let wh : w < length a.chains.now.head.now = omega (arith, wq, places.heads) in
     let r = next-after-is lk at.b at.here f.result.next.0 h (i.0.here h) f.ensures.next_value in
     let room = room-kept c.requires.room i.1 in
     let l = room.number in
     let d = c.add in
     let kept = kept_set i.1 at.next w (at.parent + 1) f.result.kind d.ensures.order_after d.ensures.number_after d.ensures.up_after d.ensures.kind_after in
     let v = c.visit-next in
-    (left-new fit f.result.next.0 h r _ _ _ _ _ _ i.0 w f.result.kind (get_or a.chains.head.now w 0) f.ensures.other_value c.if-number-a-ne0.false f.ensures.kind_value (lk.heads w wh) (omega arith) _ _ _ _ d.ensures.order_after d.ensures.number_after d.ensures.up_after d.ensures.kind_after _ v.ensures.grown, kept_then kept v.ensures.kept)
+    (left-new fit f.result.next.0 h r _ _ _ _ _ _ i.0 w f.result.kind (get_or a.chains.now.head.now w 0) f.ensures.other_value c.if-number-a-ne0.false f.ensures.kind_value (lk.heads w wh) (omega arith) _ _ _ _ d.ensures.order_after d.ensures.number_after d.ensures.up_after d.ensures.kind_after _ v.ensures.grown, kept_then kept v.ensures.kept)
 
 pub returns : goal.returns
 returns t c = let fit = c.requires.bonds_fit in
